@@ -1,0 +1,44 @@
+-- What a grammar derives (document 01, "How demand 3 reads a grammar"), as a type of derivation trees: a string is derived
+-- where it has a tree, and two trees are different where they choose differently.
+use Prim.Native.Nat.{ℕ}
+use mathlib.Core.Path.{_≡_}
+use mathlib.Core.List.{List, [], _∷_, _++_, map}
+use mathlib.Core.Option.{none, some}
+use mathlib.Core.Bool.{Bool, _&&_, not}
+use Rattle.grammar.specs.Tree.{Block, RuleOf}
+use Rattle.grammar.specs.Ids.{member}
+use Rattle.grammar.specs.Shape.{Symbol, unknownSymbol, Word, Shape, eps, symbol, callOf, seq, alt, opt, star, plus, Shapes, find, eraseRules, bodiesBy}
+
+-- The trees by which a shape, read in a grammar, derives a string. Nothing derives `fail`.
+pub data Der (G : Shapes) : Shape → Word → Type 0 where
+  d-eps : Der G eps []
+  d-symbol : {a : Symbol} → Der G (symbol a) (a ∷ [])
+  -- A call of a rule derives what that rule does; any other call is a symbol.
+  d-call : {n : ℕ} {b : Shape} {w : Word} → find G n ≡ some b → Der G b w → Der G (callOf n) w
+  d-unknown : {n : ℕ} → find G n ≡ none → Der G (callOf n) (unknownSymbol n ∷ [])
+  d-seq : {s t : Shape} {u v w : Word} → u ++ v ≡ w → Der G s u → Der G t v → Der G (seq s t) w
+  d-left : {s t : Shape} {w : Word} → Der G s w → Der G (alt s t) w
+  d-right : {s t : Shape} {w : Word} → Der G t w → Der G (alt s t) w
+  d-absent : {s : Shape} → Der G (opt s) []
+  d-present : {s : Shape} {w : Word} → Der G s w → Der G (opt s) w
+  d-none : {s : Shape} → Der G (star s) []
+  d-more : {s : Shape} {u v w : Word} → u ++ v ≡ w → Der G s u → Der G (star s) v → Der G (star s) w
+  d-some : {s : Shape} {u v w : Word} → u ++ v ≡ w → Der G s u → Der G (star s) v → Der G (plus s) w
+
+-- What derives the empty string can be empty.
+abbrev pub CanBeEmpty : Shapes → Shape → Type 0
+CanBeEmpty G s = Der G s []
+
+-- The rule with an id derives a string.
+pub record RuleDerives (d : ℕ) (rs : List (RuleOf (Block d))) (i : ℕ) (w : Word) : Type 0 where
+  pub body : Shape
+  pub found : find (bodiesBy d (λ r. r .id) rs) i ≡ some body
+  pub tree : Der (eraseRules d rs) body w
+
+module _ {B : Type 0} (before after : List (RuleOf B)) (i : ℕ) where
+  -- A rule handed in is kept if a rule of the result has its id, else removed.
+  abbrev pub isKept : Bool
+  isKept = member i (map (λ r. r .id) before) && member i (map (λ r. r .id) after)
+
+  abbrev pub isRemoved : Bool
+  isRemoved = member i (map (λ r. r .id) before) && not (member i (map (λ r. r .id) after))

@@ -1,0 +1,37 @@
+-- Splice and split of alternatives that are lists of items with shapes, as those of a tree are lists of elements.
+use Prim.Native.Nat.{ℕ}
+use mathlib.Core.Path.{_≡_, sym, ap, ap₂, _∙_, subst₂, fun-ext}
+use mathlib.Core.List.{List, [], _∷_, _++_, map, map-map, map-append}
+use mathlib.Core.Option.{some}
+use Rattle.grammar.specs.Shape.{Shape, callOf, opt, seqs, alts, Shapes, find}
+use Rattle.grammar.specs.Laws.Derive.Cover.{Alike}
+use Rattle.grammar.specs.Laws.Derive.Steps.{alike-splice, alike-split}
+
+module _ {A : Type 0} (shapeOf : A → Shape) where
+  -- The shape of an alternative, its parts apart.
+  cut : (α β : List A) → seqs (map shapeOf α ++ map shapeOf β) ≡ seqs (map shapeOf (α ++ β))
+  cut α β = ap seqs (sym (map-append shapeOf α β))
+
+  cut-at : (α β : List A) {x : A} {s : Shape} → shapeOf x ≡ s → seqs (map shapeOf α ++ (s ∷ map shapeOf β)) ≡ seqs (map shapeOf (α ++ (x ∷ β)))
+  cut-at α β {x} p = ap (λ s. seqs (map shapeOf α ++ (s ∷ map shapeOf β))) (sym p) ∙ cut α (x ∷ β)
+
+  cut-twice : (α γ β : List A) → seqs (map shapeOf α ++ (map shapeOf γ ++ map shapeOf β)) ≡ seqs (map shapeOf (α ++ (γ ++ β)))
+  cut-twice α γ β = ap (λ l. seqs (map shapeOf α ++ l)) (sym (map-append shapeOf γ β)) ∙ cut α (γ ++ β)
+
+  module _ {H : ℕ} {G : Shapes} where
+    -- An item that is a call of S, another rule than H, and in its place the items of each alternative of S.
+    pub alike-splice-map : {B : Type 0} (itemsOf : B → List A) (S : ℕ) (bs : List B) → (S ≡ H → ⊥)
+        → find G S ≡ some (alts (map (λ b. seqs (map shapeOf (itemsOf b))) bs)) → (α β : List A) {x : A} → shapeOf x ≡ callOf S
+        → Alike H G (seqs (map shapeOf (α ++ (x ∷ β)))) (alts (map (λ b. seqs (map shapeOf (α ++ (itemsOf b ++ β)))) bs))
+    alike-splice-map {B} itemsOf S bs ne f α β p =
+        let γ : B → List Shape = λ b. map shapeOf (itemsOf b) in
+        let each = map-map (λ γ. seqs (map shapeOf α ++ (γ ++ map shapeOf β))) γ bs in
+        subst₂ (Alike H G) (cut-at α β p) (ap alts (each ∙ ap (λ g. map g bs) (fun-ext λ b. cut-twice α (itemsOf b) β)))
+        (alike-splice S (map γ bs) ne (f ∙ ap (λ l. some (alts l)) (sym (map-map seqs γ bs))) (map shapeOf α) (map shapeOf β))
+
+    -- An optional item, the same made plain, and its absence.
+    pub alike-split-map : (α β : List A) {x y : A} → shapeOf x ≡ opt (shapeOf y)
+        → Alike H G (seqs (map shapeOf (α ++ (x ∷ β)))) (alts (seqs (map shapeOf (α ++ (y ∷ β))) ∷ seqs (map shapeOf (α ++ β)) ∷ []))
+    alike-split-map α β {y = y} p =
+        subst₂ (Alike H G) (cut-at α β p) (ap₂ (λ s t. alts (s ∷ t ∷ [])) (cut α (y ∷ β)) (cut α β))
+        (alike-split (shapeOf y) (map shapeOf α) (map shapeOf β))

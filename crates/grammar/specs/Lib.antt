@@ -1,0 +1,13 @@
+pub mod Tree
+pub mod Words
+pub mod Encode
+pub mod Parse
+pub mod Read
+pub mod Ids
+pub mod Valid
+pub mod Reading
+pub mod Shape
+pub mod Derive
+pub mod Corners
+pub mod Lists
+pub mod Laws

@@ -1,0 +1,55 @@
+-- Functions on lists. Sets are lists here, and only membership in them is asked.
+use Prim.Native.Nat.{ℕ, zero, suc, _+_}
+use mathlib.Core.List.{List, [], _∷_}
+use mathlib.Core.Option.{Option, none, some}
+use mathlib.Core.Bool.{Bool, true, false, _||_}
+use lib.ListN.{length}
+use lib.Dec.{leb, eqb}
+use Rattle.grammar.specs.Ids.{member}
+
+abbrev pub isEmpty : {A : Type 0} → List A → Bool
+isEmpty [] = true
+isEmpty (a ∷ as′) = false
+
+unfoldable pub any : {A : Type 0} → (A → Bool) → List A → Bool
+any test [] = false
+any test (a ∷ as′) = test a || any test as′
+
+-- The item in front, where a test holds.
+abbrev pub push : {A : Type 0} → Bool → A → List A → List A
+push true a as′ = a ∷ as′
+push false a as′ = as′
+
+-- Those that pass, in order.
+unfoldable pub keep : {A : Type 0} → (A → Bool) → List A → List A
+keep test [] = []
+keep test (a ∷ as′) = push (test a) a (keep test as′)
+
+-- The first that passes.
+unfoldable pub first : {A : Type 0} → (A → Bool) → List A → Option A
+first test [] = none
+first test (a ∷ as′) = elim (test a) [ true ↦ some a | false ↦ first test as′ ]
+
+unfoldable pub total : List ℕ → ℕ
+total [] = 0
+total (x ∷ xs) = x + total xs
+
+-- Whether two lists have a member in common.
+unfoldable pub meet : List ℕ → List ℕ → Bool
+meet xs ys = any (λ x. member x ys) xs
+
+unfoldable pub insert : ℕ → List ℕ → List ℕ
+insert x [] = x ∷ []
+insert x (y ∷ ys) = elim (leb x y) [ true ↦ x ∷ y ∷ ys | false ↦ y ∷ insert x ys ]
+
+-- In rising order.
+unfoldable pub sorted : List ℕ → List ℕ
+sorted [] = []
+sorted (x ∷ xs) = insert x (sorted xs)
+
+-- Rounds, until one leaves the length as it was or n are made.
+unfoldable pub rounds : (List ℕ → List ℕ) → ℕ → List ℕ → List ℕ
+rounds round zero xs = xs
+rounds round (suc n) xs =
+    let ys = round xs in
+    elim (eqb (length ys) (length xs)) [ true ↦ xs | false ↦ rounds round n ys ]

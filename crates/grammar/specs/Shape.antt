@@ -1,0 +1,91 @@
+-- What is left of a tree when derivation is asked for (document 01, "How demand 3 reads a grammar"): ids, labels, options,
+-- flags and arguments are gone, and so is whether a quantifier is greedy.
+use Prim.Native.Nat.{ℕ, zero, suc}
+use mathlib.Core.List.{List, [], _∷_, map}
+use mathlib.Core.Option.{Option, none, some}
+use mathlib.Core.Bool.{true, false}
+use lib.Dec.{leb, eqb}
+use Rattle.grammar.specs.Tree.{Leaf, epsilon, action, predicate, call, token, terminal, Element, leaf, block, Block, RuleOf}
+
+-- A token, or a call whose name no rule has, each with its name, or a kind 5 element with its carried number.
+pub data Symbol : Type 0 where
+  tokenSymbol : (name : ℕ) → Symbol
+  unknownSymbol : (name : ℕ) → Symbol
+  otherSymbol : (carried : ℕ) → Symbol
+
+-- A token string.
+abbrev pub Word : Type 0
+Word = List Symbol
+
+-- Whether the name of a call is a rule's is decided where the shape is read.
+pub data Shape : Type 0 where
+  eps : Shape
+  fail : Shape
+  symbol : Symbol → Shape
+  callOf : (name : ℕ) → Shape
+  seq : Shape → Shape → Shape
+  alt : Shape → Shape → Shape
+  opt : Shape → Shape
+  star : Shape → Shape
+  plus : Shape → Shape
+
+-- One after the other.
+abbrev pub seqs : List Shape → Shape
+seqs [] = eps
+seqs (s ∷ ss) = seq s (seqs ss)
+
+-- One of several.
+abbrev pub alts : List Shape → Shape
+alts [] = fail
+alts (s ∷ ss) = alt s (alts ss)
+
+-- By its quantifier an element counts exactly once, at most once, any number of times or at least once.
+unfoldable pub quantified : ℕ → Shape → Shape
+quantified q s =
+    elim (eqb q 0) [
+      | true ↦ s
+      | false ↦ elim (leb q 2) [ true ↦ opt s | false ↦ elim (leb q 4) [ true ↦ star s | false ↦ plus s ] ]
+    ]
+
+-- Of a leaf and its element's carried number.
+unfoldable pub eraseLeaf : ℕ → Leaf → Shape
+eraseLeaf c epsilon = eps
+eraseLeaf c (action i rs) = eps
+eraseLeaf c (predicate i rs) = eps
+eraseLeaf c (call n a) = callOf n
+eraseLeaf c (token n) = symbol (tokenSymbol n)
+eraseLeaf c terminal = symbol (otherSymbol c)
+
+module _ {B : Type 0} (eraseB : B → Shape) where
+  unfoldable pub eraseElement : Element B → Shape
+  eraseElement (leaf h l) = quantified (h .quantifier) (eraseLeaf (h .carried) l)
+  eraseElement (block h b) = quantified (h .quantifier) (eraseB b)
+
+  abbrev pub eraseElements : List (Element B) → Shape
+  eraseElements es = seqs (map eraseElement es)
+
+-- Of a block, or of a rule's body.
+unfoldable pub eraseBlock : (d : ℕ) → Block d → Shape
+eraseBlock zero b = absurd b
+eraseBlock (suc d) as′ = alts (map (λ a. eraseElements (eraseBlock d) (a .elements)) as′)
+
+-- A shape that can be looked up.
+pub record NamedShape : Type 0 where
+  pub name : ℕ
+  pub body : Shape
+
+-- A grammar, as far as derivation is concerned: each rule's name with its body.
+abbrev pub Shapes : Type 0
+Shapes = List NamedShape
+
+-- The bodies of rules, each with a number of the rule's.
+abbrev pub bodiesBy : (d : ℕ) → (RuleOf (Block d) → ℕ) → List (RuleOf (Block d)) → Shapes
+bodiesBy d key rs = map (λ r. record { name = key r; body = eraseBlock d (r .body) }) rs
+
+abbrev pub eraseRules : (d : ℕ) → List (RuleOf (Block d)) → Shapes
+eraseRules d rs = bodiesBy d (λ r. r .name) rs
+
+-- The first body with a name; none where no rule has it.
+unfoldable pub find : Shapes → ℕ → Option Shape
+find [] n = none
+find (r ∷ rs) n = elim (eqb (r .name) n) [ true ↦ some (r .body) | false ↦ find rs n ]

@@ -1,0 +1,181 @@
+-- Applying a plan: fresh ids for all that is new, one entry of the trail for each recording; and the origins of nodes
+-- that a trail makes.
+use Prim.Native.Nat.{ℕ, zero, suc}
+use mathlib.Core.List.{List, [], _∷_, _++_, map, foldl}
+use mathlib.Core.Bool.{Bool, true, false, not, _&&_}
+use lib.Dec.{eqb}
+use Rattle.grammar.specs.Tree.{Label, unlabelled, labelled, ElementHead, Leaf, epsilon, action, predicate, call, token, terminal, Element, leaf, block, AlternativeOf, Block, RuleOf, Counters}
+use Rattle.grammar.specs.Ids.{member}
+use Rattle.grammar.specs.Lists.{keep, any}
+use Rattle.reference.specs.Substitute.{Planned}
+use Rattle.reference.specs.Plan.{CyclePlan}
+
+-- An entry of the trail. Kinds: 1 rule, 2 alternative, 3 element, 4 label, 5 action, 6 predicate.
+-- Reasons: 1 RuleBoundary, 2 BlockBoundary. The owner is of the same kind.
+pub record Entry : Type 0 where
+  pub kind : ℕ
+  pub id : ℕ
+  pub reason : ℕ
+  pub owner : ℕ
+
+-- What apply_plan records itself, l. 938 and 971.
+abbrev pub boundary : (kind id owner : ℕ) → Entry
+boundary k i o = record { kind = k; id = i; reason = 1; owner = o }
+
+-- What record_clone records, l. 1381.
+abbrev pub clone : (kind id owner : ℕ) → Entry
+clone k i o = record { kind = k; id = i; reason = 2; owner = o }
+
+-- A node with fresh ids, the counters after it, and what was recorded on the way.
+pub record Fresh (A : Type 0) : Type 0 where
+  pub node : A
+  pub counters : Counters
+  pub entries : List Entry
+
+abbrev pub unchanged : {A : Type 0} → A → Counters → Fresh A
+unchanged a c = record { node = a; counters = c; entries = [] }
+
+-- An entry in front.
+abbrev pub recording : {A : Type 0} → Entry → Fresh A → Fresh A
+recording e f = record { node = f .node; counters = f .counters; entries = e ∷ f .entries }
+
+infixl 20 _followedBy_
+abbrev pub _followedBy_ : {A B : Type 0} → Fresh A → (A → Counters → Fresh B) → Fresh B
+f followedBy k =
+    let r = k (f .node) (f .counters) in
+    record { node = r .node; counters = r .counters; entries = f .entries ++ r .entries }
+
+-- Each item in turn.
+unfoldable pub freshEach : {A B : Type 0} → (A → Counters → Fresh B) → List A → Counters → Fresh (List B)
+freshEach f [] c = unchanged [] c
+freshEach f (a ∷ as′) c = f a c followedBy λ b c₁. freshEach f as′ c₁ followedBy λ bs c₂. unchanged (b ∷ bs) c₂
+
+abbrev pub moved : Bool → ℕ → ℕ
+moved true n = suc n
+moved false n = n
+
+-- ModelIdAllocator (model.rs, l. 73 to 108): a fresh id is the counter of its kind, which moves on by one. That a counter
+-- has an end is refusal 8, judged on the whole plan.
+abbrev pub past : ℕ → Counters → Counters
+past k c =
+    record { alternative = moved (eqb k 2) (c .alternative); element = moved (eqb k 3) (c .element); label = moved (eqb k 4) (c .label); action = moved (eqb k 5) (c .action); predicate = moved (eqb k 6) (c .predicate) }
+
+unfoldable pub renumberLabel : Label → Counters → Fresh Label
+renumberLabel unlabelled c = unchanged unlabelled c
+renumberLabel (labelled i n) c = recording (clone 4 (c .label) i) (unchanged (labelled (c .label) n) (past 4 c))
+
+-- The element's own id, then its label's.
+unfoldable pub renumberHead : ElementHead → Counters → Fresh ElementHead
+renumberHead h c =
+    recording (clone 3 (c .element) (h .id))
+    (renumberLabel (h .label) (past 3 c) followedBy λ l c₁.
+    unchanged (record { id = c .element; carried = h .carried; quantifier = h .quantifier; label = l; options = h .options }) c₁)
+
+unfoldable pub renumberLeaf : Leaf → Counters → Fresh Leaf
+renumberLeaf epsilon c = unchanged epsilon c
+renumberLeaf (action i rs) c = recording (clone 5 (c .action) i) (unchanged (action (c .action) rs) (past 5 c))
+renumberLeaf (predicate i rs) c = recording (clone 6 (c .predicate) i) (unchanged (predicate (c .predicate) rs) (past 6 c))
+renumberLeaf (call n a) c = unchanged (call n a) c
+renumberLeaf (token n) c = unchanged (token n) c
+renumberLeaf terminal c = unchanged terminal c
+
+module _ {B : Type 0} (renumberBlock : B → Counters → Fresh B) where
+  -- renumber_element, l. 1304: the element and its label, then what is in it.
+  unfoldable pub renumberElement : Element B → Counters → Fresh (Element B)
+  renumberElement (leaf h l) c =
+      renumberHead h c followedBy λ h′ c₁. renumberLeaf l c₁ followedBy λ l′ c₂. unchanged (leaf h′ l′) c₂
+  renumberElement (block h b) c =
+      renumberHead h c followedBy λ h′ c₁. renumberBlock b c₁ followedBy λ b′ c₂. unchanged (block h′ b′) c₂
+
+  -- renumber_elements, l. 1293.
+  unfoldable pub renumberElements : List (Element B) → Counters → Fresh (List (Element B))
+  renumberElements = freshEach renumberElement
+
+  -- An alternative of a nested block, l. 1332 to 1342: its own id, then what is in it.
+  unfoldable pub renumberAlternative : AlternativeOf B → Counters → Fresh (AlternativeOf B)
+  renumberAlternative a c =
+      recording (clone 2 (c .alternative) (a .id))
+      (renumberElements (a .elements) (past 2 c) followedBy λ es c₁.
+      unchanged (record { id = c .alternative; carried = a .carried; flag = a .flag; options = a .options; elements = es }) c₁)
+
+unfoldable pub renumberBlock : (d : ℕ) → Block d → Counters → Fresh (Block d)
+renumberBlock zero b c = absurd b
+renumberBlock (suc d) as′ c = freshEach (renumberAlternative (renumberBlock d)) as′ c
+
+module _ (d : ℕ) where
+  -- One alternative of the hub's new body, l. 922 to 961. An untouched one stays as it is.
+  unfoldable pub applyAlternative : Planned d → Counters → Fresh (AlternativeOf (Block d))
+  applyAlternative p c =
+      elim (p .verbatim) [
+        | true ↦ unchanged (record { id = p .origin; carried = p .carried; flag = p .flag; options = p .options; elements = p .elements }) c
+        | false ↦
+            recording (boundary 2 (c .alternative) (p .origin))
+            (renumberElements (renumberBlock d) (p .elements) (past 2 c) followedBy λ es c₁.
+            unchanged (record { id = c .alternative; carried = p .carried; flag = p .flag; options = p .options; elements = es }) c₁)
+      ]
+
+  -- The rule with another body, if it is the hub.
+  unfoldable pub withBody : ℕ → Block (suc d) → RuleOf (Block (suc d)) → RuleOf (Block (suc d))
+  withBody hub b r = elim (eqb (r .id) hub) [ true ↦ record { id = r .id; name = r .name; flags = r .flags; body = b } | false ↦ r ]
+
+  -- apply_plan, l. 905. The hub's own entry closes the plan.
+  unfoldable pub applyPlan : List (RuleOf (Block (suc d))) → CyclePlan d → Counters → Fresh (List (RuleOf (Block (suc d))))
+  applyPlan rs plan c =
+      freshEach applyAlternative (plan .alternatives) c followedBy λ as′ c₁.
+      recording (boundary 1 (plan .hub) (plan .hub))
+      (unchanged (keep (λ r. not (member (r .id) (plan .removable))) (map (withBody (plan .hub) as′) rs)) c₁)
+
+-- A node of the model: a kind and an id, numbered as in the trail.
+pub record Node : Type 0 where
+  pub kind : ℕ
+  pub id : ℕ
+
+-- Origin::Synthetic, l. 64; this pass records no other.
+pub record Origin : Type 0 where
+  pub reason : ℕ
+  pub owner : Node
+
+-- A node with its origins.
+pub record Origins : Type 0 where
+  pub node : Node
+  pub list : List Origin
+
+abbrev pub sameNode : Node → Node → Bool
+sameNode m n = eqb (m .kind) (n .kind) && eqb (m .id) (n .id)
+
+abbrev pub sameOrigin : Origin → Origin → Bool
+sameOrigin o p = eqb (o .reason) (p .reason) && sameNode (o .owner) (p .owner)
+
+-- ProvenanceIndex::origins, l. 137.
+unfoldable pub origins : List Origins → Node → List Origin
+origins [] n = []
+origins (e ∷ es) n = elim (sameNode (e .node) n) [ true ↦ e .list | false ↦ origins es n ]
+
+-- The origins that a list does not have yet, added one at a time.
+unfoldable pub addOrigins : List Origin → List Origin → List Origin
+addOrigins have [] = have
+addOrigins have (o ∷ os) =
+    elim (any (sameOrigin o) have) [ true ↦ addOrigins have os | false ↦ addOrigins (have ++ (o ∷ [])) os ]
+
+-- ProvenanceIndex::record_model, l. 87.
+unfoldable pub recordModel : List Origins → Node → List Origin → List Origins
+recordModel [] n os = record { node = n; list = addOrigins [] os } ∷ []
+recordModel (e ∷ es) n os =
+    elim (sameNode (e .node) n) [
+      | true ↦ record { node = e .node; list = addOrigins (e .list) os } ∷ es
+      | false ↦ e ∷ recordModel es n os
+    ]
+
+-- record_clone, l. 1381 of mutual_recursion.rs: the owner's origins first.
+unfoldable pub recordClone : List Origins → Node → Origin → List Origins
+recordClone index n o = recordModel index n (origins index (o .owner) ++ (o ∷ []))
+
+-- One recording.
+unfoldable pub recorded : List Origins → Entry → List Origins
+recorded index e =
+    let n : Node = record { kind = e .kind; id = e .id } in
+    let o : Origin = record { reason = e .reason; owner = record { kind = e .kind; id = e .owner } } in
+    elim (eqb (e .reason) 2) [ true ↦ recordClone index n o | false ↦ recordModel index n (o ∷ []) ]
+
+unfoldable pub provenance : List Entry → List Origins
+provenance = foldl recorded []

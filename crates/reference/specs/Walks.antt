@@ -1,0 +1,81 @@
+-- What the Rust's matches tell apart in an element, and its walks down a tree.
+-- Line numbers are those of mutual_recursion.rs, here and in the other files.
+use Prim.Native.Nat.{ℕ, zero, suc}
+use mathlib.Core.List.{List, [], _∷_, _++_}
+use mathlib.Core.Bool.{Bool, true, false, _&&_}
+use lib.Dec.{leb, eqb}
+use Rattle.grammar.specs.Tree.{Reference, Label, unlabelled, labelled, ElementHead, Leaf, epsilon, action, predicate, call, token, terminal, Element, leaf, block, Block}
+use Rattle.grammar.specs.Encode.{each}
+use Rattle.grammar.specs.Lists.{isEmpty}
+
+-- The arms of most matches: actions, predicates and epsilon; calls; tokens and kind 5. Blocks are apart already.
+pub data Sort : Type 0 where
+  silent consuming : Sort
+  calling : (name arguments : ℕ) → Sort
+
+unfoldable pub sortOf : Leaf → Sort
+sortOf epsilon = silent
+sortOf (action i rs) = silent
+sortOf (predicate i rs) = silent
+sortOf (call n a) = calling n a
+sortOf (token n) = consuming
+sortOf terminal = consuming
+
+-- is_epsilon_only, l. 877.
+unfoldable pub isEpsilonOnly : {B : Type 0} → Element B → Bool
+isEpsilonOnly (leaf h l) = elim (sortOf l) [ silent ↦ true | consuming ↦ false | calling n a ↦ false ]
+isEpsilonOnly (block h b) = false
+
+-- Optional or zero or more, greedy or not.
+abbrev pub isOptional : ElementHead → Bool
+isOptional h = leb 1 (h .quantifier) && leb (h .quantifier) 4
+
+abbrev pub isOne : ElementHead → Bool
+isOne h = eqb (h .quantifier) 0
+
+abbrev pub isUnlabelled : Label → Bool
+isUnlabelled unlabelled = true
+isUnlabelled (labelled i n) = false
+
+-- bare_reference, l. 308: of an element's head and its call's arguments.
+unfoldable pub bareReference : ElementHead → ℕ → Bool
+bareReference h a = isUnlabelled (h .label) && (eqb a 0 && isEmpty (h .options))
+
+-- One walk serves where the Rust has five (collect_calls_in_elements, element_actions_reference, collect_labels,
+-- action_reference_names, bindable_names): all numbers that labels and leaves give, nested ones too.
+module _ (ofLabel : Label → List ℕ) (ofLeaf : Leaf → List ℕ) where
+  unfoldable pub elementGives : {B : Type 0} → (B → List ℕ) → Element B → List ℕ
+  elementGives ofBlock (leaf h l) = ofLabel (h .label) ++ ofLeaf l
+  elementGives ofBlock (block h b) = ofLabel (h .label) ++ ofBlock b
+
+  unfoldable pub blockGives : (d : ℕ) → Block d → List ℕ
+  blockGives zero b = absurd b
+  blockGives (suc d) as′ = each (λ a. each (elementGives (blockGives d)) (a .elements)) as′
+
+  unfoldable pub elementsGive : (d : ℕ) → List (Element (Block d)) → List ℕ
+  elementsGive d es = each (elementGives (blockGives d)) es
+
+abbrev pub nothing : {A : Type 0} → A → List ℕ
+nothing a = []
+
+abbrev pub labelNames : Label → List ℕ
+labelNames unlabelled = []
+labelNames (labelled i n) = n ∷ []
+
+-- The names of calls and tokens.
+unfoldable pub leafNames : Leaf → List ℕ
+leafNames epsilon = []
+leafNames (action i rs) = []
+leafNames (predicate i rs) = []
+leafNames (call n a) = n ∷ []
+leafNames (token n) = n ∷ []
+leafNames terminal = []
+
+-- What the bodies of actions and predicates refer to.
+unfoldable pub references : Leaf → List Reference
+references epsilon = []
+references (action i rs) = rs
+references (predicate i rs) = rs
+references (call n a) = []
+references (token n) = []
+references terminal = []

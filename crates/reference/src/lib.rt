@@ -1,0 +1,1 @@
+// The Rust as a function on trees: definitions only, in specs/.

@@ -1,0 +1,26 @@
+use borrow.Author.Needs.{needs}
+use Rattle.sheet.proofs.ids.own_id.Statement.{statement}
+use Rattle.sheet.proofs.ids.own_id.Tie as tie
+use Rattle.sheet.proofs.Laws.Ids.{owns}
+
+pub own-id-spec : {M : Type 1} → statement M
+own-id-spec =
+    tie.close
+    (tie.spec
+    (λ c κs. search (needs, owns))
+    (λ c. search (needs, owns))
+    (λ c. search (needs, owns))
+    (λ c κs. search (needs, owns))
+    (λ c. search (needs, owns))
+    (λ c. search (needs, owns))
+    (λ c κs. search (needs, owns))
+    (λ c. search (needs, owns))
+    (λ c. search (needs, owns))
+    (λ c κs. search (needs, owns))
+    (λ c κs. search (needs, owns))
+    (λ c. search (needs, owns))
+    (λ c. search (needs, owns))
+    (λ c κs. search (needs, owns))
+    (λ c. search (needs, owns))
+    (λ c. search (needs, owns))
+    (λ c. search (needs, owns)))

@@ -1,0 +1,9 @@
+use borrow.Author.Needs.{needs}
+use Rattle.sheet.proofs.ids.put_own.Statement.{statement}
+use Rattle.sheet.proofs.ids.put_own.Tie as tie
+use Rattle.sheet.proofs.Laws.Ids.{puts}
+
+pub put-own-spec : {M : Type 1} → statement M
+put-own-spec =
+    tie.close
+    (tie.spec (λ c κs. search (needs, puts)) (λ c. search (needs, puts)) (λ c κs. search (needs, puts)) (λ c. search (needs, puts)) (λ c. search (needs, puts)) (λ c. search (needs, puts)) (λ c. search (needs, puts)))

@@ -1,0 +1,8 @@
+use borrow.Author.Needs.{needs}
+use Rattle.sheet.proofs.judge.sort_is_distinct.Statement.{statement}
+use Rattle.sheet.proofs.judge.sort_is_distinct.Tie as tie
+use Rattle.sheet.proofs.Laws.Judge.{sort-distinct}
+
+pub sort-is-distinct-spec : {M : Type 1} → statement M
+sort-is-distinct-spec =
+    tie.close (tie.spec (λ c κs. search (needs, sort-distinct)) (λ c κs. search (needs, sort-distinct)) (λ c. search (needs, sort-distinct)) (λ c. search (needs, sort-distinct)))

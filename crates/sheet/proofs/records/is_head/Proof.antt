@@ -1,0 +1,18 @@
+use borrow.Author.Needs.{needs}
+use Rattle.sheet.proofs.records.is_head.Statement.{statement}
+use Rattle.sheet.proofs.records.is_head.Tie as tie
+use Rattle.sheet.proofs.Laws.Trees.{heads}
+
+pub is-head-spec : {M : Type 1} → statement M
+is-head-spec =
+    tie.close
+    (tie.spec
+    (λ c. search (needs, heads))
+    (λ c κs. search (needs, heads))
+    (λ c. search (needs, heads))
+    (λ c. search (needs, heads))
+    (λ c κs. search (needs, heads))
+    (λ c. search (needs, heads))
+    (λ c κs. search (needs, heads))
+    (λ c κs. search (needs, heads))
+    (λ c. search (needs, heads)))

@@ -1,0 +1,20 @@
+use borrow.Author.Needs.{needs}
+use Rattle.sheet.proofs.records.leaf_at.Statement.{statement}
+use Rattle.sheet.proofs.records.leaf_at.Tie as tie
+use Rattle.sheet.proofs.Laws.Records.{leaves}
+
+pub leaf-at-spec : {M : Type 1} → statement M
+leaf-at-spec =
+    tie.close
+    (tie.spec
+    (λ c. search (needs, leaves))
+    (λ c. search (needs, leaves))
+    (λ c κs. search (needs, leaves))
+    (λ c. search (needs, leaves))
+    (λ c κs. search (needs, leaves))
+    (λ c. search (needs, leaves))
+    (λ c κs. search (needs, leaves))
+    (λ c. search (needs, leaves))
+    (λ c κs. search (needs, leaves))
+    (λ c. search (needs, leaves))
+    (λ c. search (needs, leaves)))

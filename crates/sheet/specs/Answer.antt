@@ -1,0 +1,70 @@
+-- The reader's answer as document 01 gives it: the refusal's number, or the sheet's parts, with the rules beside it.
+use Prim.Native.Nat.{ℕ, _+_}
+use mathlib.Core.Path.{_≡_}
+use mathlib.Core.List.{List, [], _∷_, _++_}
+use mathlib.Core.Bool.{true, false}
+use lib.ListN.{length, getD, replicate}
+use lib.Dec.{leb}
+use Rattle.grammar.specs.Tree as tree
+use Rattle.grammar.specs.Encode.{encodeRules}
+use Rattle.grammar.specs.Words.{words}
+use Rattle.grammar.specs.Reading as reading
+use Rattle.grammar.specs.Reading.{refused, sheet, isLength, readWords}
+use Rattle.sheet.specs.declared.judge.Counters.{Counters}
+use Rattle.sheet.specs.declared.rules.Rules.{Rules}
+use Rattle.sheet.specs.declared.answer.Parts.{Parts}
+use Rattle.sheet.specs.declared.answer.Answer.{Answer}
+use Rattle.sheet.specs.declared.answer.Answer.the-variants.{Refused, Sheet}
+use Rattle.sheet.specs.declared.answer.Reading.{Reading}
+use Rattle.sheet.specs.Rules.{RowsOf, IsEmpty}
+
+abbrev pub countersOf : Counters → tree.Counters
+countersOf c = record { alternative = c .alternative; element = c .element; label = c .label; action = c .action; predicate = c .predicate }
+
+pub record CountersAt (ws : List ℕ) (t : ℕ) (c : Counters) : Type 0 where
+  pub alternative : c .alternative ≡ getD ws (t + 3) 0
+  pub element : c .element ≡ getD ws (t + 4) 0
+  pub label : c .label ≡ getD ws (t + 5) 0
+  pub action : c .action ≡ getD ws (t + 6) 0
+  pub predicate : c .predicate ≡ getD ws (t + 7) 0
+
+-- The parts of a sheet: the preserved list begins where the rules end.
+abbrev pub partsOf : tree.Sheet → Parts
+partsOf s =
+    record {
+      kind = s .kind;
+      preserved = length (encodeRules (s .rules));
+      count = length (s .preserved);
+      counters =
+          record { alternative = s .counters .alternative; element = s .counters .element; label = s .counters .label; action = s .counters .action; predicate = s .counters .predicate };
+    }
+
+abbrev pub answerOf : reading.Reading → Answer
+answerOf (refused n) = Refused n
+answerOf (sheet s) = Sheet (partsOf s)
+
+-- The arrays of a sheet's rules; of a refusal empty ones.
+abbrev pub RowsIn : reading.Reading → Rules → Type 0
+RowsIn (refused n) rules = IsEmpty rules
+RowsIn (sheet s) rules = RowsOf (s .rules) rules
+
+-- What the code answers is what the definition finds.
+pub record ReadAs (found : reading.Reading) (r : Reading) : Type 0 where
+  pub answer : r .answer ≡ answerOf found
+  pub rows : RowsIn found (r .rules)
+
+-- The reader with a work area lent to it: refusal 2 where that has under 65,536 bytes.
+unfoldable pub readLent : List ℕ → List ℕ → reading.Reading
+readLent bs work =
+    elim (isLength (length bs)) [
+      | false ↦ refused 1
+      | true ↦ elim (leb 65536 (length work)) [ false ↦ refused 2 | true ↦ readWords (words bs) ]
+    ]
+
+-- The work area afterwards: untouched under 1 and 2, else zeros.
+unfoldable pub workAfter : List ℕ → List ℕ → List ℕ
+workAfter bs work =
+    elim (isLength (length bs)) [
+      | false ↦ work
+      | true ↦ elim (leb 65536 (length work)) [ false ↦ work | true ↦ replicate (length work) 0 ]
+    ]

@@ -1,0 +1,108 @@
+// The sheet reader: any bytes are refused by document 01's number, or known to be one tree's encoding.
+mod answer;
+mod distinct;
+mod ids;
+mod judge;
+mod lists;
+mod records;
+mod rules;
+mod sizes;
+mod walk;
+mod words;
+
+pub use answer::Answer;
+pub use answer::Parts;
+pub use answer::Reading;
+use answer::examine;
+use answer::refused;
+pub use judge::Counters;
+pub use rules::Rules;
+pub use sizes::Sizes;
+pub use sizes::Summary;
+use sizes::counted;
+use sizes::refusal_numbers;
+use sizes::sheet_numbers;
+use words::clear;
+ghost use mathlib.Core.Path.{_≡_};
+ghost use lib.ListN.{length};
+ghost use Rattle.sheet.specs.Answer.{ReadAs, readLent, workAfter};
+ghost use Rattle.sheet.specs.Sizes.{summaryOf, numbersOf, idsOf, namesOf, placesOf};
+
+// Reads a sheet. The work area ends as it was under refusals 1 and 2, else all zeros.
+pub fn read(sheet: &[u8], work: &mut [u8]) -> Reading
+    ensures { λ r. ⌜ ReadAs (readLent (now (sheet .entry)) (now (work .entry))) r ⌝ }
+    ensures { λ r. ⌜ now (work .exit) ≡ workAfter (now (sheet .entry)) (now (work .entry)) ⌝ }
+{
+    let n = sheet.len();
+    if n < 32 {
+        return refused(1);
+    }
+    if 32768 < n {
+        return refused(1);
+    }
+    if n % 4 != 0 {
+        return refused(1);
+    }
+    if work.len() < 65536 {
+        return refused(2);
+    }
+    let r = examine(sheet, work);
+    clear(work);
+    r
+}
+
+// What a sheet holds, or its refusal; the work area ends as after `read`.
+pub fn summary(sheet: &[u8], work: &mut [u8]) -> Summary
+    ensures { λ r. ⌜ r ≡ summaryOf (readLent (now (sheet .entry)) (now (work .entry))) ⌝ }
+    ensures { λ r. ⌜ now (work .exit) ≡ workAfter (now (sheet .entry)) (now (work .entry)) ⌝ }
+{
+    let r = read(sheet, work);
+    let answer = r.answer;
+    let n = r.rules.n;
+    match answer {
+        Answer::Refused(number) => Summary::Refused(number),
+        Answer::Sheet(parts) => {
+            let sizes = counted(sheet, parts, n, work);
+            clear(work);
+            Summary::Sheet(sizes)
+        }
+    }
+}
+
+// The whole answer in numbers, for callers in other languages; the work area ends as after `read`.
+#[no_mangle]
+pub extern "C" fn read_sheet(
+    sheet: &[u8],
+    work: &mut [u8],
+    numbers: &mut [u32; 12],
+    ids: &mut [u32; 128],
+    names: &mut [u32; 128],
+    places: &mut [u32; 128],
+)
+    ensures { λ _. ⌜ now (numbers .exit) ≡ numbersOf (readLent (now (sheet .entry)) (now (work .entry))) ⌝ }
+    ensures { λ _. ⌜ now (ids .exit) ≡ idsOf (readLent (now (sheet .entry)) (now (work .entry))) ⌝ }
+    ensures { λ _. ⌜ now (names .exit) ≡ namesOf (readLent (now (sheet .entry)) (now (work .entry))) ⌝ }
+    ensures { λ _. ⌜ now (places .exit) ≡ placesOf (readLent (now (sheet .entry)) (now (work .entry))) ⌝ }
+    ensures { λ _. ⌜ now (work .exit) ≡ workAfter (now (sheet .entry)) (now (work .entry)) ⌝ }
+{
+    let r = read(sheet, work);
+    let rules = r.rules;
+    let n = rules.n;
+    let a = rules.ids;
+    let b = rules.names;
+    let c = rules.places;
+    *ids = a;
+    *names = b;
+    *places = c;
+    let answer = r.answer;
+    match answer {
+        Answer::Refused(number) => {
+            *numbers = refusal_numbers(number);
+        }
+        Answer::Sheet(parts) => {
+            let sizes = counted(sheet, parts, n, work);
+            clear(work);
+            *numbers = sheet_numbers(parts, sizes);
+        }
+    }
+}

@@ -1,0 +1,113 @@
+//! `demand3 seeds FIRST COUNT` checks that many small grammars from seeds on;
+//! `demand3 all FIRST COUNT` those of the enumerated ones, `demand3 all` all.
+
+use std::collections::BTreeMap;
+use std::process::ExitCode;
+
+use demand3::grammars::{ALL, from_seed, numbered};
+use demand3::{Fault, faults, has_optional_symbol};
+use oracle::ask_sheet;
+use sheets::codec;
+use sheets::names::Names;
+use sheets::print::{Style, print};
+use sheets::tree::Sheet;
+
+#[derive(Default)]
+struct Tally {
+    checked: usize,
+    joined: usize,
+    plans: usize,
+    /// By fault and by whether the grammar has an optional symbol: how often, and
+    /// the smallest grammar.
+    faults: BTreeMap<(Fault, bool), (usize, Sheet)>,
+}
+
+impl Tally {
+    /// Adds a grammar that can be enumerated.
+    fn add(&mut self, sheet: &Sheet) {
+        let answer = ask_sheet(sheet);
+        let Ok(done) = answer else {
+            self.checked += 1;
+            return;
+        };
+        let Some(found) = faults(sheet, &done) else {
+            return;
+        };
+        self.checked += 1;
+        self.joined += usize::from(done.plans() > 0);
+        self.plans += done.plans();
+        for fault in found {
+            let key = (fault, has_optional_symbol(sheet));
+            let (times, smallest) = self.faults.entry(key).or_insert((0, sheet.clone()));
+            *times += 1;
+            if size(sheet) < size(smallest) {
+                *smallest = sheet.clone();
+            }
+        }
+    }
+
+    fn report(&self) {
+        println!(
+            "{} grammars, {} joined, {} plans",
+            self.checked, self.joined, self.plans
+        );
+        for ((fault, optional), (times, smallest)) in &self.faults {
+            let optional = if *optional { "with" } else { "without" };
+            println!("{fault:?}, {optional} an optional symbol: {times} times, smallest:");
+            print!("{}", print(smallest, &Names::default(), Style::Plain));
+        }
+    }
+
+    /// Faults other than those of optional symbols in front of a member.
+    fn is_as_known(&self) -> bool {
+        self.faults
+            .keys()
+            .all(|(fault, optional)| *optional && fault.is_by_textbook_corners())
+    }
+}
+
+fn size(sheet: &Sheet) -> usize {
+    codec::encode(sheet).len()
+}
+
+fn seeds(first: u64, count: usize) -> Tally {
+    let mut tally = Tally::default();
+    let mut seed = first;
+    while tally.checked < count {
+        if let Some(sheet) = from_seed(seed) {
+            tally.add(&sheet);
+        }
+        seed += 1;
+    }
+    println!("seeds {first} to {}", seed - 1);
+    tally
+}
+
+fn all(first: usize, count: usize) -> Tally {
+    let mut tally = Tally::default();
+    for number in first..first.saturating_add(count).min(ALL) {
+        tally.add(&numbered(number));
+    }
+    tally
+}
+
+fn main() -> ExitCode {
+    let arguments: Vec<String> = std::env::args().skip(1).collect();
+    let words: Vec<&str> = arguments.iter().map(String::as_str).collect();
+    let number = |text: &str| text.parse().expect("a number");
+    let tally = match words[..] {
+        ["seeds", first, count] => seeds(number(first) as u64, number(count)),
+        ["all"] => all(0, ALL),
+        ["all", first, count] => all(number(first), number(count)),
+        _ => {
+            eprintln!("usage: demand3 seeds FIRST COUNT | all [FIRST COUNT]");
+            return ExitCode::FAILURE;
+        }
+    };
+    tally.report();
+    if tally.is_as_known() {
+        return ExitCode::SUCCESS;
+    }
+    eprintln!("demand3: there are faults that docs/DIFFERENCES.md does not name");
+    ExitCode::FAILURE
+}

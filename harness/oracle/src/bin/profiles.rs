@@ -1,0 +1,41 @@
+//! `profiles COUNT`: what the first seeds of each profile of the generator lead to.
+
+use std::collections::BTreeMap;
+use std::process::ExitCode;
+
+use oracle::ask;
+use sheets::generate;
+
+fn outcomes(name: &str, seeds: u64) -> BTreeMap<String, usize> {
+    let mut counts = BTreeMap::new();
+    let mut count = |what: String| *counts.entry(what).or_default() += 1;
+    for seed in 0..seeds {
+        match ask(&generate::bytes(name, seed).expect("a profile")) {
+            Ok(done) => {
+                count(format!("plans {}", done.plans()));
+                for decline in &done.declined {
+                    count(format!("clause {:2}", decline.clause));
+                }
+            }
+            Err(refusal) => count(format!("refused {refusal}")),
+        }
+    }
+    counts
+}
+
+fn main() -> ExitCode {
+    let seeds = std::env::args().nth(1).and_then(|text| text.parse().ok());
+    let Some(seeds) = seeds else {
+        eprintln!("usage: profiles COUNT");
+        return ExitCode::FAILURE;
+    };
+    for name in generate::names() {
+        let counts = outcomes(name, seeds);
+        let parts: Vec<String> = counts
+            .iter()
+            .map(|(what, n)| format!("{what}: {n}"))
+            .collect();
+        println!("{name}: {}", parts.join(", "));
+    }
+    ExitCode::SUCCESS
+}

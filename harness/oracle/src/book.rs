@@ -1,0 +1,228 @@
+//! The stored answers: which sheets, and how a record is written.
+//!
+//! A record is `sheet` with its name, `grammar` where the sheet is written in the
+//! notation, `in` with the sheet's words (`hex` where the bytes are no words), the
+//! listing, `out` with the result's words (`out same` for those of `in`), a line
+//! `o` for each origin list, a line `c` for each cycle that is still there with the
+//! clause that stopped it, and an empty line.
+
+use std::fmt::Write as _;
+
+use sheets::codec::{bytes_of, encode, words_of};
+use sheets::generate;
+use sheets::parse::sheet;
+
+use crate::written::WRITTEN;
+use crate::{Answer, ask, examples, text};
+
+/// A file of `answers/` and what is in it.
+pub struct File {
+    pub name: &'static str,
+    pub parts: &'static [Part],
+}
+
+/// The first `sheets` seeds of a profile whose sheet has at most `words` words.
+pub enum Part {
+    Examples,
+    Written,
+    Seeds {
+        profile: &'static str,
+        sheets: usize,
+        words: usize,
+    },
+}
+
+const fn seeds(profile: &'static str, sheets: usize, words: usize) -> Part {
+    Part::Seeds {
+        profile,
+        sheets,
+        words,
+    }
+}
+
+pub const FILES: [File; 6] = [
+    File {
+        name: "examples.txt",
+        parts: &[Part::Examples],
+    },
+    File {
+        name: "written.txt",
+        parts: &[Part::Written],
+    },
+    File {
+        name: "small.txt",
+        parts: &[
+            seeds("tiny", 60, 90),
+            seeds("wild", 40, 110),
+            seeds("plain", 20, 90),
+        ],
+    },
+    File {
+        name: "cycles.txt",
+        parts: &[
+            seeds("several", 20, 330),
+            seeds("nullable-front", 20, 150),
+            seeds("nullable-behind", 15, 150),
+            seeds("nullable-hub", 20, 140),
+            seeds("optional-member", 30, 130),
+            seeds("blocks", 25, 190),
+            seeds("labels", 20, 140),
+            seeds("references", 30, 170),
+            seeds("captured", 12, 140),
+            seeds("dangling", 15, 140),
+            seeds("satellite-semantics", 10, 140),
+            seeds("options", 25, 150),
+            seeds("preserved", 20, 140),
+            seeds("tail-satellite", 20, 140),
+            seeds("flags", 20, 130),
+            seeds("hub-arguments", 10, 130),
+            seeds("unknown", 15, 130),
+            seeds("optional-symbol", 20, 160),
+            seeds("arguments", 20, 130),
+            seeds("satellite-loop", 12, 140),
+            seeds("no-base", 15, 120),
+            seeds("outside", 15, 150),
+            seeds("outside-base", 15, 150),
+            seeds("hollow", 20, 130),
+            seeds("long-chain", 12, 600),
+        ],
+    },
+    File {
+        name: "limits.txt",
+        parts: &[
+            seeds("near-7", 40, 1_000),
+            seeds("near-8", 80, 500),
+            seeds("near-9", 30, 700),
+            seeds("just-9", 3, 8_192),
+        ],
+    },
+    File {
+        name: "reading.txt",
+        parts: &[seeds("damaged", 90, 200)],
+    },
+];
+
+/// A sheet to be asked about.
+pub struct Question {
+    pub name: String,
+    pub grammar: Option<&'static str>,
+    pub bytes: Vec<u8>,
+}
+
+impl File {
+    pub fn questions(&self) -> Vec<Question> {
+        self.parts.iter().flat_map(Part::questions).collect()
+    }
+
+    pub fn text(&self) -> String {
+        self.questions()
+            .iter()
+            .map(|asked| record(asked, &ask(&asked.bytes)))
+            .collect()
+    }
+}
+
+impl Part {
+    fn questions(&self) -> Vec<Question> {
+        match self {
+            Part::Examples => examples::examples().into_iter().map(from_example).collect(),
+            Part::Written => WRITTEN.iter().enumerate().map(from_written).collect(),
+            Part::Seeds {
+                profile,
+                sheets,
+                words,
+            } => from_seeds(profile, *sheets, *words),
+        }
+    }
+}
+
+fn from_example(example: examples::Example) -> Question {
+    Question {
+        name: format!("example {}", example.name),
+        grammar: None,
+        bytes: example.bytes,
+    }
+}
+
+fn from_written((place, grammar): (usize, &&'static str)) -> Question {
+    Question {
+        name: format!("written {}", place + 1),
+        grammar: Some(grammar),
+        bytes: bytes_of(&encode(&sheet(grammar))),
+    }
+}
+
+fn from_seeds(name: &str, sheets: usize, words: usize) -> Vec<Question> {
+    let made = |seed| generate::bytes(name, seed).expect("the files name profiles that exist");
+    let all = (0..).map(|seed| (seed, made(seed)));
+    let small = all
+        .filter(|(_, bytes)| bytes.len() <= 4 * words)
+        .take(sheets);
+    small
+        .map(|(seed, bytes)| Question {
+            name: format!("{name} {seed}"),
+            grammar: None,
+            bytes,
+        })
+        .collect()
+}
+
+pub fn record(asked: &Question, answer: &Answer) -> String {
+    let mut out = format!("sheet {}\n", asked.name);
+    if let Some(grammar) = asked.grammar {
+        let _ = writeln!(out, "grammar {grammar}");
+    }
+    let words = words_of(&asked.bytes);
+    if asked.bytes.len() % 4 == 0 {
+        let _ = writeln!(out, "{}", format!("in {}", text::words(&words)).trim_end());
+    } else {
+        let hex: String = asked
+            .bytes
+            .iter()
+            .map(|byte| format!("{byte:02x}"))
+            .collect();
+        let _ = writeln!(out, "hex {hex}");
+    }
+    out.push_str(&text::listing(answer));
+    if let Ok(done) = answer {
+        let result = done.words();
+        let result = if result == words {
+            "same".to_owned()
+        } else {
+            text::words(&result)
+        };
+        let _ = writeln!(out, "out {result}");
+        out.push_str(&text::origins(done));
+        out.push_str(&text::clauses(done));
+    }
+    out.push('\n');
+    out
+}
+
+/// What the stored answers hold, counted from their text.
+#[derive(Clone, Debug, Default, Eq, PartialEq)]
+pub struct Counts {
+    pub sheets: usize,
+    pub joined: usize,
+    /// By the number of the refusal.
+    pub refused: [usize; 10],
+    /// Cycles still there at the end, by clause.
+    pub clauses: [usize; 12],
+}
+
+pub fn count(text: &str, counts: &mut Counts) {
+    for line in text.lines() {
+        let words: Vec<&str> = line.split(' ').collect();
+        match words[..] {
+            ["sheet", ..] => counts.sheets += 1,
+            ["ok", plans, _] if plans != "0" => counts.joined += 1,
+            ["refused", number] => counts.refused[place(number)] += 1,
+            ["c", clause, ..] => counts.clauses[place(clause)] += 1,
+            _ => {}
+        }
+    }
+}
+
+fn place(number: &str) -> usize {
+    number.parse().expect("records are written by `record`")
+}

@@ -1,0 +1,130 @@
+//! The outcome that document 01 wants of a sheet, with the original as the judge.
+//!
+//! Result words and origin lists are the unchanged original's. Plans, steps, the
+//! trail and the declining clauses are the traced copy's, whose result must be the
+//! same. Refusals 1 and 3 to 6 are the codec's, 7 and 9 document 01's definitions
+//! at the copy's hooks, 8 is the original's own panic.
+
+pub mod book;
+pub mod examples;
+pub mod text;
+pub mod written;
+
+use std::panic::{AssertUnwindSafe, catch_unwind};
+
+use sheets::codec;
+use sheets::tree::Sheet;
+use sheets::walk::{self, Sort};
+use traced::{Decline, Limits, Stage, Trace};
+
+pub type Entry = [u32; 4];
+
+/// A node and its origin list of reasons and owners.
+#[derive(Clone, Debug, Eq, PartialEq)]
+pub struct Origins {
+    pub sort: Sort,
+    pub id: u32,
+    pub list: Vec<(u32, u32)>,
+}
+
+#[derive(Clone, Debug)]
+pub struct Done {
+    pub result: Sheet,
+    pub trail: Vec<Entry>,
+    /// Of every node that has one, by kind and id.
+    pub origins: Vec<Origins>,
+    pub stages: Vec<Stage>,
+    pub declined: Vec<Decline>,
+}
+
+impl Done {
+    pub fn plans(&self) -> usize {
+        self.stages.len()
+    }
+
+    pub fn steps(&self) -> usize {
+        self.stages.iter().map(|stage| stage.steps).sum()
+    }
+
+    pub fn words(&self) -> Vec<u32> {
+        codec::encode(&self.result)
+    }
+}
+
+/// The outcome, or the number of the refusal.
+pub type Answer = Result<Done, u32>;
+
+pub fn ask(bytes: &[u8]) -> Answer {
+    ask_sheet(&codec::read(bytes)?)
+}
+
+/// For a sheet that passes 1 to 6.
+pub fn ask_sheet(sheet: &Sheet) -> Answer {
+    let traced = traced::run(sheet, Limits::STANDARD);
+    if let Err(refusal @ (7 | 9)) = traced {
+        return Err(refusal);
+    }
+    match (traced, unchanged(sheet)) {
+        (Ok((result, trace)), Some(unchanged)) => {
+            assert_eq!(unchanged.result, result, "the original and its copy part");
+            assert_eq!(unchanged.changed, !trace.stages.is_empty());
+            Ok(done(sheet, unchanged, trace))
+        }
+        (Err(8), None) => Err(8),
+        _ => panic!("the original and its copy part"),
+    }
+}
+
+fn done(sheet: &Sheet, unchanged: original::Answer, trace: Trace) -> Done {
+    Done {
+        origins: origins(&unchanged, sheet, &trace.trail),
+        result: unchanged.result,
+        trail: trace.trail,
+        stages: trace.stages,
+        declined: trace.declined,
+    }
+}
+
+/// The unchanged original's answer, or nothing where a counter overflows.
+fn unchanged(sheet: &Sheet) -> Option<original::Answer> {
+    let run = || catch_unwind(AssertUnwindSafe(|| original::run(sheet)));
+    match traced::quietly(run) {
+        Ok(answer) => Some(answer),
+        Err(payload) if traced::counter_panic(&*payload) => None,
+        Err(payload) => std::panic::resume_unwind(payload),
+    }
+}
+
+/// Asked of every node of sheet and result, and of every node in the trail.
+fn origins(unchanged: &original::Answer, sheet: &Sheet, trail: &[Entry]) -> Vec<Origins> {
+    let mut nodes = walk::ids(sheet);
+    nodes.extend(walk::ids(&unchanged.result));
+    nodes.extend(trail.iter().map(|entry| (sort(entry[0]), entry[1])));
+    nodes.sort_unstable();
+    nodes.dedup();
+    let lists = nodes.into_iter().map(|(sort, id)| {
+        let list = unchanged.origins(sort, id).into_iter();
+        let list = list.map(|(reason, (owner_sort, owner))| {
+            assert_eq!(owner_sort, sort, "owners are of the node's own kind");
+            (reason, owner)
+        });
+        Origins {
+            sort,
+            id,
+            list: list.collect(),
+        }
+    });
+    lists.filter(|origins| !origins.list.is_empty()).collect()
+}
+
+fn sort(number: u32) -> Sort {
+    let all = [
+        Sort::Rule,
+        Sort::Alternative,
+        Sort::Element,
+        Sort::Label,
+        Sort::Action,
+        Sort::Predicate,
+    ];
+    all[number as usize - 1]
+}

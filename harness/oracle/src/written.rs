@@ -1,0 +1,118 @@
+//! Grammars written by hand: points that are easily misread, and one for each
+//! clause of order 3 with the nearest grammar that is joined.
+
+pub const WRITTEN: [&str; 96] = [
+    // Left corners stop at a symbol, whatever its quantifier.
+    "e: a | INT; a: e PLUS | NAME? e MINUS;",
+    "e: a; a: e . | .? e;",
+    "e: a . | .? a; a: e;",
+    "e: a . | .? e; a: e;",
+    "e: a e Y | INT; a: e PLUS | X?;",
+    "e: INT? a | b | X; a: e PLUS; b: e MINUS;",
+    "e: a | INT; a: e PLUS | zz? e MINUS;",
+    "e: a | INT; a: e PLUS | NAME* e MINUS;",
+    "e: a | INT; a: e PLUS | NAME+ e MINUS;",
+    "e: a | INT; a: e PLUS | (NAME)? e MINUS;",
+    // Settled outside the cycle, when the hub is chosen.
+    "e: (a); a: b | .?; b: a e .;",
+    "e: n a | a; a: e PLUS | INT; n: ;",
+    "e: n? a | a; a: e PLUS | INT; n: N;",
+    "e: n a | a X; a: e PLUS | INT; n: N | ;",
+    "e: zz a | a X; a: e PLUS;",
+    "e: _ | a X; a: e PLUS;",
+    "e: {} a | X; a: e PLUS;",
+    "e: n INT | a; a: e PLUS; n: N;",
+    "e: n INT | a; a: e PLUS; n: ;",
+    "e: n? INT | a; a: e PLUS; n: N;",
+    // Options.
+    "e: <o=1,o=2> a | INT; a: e PLUS;",
+    "e: a | INT; a: <o=1,o=2> e PLUS;",
+    "e: <o=1> a | INT; a: <o=1> e PLUS;",
+    "e: <o=1> a | INT; a: <o=2> e PLUS;",
+    "e: <o=1> a | INT; a: <p=2> b; b: <q=3,o=1> e PLUS;",
+    "e: a<o=1> | INT; a: e PLUS;",
+    // Nullable hubs.
+    "e: a | INT?; a: e a PLUS;",
+    "e: a | INT?; a: e PLUS;",
+    "%preserve k q; h: s | Z?; k: q | V?; s: h k Y; q: k h W;",
+    "e: a | _; a: e PLUS;",
+    // Ids and entries inside an element; carried numbers and flags of the slot.
+    "e: ~7 # a y=( ~3 z=INT {$z} | &{$y.a} ( X ) )~5 | ~8 INT; a: ~9 e~2 x=PLUS~1;",
+    "e: a; a: b X | INT; b: a Y;",
+    "e: a ( ( ( X | Y ) Z ) )? | INT; a: e PLUS;",
+    // Clause 1, no hub; 2, hub with arguments; 3, a satellite that can't be inlined.
+    "e: a X; a: e Y;",
+    "e !1: a | INT; a: e PLUS;",
+    "e !2: a | INT; a: e PLUS;",
+    "e: a | INT; a !1: e PLUS;",
+    "e: a | INT; a !2: e PLUS;",
+    "e: a | INT; a: # e PLUS;",
+    "e: # a | INT; a: e PLUS;",
+    "e: a | INT; a: e PLUS {};",
+    "e: a | INT; a: e PLUS ( X | &{} );",
+    // Clause 4, budget: loops, 64 steps that just fit, and 65 that do not.
+    "e: a? a? V | INT; a: b? b? b? X e; b: c? c? c? c? Y e; c: e Z;",
+    "e: a? a? V | c | INT; a: b? b? b? X e; b: c? c? c? c? Y e; c: e Z;",
+    "e: a | INT; a: a PLUS | e MINUS;",
+    "e: a | INT; a: b X | e Y; b: a Z | e W;",
+    // Clause 5, dangling reference, by each kind, and by a split.
+    "e: a {$a} | INT; a: e PLUS;",
+    "e: a {$a.x} | INT; a: e PLUS;",
+    "e: a ( {$a::x} ) | INT; a: e PLUS;",
+    "e: a {$b} | INT; a: e PLUS;",
+    "e: a? {$a} X | INT; a: e PLUS;",
+    "e: e? {$e} X | a | INT; a: e PLUS;",
+    "e: e {$e} X | a | INT; a: e PLUS;",
+    // Clause 6, blocked corner.
+    "e: a* X | INT; a: e PLUS;",
+    "e: x=a | INT; a: e PLUS;",
+    "e: a[5] | INT; a: e PLUS;",
+    "e: a | INT; a: e?? PLUS;",
+    "e: a | INT; a: x=e PLUS;",
+    // Clause 7, label collision; 8, binding collision; 9 is above, among options.
+    "e: a ( x=INT ) | INT; a: e x=PLUS;",
+    "e: a {$PLUS} | INT; a: e PLUS;",
+    "e: a {$PLUS::x} | INT; a: e PLUS;",
+    "e: a {$x.a} | INT; a: e x=PLUS;",
+    // Clause 10, no steps; 11, not directly rewritable.
+    "e: (a) X | INT; a: e PLUS;",
+    "e: a | INT; a: e n; n: N?;",
+    "e: a | INT; a: e PLUS e[5];",
+    "e: a | INT; a: e PLUS ( e[5] );",
+    "e: {} a | INT; a: e PLUS;",
+    // What is kept and what is removed.
+    "e: a a | INT; a: e PLUS;",
+    "s: a; e: a | INT; a: b X; b: e PLUS;",
+    // Labels, references and names in blocks and in front of the corner.
+    "e: x={} a | INT; a: e x=PLUS;",
+    "e: a x=X | INT; a: e ( x=PLUS );",
+    "e: a ( {$PLUS} ) | INT; a: e PLUS;",
+    "e: a {$PLUS} | INT; a: e ( PLUS );",
+    "e: a {$b} | INT; a: e PLUS b; b: X;",
+    "e: a? {$a::x} X | INT; a: e PLUS;",
+    // Optional members that are not bare.
+    "e: x=a? Y | INT; a: e PLUS;",
+    "e: a[5]? Y | INT; a: e PLUS;",
+    "e: a?<o=1> Y | INT; a: e PLUS;",
+    "e: e? Y | a | INT; a: e PLUS;",
+    "e: x=e? Y | a | INT; a: e PLUS;",
+    "e: e[5]? Y | a | INT; a: e PLUS;",
+    "e: e?<o=1> Y | a | INT; a: e PLUS;",
+    // Left corners past blocks and rules that can be empty; tails that can be.
+    "e: a | INT; a: ( X | ) e PLUS | e Y;",
+    "e: a | INT; a: n e PLUS | e Y; n: X | ;",
+    "e: a | INT; a: ( e )? X | e Y;",
+    "e: a | INT; a: e n*; n: N;",
+    "e: a | INT; a: e ( N | ) PLUS;",
+    "e: a | INT; a: e ( N | );",
+    // Which hub, which cycle first, and a cycle behind one that is declined.
+    "s: b; a: b X | INT; b: a Y | NAME;",
+    "%preserve b; a: b X | INT; b: a Y | NAME;",
+    "e: a | INT; a: e PLUS; f: b | INT; b: f MINUS;",
+    "e: a X; a: e Y; f: b | INT; b: f MINUS;",
+    "%kind combined; e: a | INT; a: e PLUS;",
+    "%kind lexer; e: a | INT; a: e PLUS;",
+    // Options that are there twice, and a slot's options for each expansion.
+    "e: <o=1> a | INT; a: <o=1,o=1> e PLUS;",
+    "e: <o=1> a | <p=1> INT; a: <q=1> e PLUS | <r=1> NAME;",
+];

@@ -1,0 +1,161 @@
+//! The generator hits on purpose what its profiles name.
+
+use std::collections::BTreeSet;
+
+use oracle::{Answer, Done, ask_sheet};
+use sheets::generate::{PROFILES, profile};
+use sheets::tree::{Kind, Sheet};
+use sheets::walk;
+
+const SEEDS: u64 = 200;
+
+fn answers(name: &str) -> Vec<(Sheet, Answer)> {
+    let profile = profile(name).unwrap_or_else(|| panic!("no profile {name}"));
+    let sheets = (0..SEEDS).map(|seed| profile.sheet(seed));
+    sheets
+        .map(|sheet| (sheet.clone(), ask_sheet(&sheet)))
+        .collect()
+}
+
+fn how_many(name: &str, wanted: impl Fn(&Sheet, &Done) -> bool) -> usize {
+    let all = answers(name);
+    let met = all
+        .iter()
+        .filter(|(sheet, answer)| answer.as_ref().is_ok_and(|done| wanted(sheet, done)));
+    met.count()
+}
+
+#[test]
+fn each_clause_has_a_profile_that_meets_it_often() {
+    let pairs = [
+        ("no-base", 1, 100),
+        ("hub-arguments", 2, 100),
+        ("satellite-semantics", 3, 100),
+        ("satellite-loop", 4, 100),
+        ("dangling", 5, 100),
+        ("optional-member", 6, 40),
+        ("labels", 7, 30),
+        ("captured", 8, 80),
+        ("options", 9, 40),
+        ("blocks", 10, 30),
+        ("hollow", 11, 50),
+    ];
+    for (name, clause, least) in pairs {
+        let met = |_: &Sheet, done: &Done| done.declined.iter().any(|one| one.clause == clause);
+        let times = how_many(name, met);
+        assert!(times >= least, "{name} meets clause {clause} {times} times");
+    }
+}
+
+#[test]
+fn each_twist_is_joined_too() {
+    let names = [
+        "plain",
+        "several",
+        "nullable-behind",
+        "nullable-hub",
+        "optional-member",
+        "blocks",
+        "labels",
+        "references",
+        "options",
+        "preserved",
+        "tail-satellite",
+        "flags",
+        "unknown",
+        "optional-symbol",
+        "arguments",
+        "outside",
+        "hollow",
+        "long-chain",
+    ];
+    for name in names {
+        let times = how_many(name, |_, done| done.plans() > 0);
+        assert!(times >= 30, "{name} is joined {times} times");
+    }
+}
+
+#[test]
+fn cycles_of_two_to_six_rules_and_several_of_them_are_joined() {
+    let mut lengths = BTreeSet::new();
+    let mut plans = BTreeSet::new();
+    for (_, answer) in answers("plain").into_iter().chain(answers("several")) {
+        if let Ok(done) = answer {
+            plans.insert(done.plans());
+            lengths.extend(done.stages.iter().map(|stage| stage.cycle.len()));
+        }
+    }
+    assert!(
+        (2..=6).all(|length| lengths.contains(&length)),
+        "{lengths:?}"
+    );
+    assert!((0..=3).all(|many| plans.contains(&many)), "{plans:?}");
+}
+
+#[test]
+fn every_limit_is_met_from_both_sides() {
+    let refused = |name: &str, number: u32| {
+        let all = answers(name);
+        let met = all
+            .iter()
+            .filter(|(_, answer)| answer.as_ref().err() == Some(&number))
+            .count();
+        (met, all.iter().filter(|(_, answer)| answer.is_ok()).count())
+    };
+    for (name, number) in [("near-7", 7), ("near-8", 8), ("just-9", 9)] {
+        let (met, passed) = refused(name, number);
+        assert!(
+            met >= 20 && passed >= 10,
+            "{name}: {met} refused, {passed} not"
+        );
+    }
+}
+
+#[test]
+fn satellites_are_kept_and_removed_for_each_reason() {
+    let kept = |sheet: &Sheet, done: &Done| {
+        done.plans() > 0 && done.result.rules.len() == sheet.rules.len()
+    };
+    let removed = |sheet: &Sheet, done: &Done| done.result.rules.len() < sheet.rules.len();
+    for name in ["preserved", "tail-satellite", "outside"] {
+        assert!(how_many(name, kept) >= 10, "{name}");
+        assert!(how_many(name, removed) >= 10, "{name}");
+    }
+}
+
+#[test]
+fn references_of_each_kind_and_blocks_of_each_depth_occur() {
+    let mut kinds = BTreeSet::new();
+    let mut depths = BTreeSet::new();
+    for profile in PROFILES.iter().filter(|profile| !profile.about_limits) {
+        for seed in 0..SEEDS {
+            let sheet = profile.sheet(seed);
+            for element in sheet.rules.iter().flat_map(walk::elements) {
+                if let Kind::Action(body) | Kind::Predicate(body) = &element.kind {
+                    kinds.extend(
+                        body.references
+                            .iter()
+                            .map(|one| (element.kind.number(), one.kind)),
+                    );
+                }
+            }
+            depths.extend(sheet.rules.iter().map(|rule| depth(&rule.alternatives)));
+        }
+    }
+    assert_eq!(
+        kinds.len(),
+        6,
+        "actions and predicates, each kind: {kinds:?}"
+    );
+    assert_eq!(depths, (0..=8).collect());
+}
+
+fn depth(alternatives: &[sheets::tree::Alternative]) -> usize {
+    let mut deepest = 0;
+    walk::alternatives(alternatives, 0, &mut |node| {
+        if let walk::Node::Alternative(depth, _) = node {
+            deepest = deepest.max(depth);
+        }
+    });
+    deepest
+}

@@ -1,0 +1,112 @@
+//! `compare --count N --seed S`: the proved reader against the second one on N sheets.
+
+use reader::compare::{Disagreement, Tally, run};
+use reader::numbers::{FRONT, ROW};
+use std::process::ExitCode;
+use std::time::Instant;
+
+unsafe extern "C" {
+    fn read_sheet(
+        sheet: *const u8,
+        sheet_len: usize,
+        work: *mut u8,
+        work_len: usize,
+        numbers: *mut [u32; FRONT],
+        ids: *mut [u32; ROW],
+        names: *mut [u32; ROW],
+        places: *mut [u32; ROW],
+    );
+}
+
+/// The next words of a slice as an array.
+fn row<const N: usize>(words: &mut &mut [u32]) -> *mut [u32; N] {
+    let (front, rest) = std::mem::take(words).split_at_mut(N);
+    *words = rest;
+    front.as_mut_ptr().cast()
+}
+
+fn proved(sheet: &[u8], work: &mut [u8], mut numbers: &mut [u32]) {
+    let front = row(&mut numbers);
+    let ids = row(&mut numbers);
+    let names = row(&mut numbers);
+    let places = row(&mut numbers);
+    // SAFETY: the function is proved for all slices, which cross as pointer and length; the four arrays are parts of
+    // one slice that do not overlap.
+    unsafe {
+        read_sheet(
+            sheet.as_ptr(),
+            sheet.len(),
+            work.as_mut_ptr(),
+            work.len(),
+            front,
+            ids,
+            names,
+            places,
+        );
+    }
+}
+
+struct Options {
+    count: u64,
+    seed: u64,
+}
+
+fn options() -> Result<Options, String> {
+    let mut options = Options {
+        count: 20_000,
+        seed: 1,
+    };
+    let mut words = std::env::args().skip(1);
+    while let Some(word) = words.next() {
+        let value = words.next().unwrap_or_default();
+        let number = value
+            .parse()
+            .map_err(|_| format!("{word} needs a number"))?;
+        match word.as_str() {
+            "--count" => options.count = number,
+            "--seed" => options.seed = number,
+            _ => return Err(format!("unknown option {word}")),
+        }
+    }
+    Ok(options)
+}
+
+fn show(tally: &Tally, options: &Options, began: Instant) {
+    let seconds = began.elapsed().as_secs_f64();
+    println!("sheets compared {} (seed {})", tally.sheets(), options.seed);
+    println!("taken {}", tally.answers[0]);
+    for refusal in [1, 3, 4, 5, 6] {
+        println!("refused {refusal}: {}", tally.answers[refusal]);
+    }
+    println!("agreed {} in {seconds:.1} s", tally.sheets());
+}
+
+fn complain(differs: &Disagreement, options: &Options) {
+    eprintln!(
+        "compare: sheet {} of seed {}: {}",
+        differs.index, options.seed, differs.what
+    );
+    let hex: String = differs.sheet.iter().map(|b| format!("{b:02x}")).collect();
+    eprintln!("{hex}");
+}
+
+fn main() -> ExitCode {
+    let options = match options() {
+        Ok(options) => options,
+        Err(what) => {
+            eprintln!("compare: {what}\nusage: compare [--count N] [--seed S]");
+            return ExitCode::from(2);
+        }
+    };
+    let began = Instant::now();
+    match run(&proved, options.seed, options.count) {
+        Ok(tally) => {
+            show(&tally, &options, began);
+            ExitCode::SUCCESS
+        }
+        Err(differs) => {
+            complain(&differs, &options);
+            ExitCode::FAILURE
+        }
+    }
+}

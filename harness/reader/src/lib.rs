@@ -1,0 +1,10 @@
+//! A second reader of sheets, sheets to try readers on, and the comparison of two readers.
+
+pub mod compare;
+pub mod damage;
+pub mod grow;
+pub mod numbers;
+pub mod random;
+pub mod read;
+pub mod sheets;
+pub mod tree;

@@ -1,0 +1,11 @@
+//! Sheets of document 01: trees and words, a notation for grammars, a generator.
+
+pub mod codec;
+pub mod generate;
+pub mod names;
+pub mod parse;
+pub mod print;
+pub mod rng;
+pub mod scan;
+pub mod tree;
+pub mod walk;

@@ -1,0 +1,90 @@
+//! Walks over every node of a sheet, outer before inner.
+
+use crate::tree::{Alternative, Counters, Element, Kind, Rule, Sheet};
+
+/// The sorts of ids, numbered as in the trail.
+#[derive(Clone, Copy, Debug, Eq, Ord, PartialEq, PartialOrd)]
+pub enum Sort {
+    Rule = 1,
+    Alternative = 2,
+    Element = 3,
+    Label = 4,
+    Action = 5,
+    Predicate = 6,
+}
+
+/// The counter of a sort; rules have none.
+pub fn counter(counters: &Counters, sort: Sort) -> Option<u32> {
+    match sort {
+        Sort::Rule => None,
+        Sort::Alternative => Some(counters.alternative),
+        Sort::Element => Some(counters.element),
+        Sort::Label => Some(counters.label),
+        Sort::Action => Some(counters.action),
+        Sort::Predicate => Some(counters.predicate),
+    }
+}
+
+/// The id of every node, in reading order.
+pub fn ids(sheet: &Sheet) -> Vec<(Sort, u32)> {
+    let mut out = Vec::new();
+    for rule in &sheet.rules {
+        out.push((Sort::Rule, rule.id));
+        alternatives(&rule.alternatives, 0, &mut |node| match node {
+            Node::Alternative(_, alternative) => out.push((Sort::Alternative, alternative.id)),
+            Node::Element(_, element) => element_ids(element, &mut out),
+        });
+    }
+    out
+}
+
+fn element_ids(element: &Element, out: &mut Vec<(Sort, u32)>) {
+    out.push((Sort::Element, element.id));
+    if let Some(label) = element.label {
+        out.push((Sort::Label, label.id));
+    }
+    match &element.kind {
+        Kind::Action(body) => out.push((Sort::Action, body.id)),
+        Kind::Predicate(body) => out.push((Sort::Predicate, body.id)),
+        _ => {}
+    }
+}
+
+/// A node with the number of blocks around it.
+pub enum Node<'a> {
+    Alternative(usize, &'a Alternative),
+    Element(usize, &'a Element),
+}
+
+pub fn alternatives<'a>(list: &'a [Alternative], depth: usize, see: &mut impl FnMut(Node<'a>)) {
+    for alternative in list {
+        see(Node::Alternative(depth, alternative));
+        for element in &alternative.elements {
+            see(Node::Element(depth, element));
+            if let Kind::Block(inner) = &element.kind {
+                alternatives(inner, depth + 1, see);
+            }
+        }
+    }
+}
+
+/// Every element of a rule, nested ones too.
+pub fn elements(rule: &Rule) -> Vec<&Element> {
+    let mut out = Vec::new();
+    alternatives(&rule.alternatives, 0, &mut |node| {
+        if let Node::Element(_, element) = node {
+            out.push(element);
+        }
+    });
+    out
+}
+
+/// Every element of the list, nested ones too, open to change.
+pub fn edit(list: &mut [Alternative], change: &mut impl FnMut(&mut Element)) {
+    for element in list.iter_mut().flat_map(|own| &mut own.elements) {
+        change(element);
+        if let Kind::Block(inner) = &mut element.kind {
+            edit(inner, change);
+        }
+    }
+}

@@ -1,0 +1,137 @@
+//! The original with hooks inserted: plans, steps, the trail, the clause that
+//! declined each cycle, and refusals 7 to 9 in the order in which they are met.
+
+#[path = "../../original/src/counters.rs"]
+mod counters;
+mod hooks;
+#[path = "../../original/src/load.rs"]
+mod load;
+#[path = "../../original/src/unload.rs"]
+mod unload;
+
+#[allow(dead_code)]
+mod grammar {
+    include!(concat!(env!("OUT_DIR"), "/grammar.rs"));
+}
+
+mod quiet;
+
+use std::collections::BTreeSet;
+use std::panic::{AssertUnwindSafe, catch_unwind};
+
+use grammar::mutual_recursion::eliminate_mutual_left_recursion_with_action_reference_parser;
+use grammar::provenance::ProvenanceIndex;
+use sheets::tree::Sheet;
+
+pub use quiet::{counter_panic, quietly};
+
+/// The copies with their insertions, by the names of the unchanged files.
+pub const COPIES: [(&str, &str); 5] = [
+    (
+        "action.rs",
+        include_str!(concat!(env!("OUT_DIR"), "/action.rs")),
+    ),
+    (
+        "model.rs",
+        include_str!(concat!(env!("OUT_DIR"), "/model.rs")),
+    ),
+    (
+        "mutual_recursion.rs",
+        include_str!(concat!(env!("OUT_DIR"), "/mutual_recursion.rs")),
+    ),
+    (
+        "provenance.rs",
+        include_str!(concat!(env!("OUT_DIR"), "/provenance.rs")),
+    ),
+    (
+        "transform/analysis.rs",
+        include_str!(concat!(env!("OUT_DIR"), "/analysis.rs")),
+    ),
+];
+
+/// Document 01's numbers under 7 and 9.
+#[derive(Clone, Copy, Debug)]
+pub struct Limits {
+    pub alternatives: usize,
+    pub elements: usize,
+    pub options: usize,
+    pub bytes: usize,
+    pub entries: usize,
+}
+
+impl Limits {
+    pub const STANDARD: Limits = Limits {
+        alternatives: 1_024,
+        elements: 8_192,
+        options: 2_048,
+        bytes: 32_768,
+        entries: 4_096,
+    };
+}
+
+/// A cycle that was turned down, and the clause of order 3 by which.
+#[derive(Clone, Debug, Eq, PartialEq)]
+pub struct Decline {
+    pub clause: u32,
+    pub cycle: Vec<u32>,
+}
+
+/// An applied plan and the grammar it leaves.
+#[derive(Clone, Debug)]
+pub struct Stage {
+    pub cycle: Vec<u32>,
+    pub hub: u32,
+    pub steps: usize,
+    pub after: Sheet,
+}
+
+#[derive(Clone, Debug, Default)]
+pub struct Trace {
+    pub stages: Vec<Stage>,
+    pub trail: Vec<[u32; 4]>,
+    /// Of the last round: the cycles that are still there.
+    pub declined: Vec<Decline>,
+    /// Of the last round, by `nullable_rules`.
+    pub nullable: BTreeSet<u32>,
+}
+
+/// Thrown by a hook: the number of the refusal.
+struct Stop(u32);
+
+/// The trace of a whole run, or the refusal that ended it.
+pub fn run(sheet: &Sheet, limits: Limits) -> Result<(Sheet, Trace), u32> {
+    hooks::begin(sheet, limits);
+    let outcome = quietly(|| catch_unwind(AssertUnwindSafe(|| pass(sheet))));
+    let trace = hooks::end();
+    match outcome {
+        Ok(result) => Ok((result, trace)),
+        Err(payload) => Err(refusal(payload)),
+    }
+}
+
+fn pass(sheet: &Sheet) -> Sheet {
+    let mut loaded = load::load(sheet);
+    eliminate_mutual_left_recursion_with_action_reference_parser(
+        std::slice::from_mut(&mut loaded.unit),
+        &mut loaded.ids,
+        &mut ProvenanceIndex::default(),
+        &loaded.preserved,
+        load::references,
+    );
+    Sheet {
+        kind: sheet.kind,
+        rules: unload::rules(&loaded.unit),
+        preserved: sheet.preserved.clone(),
+        counters: counters::read(&loaded.ids),
+    }
+}
+
+fn refusal(payload: Box<dyn std::any::Any + Send>) -> u32 {
+    if let Some(Stop(number)) = payload.downcast_ref() {
+        return *number;
+    }
+    if counter_panic(&*payload) {
+        return 8;
+    }
+    std::panic::resume_unwind(payload)
+}
