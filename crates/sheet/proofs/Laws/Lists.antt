@@ -94,9 +94,6 @@ module _ (bs : List ℕ) (c n i : ℕ) (room : 4 * n ≤ length bs) (so : BelowF
 pub ruleset belows = (below-start, below-done, below-stop, below-more)
 
 -- a row copied
-pub row-start : (xs ys : List ℕ) → take 0 xs ≡ take 0 ys
-row-start xs ys = refl
-
 pub row-more : (row bs after : List ℕ) (i w : ℕ) → take i (words bs) ≡ take i row → i < length row → 4 * i + 4 ≤ length bs → w ≡ getD row i 0 → after ≡ set (words bs) i w → take (i + 1) after ≡ take (i + 1) row
 row-more row bs after i w so h g e f =
     rw (add-one i, f) (take-suc-set (words bs) i w (rw length-words (omega arith)) ∙ rw (so, e) (sym (take-suc row i 0 h)))

@@ -4,65 +4,48 @@ use Rattle.sheet.proofs.Laws.Answer.{read-refused, too-short, too-long,
 use borrow.Author.Needs.{needs}
 use Rattle.sheet.proofs.read.Statement.{statement}
 use Rattle.sheet.proofs.read.Tie as tie
-use Rattle.sheet.proofs.read.Reads as reads
-use Rattle.sheet.proofs.read.Lts as lts
-use Rattle.sheet.proofs.answer.examine.Reads as examine-reads
-use Rattle.sheet.proofs.answer.refused.Reads as refused-reads
-use Rattle.sheet.proofs.words.clear.Reads as clear-reads
 
--- src/lib.rt:29:9
 refused-requires : tie.Need-refused-requires
 refused-requires c κs = search needs
 
--- src/lib.rt:29:9
 returns : tie.Need-returns
 returns c =
     let l = too-short _ (c .before .if1 .taken) in
     (read-refused (lent-one _ _ l) (c .refused .ensures .0) (c .refused .ensures .1), after-one _ _ l)
 
--- src/lib.rt:32:9
 refused-requires-2 : tie.Need-refused-requires-2
 refused-requires-2 c κs = search needs
 
--- src/lib.rt:32:9
 returns-2 : tie.Need-returns-2
 returns-2 c =
     let l = too-long _ (c .before .before .if1 .left) (c .before .if2 .taken) in
     (read-refused (lent-one _ _ l) (c .refused2 .ensures .0) (c .refused2 .ensures .1), after-one _ _ l)
 
--- src/lib.rt:35:9
 refused-requires-3 : tie.Need-refused-requires-3
 refused-requires-3 c κs = search needs
 
--- src/lib.rt:35:9
 returns-3 : tie.Need-returns-3
 returns-3 c =
     let l = no-words _ (c .before .before .before .if1 .left) (c .before .before .if2 .left) (c .before .if3 .taken) in
     (read-refused (lent-one _ _ l) (c .refused3 .ensures .0) (c .refused3 .ensures .1), after-one _ _ l)
 
--- src/lib.rt:38:9
 refused-requires-4 : tie.Need-refused-requires-4
 refused-requires-4 c κs = search needs
 
--- src/lib.rt:38:9
 returns-4 : tie.Need-returns-4
 returns-4 c =
     let l = good-length _ (c .before .before .before .before .if1 .left) (c .before .before .before .if2 .left) (c .before .before .if3 .left) in
     (read-refused (lent-two _ _ l (c .before .if4 .taken)) (c .refused4 .ensures .0) (c .refused4 .ensures .1), after-two _ _ l (c .before .if4 .taken))
 
--- src/lib.rt:40:9
 examine-requires : tie.Need-examine-requires
 examine-requires c κs = search needs
 
--- src/lib.rt:41:5
 clear-requires : tie.Need-clear-requires
 clear-requires c κs = search needs
 
--- src/lib.rt:23:1
 same-length : tie.Need-same-length
 same-length c = search needs
 
--- src/lib.rt:23:1
 returns-5 : tie.Need-returns-5
 returns-5 c =
     let l = good-length _ (c .before .before .before .before .before .before .before .before .before .before .before .if1 .left) (c .before .before .before .before .before .before .before .before .before .before .if2 .left) (c .before .before .before .before .before .before .before .before .before .if3 .left) in

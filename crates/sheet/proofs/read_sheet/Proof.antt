@@ -4,31 +4,19 @@ use Rattle.sheet.proofs.Laws.Sizes.{summed, numbers-refused, numbers-sh
 use borrow.Author.Needs.{needs}
 use Rattle.sheet.proofs.read_sheet.Statement.{statement}
 use Rattle.sheet.proofs.read_sheet.Tie as tie
-use Rattle.sheet.proofs.read_sheet.Reads as reads
-use Rattle.sheet.proofs.read_sheet.Lts as lts
-use Rattle.sheet.proofs.read.Reads as read-reads
-use Rattle.sheet.proofs.sizes.counted.Reads as counted-reads
-use Rattle.sheet.proofs.sizes.refusal_numbers.Reads as refusal-numbers-reads
-use Rattle.sheet.proofs.sizes.sheet_numbers.Reads as sheet-numbers-reads
-use Rattle.sheet.proofs.words.clear.Reads as clear-reads
 
--- src/lib.rt:83:9
 read-requires : tie.Need-read-requires
 read-requires c κs = search needs
 
--- src/lib.rt:94:25
 enum-known-answer : tie.Need-enum-known-answer
 enum-known-answer c = search needs
 
--- src/lib.rt:95:24
 refusal-numbers-requires : tie.Need-refusal-numbers-requires
 refusal-numbers-requires c κs = search needs
 
--- src/lib.rt:97:23
 enum-known-answer-2 : tie.Need-enum-known-answer-2
 enum-known-answer-2 c = search needs
 
--- src/lib.rt:98:17
 counted-requires : tie.Need-counted-requires
 counted-requires c κs =
     let m = summed _ _ (c .before .before .before .before .before .before .before .before .before .before .read .ensures .0) (c .before .before .answer2 .given .1) in
@@ -37,27 +25,21 @@ counted-requires c κs =
     let x = m .lent in
     (omega arith, m .found)
 
--- src/lib.rt:99:13
 clear-requires : tie.Need-clear-requires
 clear-requires c κs = search needs
 
--- src/lib.rt:100:24
 sheet-numbers-requires : tie.Need-sheet-numbers-requires
 sheet-numbers-requires c κs = search needs
 
--- src/lib.rt:68:1
 same-length : tie.Need-same-length
 same-length c = search needs
 
--- src/lib.rt:68:1
 returns : tie.Need-returns
 returns c = (numbers-refused _ _ (c .before .before .before .before .before .before .before .before .before .before .read .ensures .0) (c .before .before .answer .given .1) (c .refusal-numbers .ensures), (ids-out (c .before .before .before .before .before .before .before .before .before .before .read .ensures .0), (names-out (c .before .before .before .before .before .before .before .before .before .before .read .ensures .0), (places-out (c .before .before .before .before .before .before .before .before .before .before .read .ensures .0), (c .before .before .before .before .before .before .before .before .before .before .read .ensures .1)))))
 
--- src/lib.rt:68:1
 same-length-2 : tie.Need-same-length-2
 same-length-2 c = search needs
 
--- src/lib.rt:68:1
 returns-2 : tie.Need-returns-2
 returns-2 c =
     let m = summed _ _ (c .before .before .before .before .before .before .before .before .before .before .before .before .before .before .before .before .before .before .read .ensures .0) (c .before .before .before .before .before .before .before .before .before .before .answer2 .given .1) in

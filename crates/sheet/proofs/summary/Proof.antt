@@ -4,25 +4,16 @@ use Rattle.sheet.proofs.Laws.Sizes.{summed, summary-refused, summary-sh
 use borrow.Author.Needs.{needs}
 use Rattle.sheet.proofs.summary.Statement.{statement}
 use Rattle.sheet.proofs.summary.Tie as tie
-use Rattle.sheet.proofs.summary.Reads as reads
-use Rattle.sheet.proofs.summary.Lts as lts
-use Rattle.sheet.proofs.read.Reads as read-reads
-use Rattle.sheet.proofs.sizes.counted.Reads as counted-reads
-use Rattle.sheet.proofs.words.clear.Reads as clear-reads
 
--- src/lib.rt:54:9
 read-requires : tie.Need-read-requires
 read-requires c κs = search needs
 
--- src/lib.rt:58:25
 enum-known-answer : tie.Need-enum-known-answer
 enum-known-answer c = search needs
 
--- src/lib.rt:59:23
 enum-known-answer-2 : tie.Need-enum-known-answer-2
 enum-known-answer-2 c = search needs
 
--- src/lib.rt:60:17
 counted-requires : tie.Need-counted-requires
 counted-requires c κs =
     let m = summed _ _ (c .before .before .before .before .before .before .read .ensures .0) (c .before .before .answer2 .given .1) in
@@ -31,23 +22,18 @@ counted-requires c κs =
     let x = m .lent in
     (omega arith, m .found)
 
--- src/lib.rt:61:13
 clear-requires : tie.Need-clear-requires
 clear-requires c κs = search needs
 
--- src/lib.rt:50:1
 same-length : tie.Need-same-length
 same-length c = search needs
 
--- src/lib.rt:50:1
 returns : tie.Need-returns
 returns c = (summary-refused _ _ (c .before .before .before .before .before .read .ensures .0) (c .before .answer .given .1), (c .before .before .before .before .before .read .ensures .1))
 
--- src/lib.rt:50:1
 same-length-2 : tie.Need-same-length-2
 same-length-2 c = search needs
 
--- src/lib.rt:50:1
 returns-2 : tie.Need-returns-2
 returns-2 c =
     let m = summed _ _ (c .before .before .before .before .before .before .before .before .before .before .before .before .before .read .ensures .0) (c .before .before .before .before .before .before .before .before .before .answer2 .given .1) in

@@ -5,57 +5,38 @@ use Rattle.sheet.proofs.Laws.Answer.{read-refused, bad-trailer, bad-rul
 use borrow.Author.Needs.{needs}
 use Rattle.sheet.proofs.answer.examine.Statement.{statement}
 use Rattle.sheet.proofs.answer.examine.Tie as tie
-use Rattle.sheet.proofs.answer.examine.Reads as reads
-use Rattle.sheet.proofs.answer.examine.Lts as lts
-use Rattle.sheet.proofs.answer.is_trailer.Reads as is-trailer-reads
-use Rattle.sheet.proofs.answer.judged.Reads as judged-reads
-use Rattle.sheet.proofs.answer.refused.Reads as refused-reads
-use Rattle.sheet.proofs.lists.is_rising.Reads as is-rising-reads
-use Rattle.sheet.proofs.rules.read_rules.Reads as read-rules-reads
-use Rattle.sheet.proofs.words.word.Reads as word-reads
 
--- src/answer.rt:109:13
 sub-t : tie.Need-sub-t
 sub-t c = search needs
 
--- src/answer.rt:110:9
 is-trailer-requires : tie.Need-is-trailer-requires
 is-trailer-requires c κs = search needs
 
--- src/answer.rt:111:9
 refused-requires : tie.Need-refused-requires
 refused-requires c κs = search needs
 
--- src/answer.rt:111:9
 returns : tie.Need-returns
 returns c =
     read-refused (bad-trailer _ refl (sym (c .before .before .is-trailer .ensures .0) ∙ not-true (c .before .before .is-trailer .result) (c .before .if1 .taken))) (c .refused .ensures .0) (c .refused .ensures .1)
 
--- src/answer.rt:113:25
 add-word : tie.Need-add-word
 add-word c = search needs
 
--- src/answer.rt:113:17
 word-requires : tie.Need-word-requires
 word-requires c κs = search needs
 
--- src/answer.rt:113:17
 cast-count : tie.Need-cast-count
 cast-count c = search needs
 
--- src/answer.rt:114:15
 sub-end : tie.Need-sub-end
 sub-end c = let h = (c .before .before .is-trailer .ensures .1) (not-false (c .before .before .is-trailer .result) (c .before .if1 .left)) in let e = (c .word .ensures) in omega arith
 
--- src/answer.rt:115:9
 read-rules-requires : tie.Need-read-rules-requires
 read-rules-requires c κs = search needs
 
--- src/answer.rt:119:9
 refused-requires-2 : tie.Need-refused-requires-2
 refused-requires-2 c κs = search needs
 
--- src/answer.rt:119:9
 returns-2 : tie.Need-returns-2
 returns-2 c =
     read-refused
@@ -63,15 +44,12 @@ returns-2 c =
     (rules-bad (c .before .before .before .read-rules .ensures) (not-true (c .before .before .before .read-rules .result .good) (c .before .if2 .taken))))
     (c .refused2 .ensures .0) (c .refused2 .ensures .1)
 
--- src/answer.rt:121:9
 is-rising-requires : tie.Need-is-rising-requires
 is-rising-requires c κs = let h = (c .before .before .before .before .before .is-trailer .ensures .1) (not-false (c .before .before .before .before .before .is-trailer .result) (c .before .before .before .before .if1 .left)) in let e = (c .before .before .before .word .ensures) in omega arith
 
--- src/answer.rt:122:9
 refused-requires-3 : tie.Need-refused-requires-3
 refused-requires-3 c κs = search needs
 
--- src/answer.rt:122:9
 returns-3 : tie.Need-returns-3
 returns-3 c =
     let g = rules-got (c .before .before .before .before .before .read-rules .ensures) (not-false (c .before .before .before .before .before .read-rules .result .good) (c .before .before .before .if2 .left)) in
@@ -80,18 +58,15 @@ returns-3 c =
     (sym (c .before .before .is-rising .ensures) ∙ not-true (c .before .before .is-rising .result) (c .before .if3 .taken)))
     (c .refused3 .ensures .0) (c .refused3 .ensures .1)
 
--- src/answer.rt:124:5
 judged-requires : tie.Need-judged-requires
 judged-requires c κs =
     let h = (c .before .before .before .before .before .before .before .before .is-trailer .ensures .1) (not-false (c .before .before .before .before .before .before .before .before .is-trailer .result) (c .before .before .before .before .before .before .before .if1 .left)) in let e = (c .before .before .before .before .before .before .word .ensures) in
     let g = rules-got (c .before .before .before .before .before .read-rules .ensures) (not-false (c .before .before .before .before .before .read-rules .result .good) (c .before .before .before .if2 .left)) in
     (search needs, ((omega arith, omega arith), g .rows))
 
--- src/answer.rt:105:1
 same-length : tie.Need-same-length
 same-length c = search needs
 
--- src/answer.rt:105:1
 returns-4 : tie.Need-returns-4
 returns-4 c =
     let g = rules-got (c .before .before .before .before .before .before .before .before .read-rules .ensures) (not-false (c .before .before .before .before .before .before .before .before .read-rules .result .good) (c .before .before .before .before .before .before .if2 .left)) in

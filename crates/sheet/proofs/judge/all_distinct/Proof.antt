@@ -5,62 +5,45 @@ use Rattle.sheet.proofs.Laws.Judge.{ids-front, names-front, ids-long, n
 use borrow.Author.Needs.{needs}
 use Rattle.sheet.proofs.judge.all_distinct.Statement.{statement}
 use Rattle.sheet.proofs.judge.all_distinct.Tie as tie
-use Rattle.sheet.proofs.judge.all_distinct.Reads as reads
-use Rattle.sheet.proofs.judge.all_distinct.Lts as lts
-use Rattle.sheet.proofs.judge.bodies_are_distinct.Reads as bodies-are-distinct-reads
-use Rattle.sheet.proofs.judge.row_is_distinct.Reads as row-is-distinct-reads
 
--- src/judge.rt:82:25
 slice-aggregate-row-is-distinct : tie.Need-slice-aggregate-row-is-distinct
 slice-aggregate-row-is-distinct c = search needs
 
--- src/judge.rt:82:31
 cast-row-is-distinct : tie.Need-cast-row-is-distinct
 cast-row-is-distinct c = search needs
 
--- src/judge.rt:82:9
 row-is-distinct-requires : tie.Need-row-is-distinct-requires
 row-is-distinct-requires c κs = let f = c .before .before .before .before .before .before .pre .1 in let h = f .few in (ids-long f, omega arith)
 
--- src/judge.rt:83:9
 same-length : tie.Need-same-length
 same-length c = search needs
 
--- src/judge.rt:83:9
 returns : tie.Need-returns
 unfolding isDistinct
 returns c = λ f. simp (← ids-front (f .found .trees) (f .rows .ids) (f .rows .count), ← c .before .before .before .row-is-distinct .ensures, not-true (c .before .before .before .row-is-distinct .result) (c .if1 .taken))
 
--- src/judge.rt:85:25
 slice-aggregate-row-is-distinct-2 : tie.Need-slice-aggregate-row-is-distinct-2
 slice-aggregate-row-is-distinct-2 c = search needs
 
--- src/judge.rt:85:33
 cast-row-is-distinct-2 : tie.Need-cast-row-is-distinct-2
 cast-row-is-distinct-2 c = search needs
 
--- src/judge.rt:85:9
 row-is-distinct-requires-2 : tie.Need-row-is-distinct-requires-2
 row-is-distinct-requires-2 c κs = let f = c .before .before .before .before .before .before .before .before .before .before .before .before .pre .1 in let h = f .few in (names-long f, omega arith)
 
--- src/judge.rt:86:9
 same-length-2 : tie.Need-same-length-2
 same-length-2 c = search needs
 
--- src/judge.rt:86:9
 returns-2 : tie.Need-returns-2
 unfolding isDistinct
 returns-2 c = λ f. simp (← ids-front (f .found .trees) (f .rows .ids) (f .rows .count), ← names-front (f .found .trees) (f .rows .names) (f .rows .count), ← c .before .before .before .before .before .before .before .before .before .row-is-distinct .ensures, not-false (c .before .before .before .before .before .before .before .before .before .row-is-distinct .result) (c .before .before .before .before .before .before .if1 .left), ← c .before .before .before .row-is-distinct2 .ensures, not-true (c .before .before .before .row-is-distinct2 .result) (c .if2 .taken))
 
--- src/judge.rt:88:5
 bodies-are-distinct-requires : tie.Need-bodies-are-distinct-requires
 bodies-are-distinct-requires c κs = search needs
 
--- src/judge.rt:74:1
 same-length-3 : tie.Need-same-length-3
 same-length-3 c = search needs
 
--- src/judge.rt:74:1
 returns-3 : tie.Need-returns-3
 unfolding isDistinct
 returns-3 c = λ f. simp (← ids-front (f .found .trees) (f .rows .ids) (f .rows .count), ← names-front (f .found .trees) (f .rows .names) (f .rows .count), ← c .before .before .before .before .before .before .before .before .before .before .before .before .before .row-is-distinct .ensures, not-false (c .before .before .before .before .before .before .before .before .before .before .before .before .before .row-is-distinct .result) (c .before .before .before .before .before .before .before .before .before .before .if1 .left), ← c .before .before .before .before .before .before .before .row-is-distinct2 .ensures, not-false (c .before .before .before .before .before .before .before .row-is-distinct2 .result) (c .before .before .before .before .if2 .left)) (c .before .before .bodies-are-distinct .ensures (f .found))

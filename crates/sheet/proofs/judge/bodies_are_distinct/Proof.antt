@@ -2,67 +2,49 @@ use borrow.Author.Tests.{not-true, not-false}
 use borrow.Author.Needs.{needs}
 use Rattle.sheet.proofs.judge.bodies_are_distinct.Statement.{statement}
 use Rattle.sheet.proofs.judge.bodies_are_distinct.Tie as tie
-use Rattle.sheet.proofs.judge.bodies_are_distinct.Reads as reads
-use Rattle.sheet.proofs.judge.bodies_are_distinct.Lts as lts
-use Rattle.sheet.proofs.judge.sort_is_distinct.Reads as sort-is-distinct-reads
 
--- src/judge.rt:58:9
 sort-is-distinct-requires : tie.Need-sort-is-distinct-requires
 sort-is-distinct-requires c κs = search needs
 
--- src/judge.rt:59:9
 same-length : tie.Need-same-length
 same-length c = search needs
 
--- src/judge.rt:59:9
 returns : tie.Need-returns
 returns c = λ f. simp (← (c .before .before .before .sort-is-distinct .ensures f), not-true (c .before .before .before .sort-is-distinct .result) (c .if1 .taken))
 
--- src/judge.rt:61:9
 sort-is-distinct-requires-2 : tie.Need-sort-is-distinct-requires-2
 sort-is-distinct-requires-2 c κs = search needs
 
--- src/judge.rt:62:9
 same-length-2 : tie.Need-same-length-2
 same-length-2 c = search needs
 
--- src/judge.rt:62:9
 returns-2 : tie.Need-returns-2
 returns-2 c = λ f. simp (← (c .before .before .before .before .before .before .before .before .sort-is-distinct .ensures f), not-false (c .before .before .before .before .before .before .before .before .sort-is-distinct .result) (c .before .before .before .before .before .if1 .left), ← (c .before .before .before .sort-is-distinct2 .ensures f), not-true (c .before .before .before .sort-is-distinct2 .result) (c .if2 .taken))
 
--- src/judge.rt:64:9
 sort-is-distinct-requires-3 : tie.Need-sort-is-distinct-requires-3
 sort-is-distinct-requires-3 c κs = search needs
 
--- src/judge.rt:65:9
 same-length-3 : tie.Need-same-length-3
 same-length-3 c = search needs
 
--- src/judge.rt:65:9
 returns-3 : tie.Need-returns-3
 returns-3 c = λ f. simp (← (c .before .before .before .before .before .before .before .before .before .before .before .before .before .sort-is-distinct .ensures f), not-false (c .before .before .before .before .before .before .before .before .before .before .before .before .before .sort-is-distinct .result) (c .before .before .before .before .before .before .before .before .before .before .if1 .left), ← (c .before .before .before .before .before .before .before .before .sort-is-distinct2 .ensures f), not-false (c .before .before .before .before .before .before .before .before .sort-is-distinct2 .result) (c .before .before .before .before .before .if2 .left), ← (c .before .before .before .sort-is-distinct3 .ensures f), not-true (c .before .before .before .sort-is-distinct3 .result) (c .if3 .taken))
 
--- src/judge.rt:67:9
 sort-is-distinct-requires-4 : tie.Need-sort-is-distinct-requires-4
 sort-is-distinct-requires-4 c κs = search needs
 
--- src/judge.rt:68:9
 same-length-4 : tie.Need-same-length-4
 same-length-4 c = search needs
 
--- src/judge.rt:68:9
 returns-4 : tie.Need-returns-4
 returns-4 c = λ f. simp (← (c .before .before .before .before .before .before .before .before .before .before .before .before .before .before .before .before .before .before .sort-is-distinct .ensures f), not-false (c .before .before .before .before .before .before .before .before .before .before .before .before .before .before .before .before .before .before .sort-is-distinct .result) (c .before .before .before .before .before .before .before .before .before .before .before .before .before .before .before .if1 .left), ← (c .before .before .before .before .before .before .before .before .before .before .before .before .before .sort-is-distinct2 .ensures f), not-false (c .before .before .before .before .before .before .before .before .before .before .before .before .before .sort-is-distinct2 .result) (c .before .before .before .before .before .before .before .before .before .before .if2 .left), ← (c .before .before .before .before .before .before .before .before .sort-is-distinct3 .ensures f), not-false (c .before .before .before .before .before .before .before .before .sort-is-distinct3 .result) (c .before .before .before .before .before .if3 .left), ← (c .before .before .before .sort-is-distinct4 .ensures f), not-true (c .before .before .before .sort-is-distinct4 .result) (c .if4 .taken))
 
--- src/judge.rt:70:5
 sort-is-distinct-requires-5 : tie.Need-sort-is-distinct-requires-5
 sort-is-distinct-requires-5 c κs = search needs
 
--- src/judge.rt:53:1
 same-length-5 : tie.Need-same-length-5
 same-length-5 c = search needs
 
--- src/judge.rt:53:1
 returns-5 : tie.Need-returns-5
 returns-5 c = λ f. simp (← (c .before .before .before .before .before .before .before .before .before .before .before .before .before .before .before .before .before .before .before .before .before .before .sort-is-distinct .ensures f), not-false (c .before .before .before .before .before .before .before .before .before .before .before .before .before .before .before .before .before .before .before .before .before .before .sort-is-distinct .result) (c .before .before .before .before .before .before .before .before .before .before .before .before .before .before .before .before .before .before .before .if1 .left), ← (c .before .before .before .before .before .before .before .before .before .before .before .before .before .before .before .before .before .sort-is-distinct2 .ensures f), not-false (c .before .before .before .before .before .before .before .before .before .before .before .before .before .before .before .before .before .sort-is-distinct2 .result) (c .before .before .before .before .before .before .before .before .before .before .before .before .before .before .if2 .left), ← (c .before .before .before .before .before .before .before .before .before .before .before .before .sort-is-distinct3 .ensures f), not-false (c .before .before .before .before .before .before .before .before .before .before .before .before .sort-is-distinct3 .result) (c .before .before .before .before .before .before .before .before .before .if3 .left), ← (c .before .before .before .before .before .before .before .sort-is-distinct4 .ensures f), not-false (c .before .before .before .before .before .before .before .sort-is-distinct4 .result) (c .before .before .before .before .if4 .left)) (c .before .before .sort-is-distinct5 .ensures f)
 

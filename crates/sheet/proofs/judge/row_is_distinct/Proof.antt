@@ -3,24 +3,16 @@ use Rattle.grammar.specs.Ids.{distinct}
 use borrow.Author.Needs.{needs}
 use Rattle.sheet.proofs.judge.row_is_distinct.Statement.{statement}
 use Rattle.sheet.proofs.judge.row_is_distinct.Tie as tie
-use Rattle.sheet.proofs.judge.row_is_distinct.Reads as reads
-use Rattle.sheet.proofs.judge.row_is_distinct.Lts as lts
-use Rattle.sheet.proofs.lists.is_distinct.Reads as is-distinct-reads
-use Rattle.sheet.proofs.lists.put_row.Reads as put-row-reads
 
--- src/judge.rt:49:5
 put-row-requires : tie.Need-put-row-requires
 put-row-requires c κs = search needs
 
--- src/judge.rt:50:5
 is-distinct-requires : tie.Need-is-distinct-requires
 is-distinct-requires c κs = search needs
 
--- src/judge.rt:45:1
 same-length : tie.Need-same-length
 same-length c = search needs
 
--- src/judge.rt:45:1
 returns : tie.Need-returns
 returns c = c .before .before .is-distinct .ensures ∙ ap distinct (c .before .before .before .before .before .before .put-row .ensures)
 

@@ -4,9 +4,6 @@ use mathlib.Core.Path.{_≡_}
 use Rattle.sheet.proofs.Laws.Lists.{BelowFrom, belows}
 use Rattle.sheet.proofs.lists.is_below.Statement.{statement}
 use Rattle.sheet.proofs.lists.is_below.Tie as tie
-use Rattle.sheet.proofs.lists.is_below.Reads as reads
-use Rattle.sheet.proofs.lists.is_below.Lts as lts
-use Rattle.sheet.proofs.words.word.Reads as word-reads
 
 abbrev Inv-loop : tie.InvT-loop
 Inv-loop s n counter i₀ i = (i ≤ n) × BelowFrom s counter n i
@@ -14,31 +11,24 @@ Inv-loop s n counter i₀ i = (i ≤ n) × BelowFrom s counter n i
 abbrev μ-loop : tie.MeasureT-loop
 μ-loop s n counter i₀ i = n - i
 
--- src/lists.rt:32:5
 loop-holds : tie.Need-loop-holds Inv-loop μ-loop
 loop-holds c = search (needs, belows)
 
--- src/lists.rt:33:12
 word-requires : tie.Need-word-requires Inv-loop μ-loop
-word-requires c κs = search (needs, belows)
+word-requires c κs = search needs
 
--- src/lists.rt:34:13
 returns : tie.Need-returns Inv-loop μ-loop
 returns c = search (needs, belows)
 
--- src/lists.rt:36:9
 add-i : tie.Need-add-i Inv-loop μ-loop
-add-i c = search (needs, belows)
+add-i c = search needs
 
--- src/lists.rt:32:5
 loop-less : tie.Need-loop-less Inv-loop μ-loop
-loop-less c = search (needs, belows)
+loop-less c = search needs
 
--- src/lists.rt:32:5
 loop-again : tie.Need-loop-again Inv-loop μ-loop
 loop-again c = search (needs, belows)
 
--- src/lists.rt:27:1
 returns-2 : tie.Need-returns-2 Inv-loop μ-loop
 returns-2 c = search (needs, belows)
 

@@ -4,9 +4,6 @@ use mathlib.Core.Path.{_≡_}
 use Rattle.sheet.proofs.Laws.Lists.{RisingFrom, risings}
 use Rattle.sheet.proofs.lists.is_rising.Statement.{statement}
 use Rattle.sheet.proofs.lists.is_rising.Tie as tie
-use Rattle.sheet.proofs.lists.is_rising.Reads as reads
-use Rattle.sheet.proofs.lists.is_rising.Lts as lts
-use Rattle.sheet.proofs.words.word.Reads as word-reads
 
 abbrev Inv-loop : tie.InvT-loop
 Inv-loop s at n i₀ i = (i ≤ n) × RisingFrom s at n i
@@ -14,51 +11,39 @@ Inv-loop s at n i₀ i = (i ≤ n) × RisingFrom s at n i
 abbrev μ-loop : tie.MeasureT-loop
 μ-loop s at n i₀ i = n - i
 
--- src/lists.rt:17:5
 loop-holds : tie.Need-loop-holds Inv-loop μ-loop
 loop-holds c = search (needs, risings)
 
--- src/lists.rt:17:11
 add-loop : tie.Need-add-loop Inv-loop μ-loop
-add-loop c = search (needs, risings)
+add-loop c = search needs
 
--- src/lists.rt:18:20
 add-word : tie.Need-add-word Inv-loop μ-loop
-add-word c = search (needs, risings)
+add-word c = search needs
 
--- src/lists.rt:18:12
 word-requires : tie.Need-word-requires Inv-loop μ-loop
-word-requires c κs = search (needs, risings)
+word-requires c κs = search needs
 
--- src/lists.rt:18:39
 add-word-2 : tie.Need-add-word-2 Inv-loop μ-loop
-add-word-2 c = search (needs, risings)
+add-word-2 c = search needs
 
--- src/lists.rt:18:39
 add-word-3 : tie.Need-add-word-3 Inv-loop μ-loop
-add-word-3 c = search (needs, risings)
+add-word-3 c = search needs
 
--- src/lists.rt:18:31
 word-requires-2 : tie.Need-word-requires-2 Inv-loop μ-loop
-word-requires-2 c κs = search (needs, risings)
+word-requires-2 c κs = search needs
 
--- src/lists.rt:19:13
 returns : tie.Need-returns Inv-loop μ-loop
 returns c = search (needs, risings)
 
--- src/lists.rt:21:9
 add-i : tie.Need-add-i Inv-loop μ-loop
-add-i c = search (needs, risings)
+add-i c = search needs
 
--- src/lists.rt:17:5
 loop-less : tie.Need-loop-less Inv-loop μ-loop
-loop-less c = search (needs, risings)
+loop-less c = search needs
 
--- src/lists.rt:17:5
 loop-again : tie.Need-loop-again Inv-loop μ-loop
 loop-again c = search (needs, risings)
 
--- src/lists.rt:12:1
 returns-2 : tie.Need-returns-2 Inv-loop μ-loop
 returns-2 c = search (needs, risings)
 

@@ -4,12 +4,9 @@ use Prim.Native.Nat.{_≤_, _-_, _+_}
 use mathlib.Core.Path.{_≡_, refl}
 use lib.ListN.{length, take}
 use Rattle.grammar.specs.Words.{words}
-use Rattle.sheet.proofs.Laws.Lists.{row-start, row-more, row-done}
+use Rattle.sheet.proofs.Laws.Lists.{row-more, row-done}
 use Rattle.sheet.proofs.lists.put_row.Statement.{statement}
 use Rattle.sheet.proofs.lists.put_row.Tie as tie
-use Rattle.sheet.proofs.lists.put_row.Reads as reads
-use Rattle.sheet.proofs.lists.put_row.Lts as lts
-use Rattle.sheet.proofs.words.put_word.Reads as put-word-reads
 
 abbrev Inv-loop : tie.InvT-loop
 Inv-loop row n s₀ i₀ s i = (i ≤ n) × (length s ≡ length s₀) × (take i (words s) ≡ take i row)
@@ -17,43 +14,34 @@ Inv-loop row n s₀ i₀ s i = (i ≤ n) × (length s ≡ length s₀) × (take 
 abbrev μ-loop : tie.MeasureT-loop
 μ-loop row n s₀ i₀ s i = n - i
 
--- src/lists.rt:55:5
 loop-holds : tie.Need-loop-holds Inv-loop μ-loop
-loop-holds c = search (needs, row-start, row-more, row-done)
+loop-holds c = search needs
 
--- src/lists.rt:56:24
 mul-put-word : tie.Need-mul-put-word Inv-loop μ-loop
-mul-put-word c = search (needs, row-start, row-more, row-done)
+mul-put-word c = search needs
 
--- src/lists.rt:56:24
 shared-slice-read-put-word : tie.Need-shared-slice-read-put-word Inv-loop μ-loop
-shared-slice-read-put-word c = search (needs, row-start, row-more, row-done)
+shared-slice-read-put-word c = search needs
 
--- src/lists.rt:56:9
 put-word-requires : tie.Need-put-word-requires Inv-loop μ-loop
-put-word-requires c κs = search (needs, row-start, row-more, row-done)
+put-word-requires c κs = search needs
 
--- src/lists.rt:57:9
 add-i : tie.Need-add-i Inv-loop μ-loop
-add-i c = search (needs, row-start, row-more, row-done)
+add-i c = search needs
 
--- src/lists.rt:55:5
 loop-less : tie.Need-loop-less Inv-loop μ-loop
-loop-less c = search (needs, row-start, row-more, row-done)
+loop-less c = search needs
 
--- src/lists.rt:55:5
 loop-again : tie.Need-loop-again Inv-loop μ-loop
 loop-again c =
     let i = c .before .before .before .before .before .before .loop .inv in
     (omega arith, omega arith, row-more _ _ _ _ _ (i .2) (omega arith) (omega arith) refl (c .before .before .put-word .ensures))
 
--- src/lists.rt:50:1
 same-length : tie.Need-same-length Inv-loop μ-loop
-same-length c = search (needs, row-start, row-more, row-done)
+same-length c = search needs
 
--- src/lists.rt:50:1
 returns : tie.Need-returns Inv-loop μ-loop
-returns c = search (needs, row-start, row-more, row-done)
+returns c = search (needs, row-done)
 
 pub put-row-spec : {M : Type 1} → statement M
 put-row-spec =

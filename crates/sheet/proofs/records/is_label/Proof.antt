@@ -2,23 +2,16 @@ use borrow.Author.Tests.{eq-eqb, ne-eqb}
 use borrow.Author.Needs.{needs}
 use Rattle.sheet.proofs.records.is_label.Statement.{statement}
 use Rattle.sheet.proofs.records.is_label.Tie as tie
-use Rattle.sheet.proofs.records.is_label.Reads as reads
-use Rattle.sheet.proofs.records.is_label.Lts as lts
-use Rattle.sheet.proofs.records.is_name.Reads as is-name-reads
 
--- src/records.rt:33:5
 is-name-requires : tie.Need-is-name-requires
 is-name-requires c κs = search needs
 
--- src/records.rt:30:1
 returns : tie.Need-returns
 returns c = simp (← c .before .is-name .ensures, c .if1 .taken)
 
--- src/records.rt:30:1
 returns-2 : tie.Need-returns-2
 returns-2 c = simp (← c .before .before .is-name .ensures, c .before .if1 .left, eq-eqb _ _ (c .if2 .taken))
 
--- src/records.rt:30:1
 returns-3 : tie.Need-returns-3
 returns-3 c = simp (← c .before .before .is-name .ensures, c .before .if1 .left, ne-eqb _ _ (c .if2 .left))
 

@@ -1,14 +1,10 @@
 use borrow.Author.Tests.{le-leb, lt-leb}
 use Rattle.sheet.proofs.records.is_name.Statement.{statement}
 use Rattle.sheet.proofs.records.is_name.Tie as tie
-use Rattle.sheet.proofs.records.is_name.Reads as reads
-use Rattle.sheet.proofs.records.is_name.Lts as lts
 
--- src/records.rt:24:1
 returns : tie.Need-returns
 returns c = simp (le-leb _ _ (c .if1 .taken))
 
--- src/records.rt:24:1
 returns-2 : tie.Need-returns-2
 returns-2 c = simp (lt-leb _ _ (c .if1 .left))
 

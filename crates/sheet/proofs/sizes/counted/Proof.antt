@@ -4,35 +4,25 @@ use Rattle.sheet.proofs.Laws.Sizes.{sort-count}
 use borrow.Author.Needs.{needs}
 use Rattle.sheet.proofs.sizes.counted.Statement.{statement}
 use Rattle.sheet.proofs.sizes.counted.Tie as tie
-use Rattle.sheet.proofs.sizes.counted.Reads as reads
-use Rattle.sheet.proofs.sizes.counted.Lts as lts
-use Rattle.sheet.proofs.ids.collect.Reads as collect-reads
 
--- src/sizes.rt:29:15
 cast-end : tie.Need-cast-end
 cast-end c = search needs
 
--- src/sizes.rt:30:9
 collect-requires : tie.Need-collect-requires
 collect-requires c κs = search needs
 
--- src/sizes.rt:31:9
 collect-requires-2 : tie.Need-collect-requires-2
 collect-requires-2 c κs = search needs
 
--- src/sizes.rt:34:23
 cast-t12 : tie.Need-cast-t12
 cast-t12 c = search needs
 
--- src/sizes.rt:35:19
 cast-t13 : tie.Need-cast-t13
 cast-t13 c = search needs
 
--- src/sizes.rt:24:1
 same-length : tie.Need-same-length
 same-length c = search needs
 
--- src/sizes.rt:24:1
 returns : tie.Need-returns
 returns c f = record { rules = refl; alternatives = sort-count (c .before .before .before .before .before .before .collect .last .1 .1 .1 .1 .0) (c .before .before .before .before .before .before .collect .ensures) (omega arith) f; elements = sort-count (c .before .before .collect2 .last .1 .1 .1 .1 .0) (c .before .before .collect2 .ensures) (omega arith) f; kept = refl }
 

@@ -5,12 +5,9 @@ use Prim.Native.Nat.{_≤_, _-_, _+_}
 use mathlib.Core.Path.{_≡_}
 use mathlib.Core.List.{_++_}
 use lib.ListN.{length, replicate, drop}
-use borrow.Author.Fill.{fill-none}
 use Rattle.sheet.proofs.Laws.Words.{cleared-more, cleared}
 use Rattle.sheet.proofs.words.clear.Statement.{statement}
 use Rattle.sheet.proofs.words.clear.Tie as tie
-use Rattle.sheet.proofs.words.clear.Reads as reads
-use Rattle.sheet.proofs.words.clear.Lts as lts
 
 abbrev Inv-loop : tie.InvT-loop
 Inv-loop s₀ i₀ s i = (i ≤ length s₀) × (length s ≡ length s₀) × (s ≡ replicate i 0 ++ drop i s₀)
@@ -18,31 +15,24 @@ Inv-loop s₀ i₀ s i = (i ≤ length s₀) × (length s ≡ length s₀) × (s
 abbrev μ-loop : tie.MeasureT-loop
 μ-loop s₀ i₀ s i = length s₀ - i
 
--- src/words.rt:54:5
 loop-holds : tie.Need-loop-holds Inv-loop μ-loop
-loop-holds c = search (needs, fill-none)
+loop-holds c = search needs
 
--- src/words.rt:55:9
 slice-write-s : tie.Need-slice-write-s Inv-loop μ-loop
-slice-write-s c = search (needs, fill-none)
+slice-write-s c = search needs
 
--- src/words.rt:56:9
 add-i : tie.Need-add-i Inv-loop μ-loop
-add-i c = search (needs, fill-none)
+add-i c = search needs
 
--- src/words.rt:54:5
 loop-less : tie.Need-loop-less Inv-loop μ-loop
-loop-less c = search (needs, fill-none)
+loop-less c = search needs
 
--- src/words.rt:54:5
 loop-again : tie.Need-loop-again Inv-loop μ-loop
 loop-again c = (omega arith, simp length-set (c .before .loop .inv .1), cleared-more _ _ _ (omega arith) (c .before .loop .inv .2))
 
--- src/words.rt:50:1
 same-length : tie.Need-same-length Inv-loop μ-loop
-same-length c = search (needs, fill-none)
+same-length c = search needs
 
--- src/words.rt:50:1
 returns : tie.Need-returns Inv-loop μ-loop
 returns c = cleared _ _ _ (c .before .loop .inv .0) (omega arith) (c .before .loop .inv .2)
 

@@ -1,0 +1,90 @@
+#!/usr/bin/env python3
+"""Shows that the laws refuse definitions with one thing wrong.
+
+    wrong_laws.py [--crates DIR] [EDIT...]
+
+Each edit of tests/wrong_laws, in the form of a must-fail edit, is made on a copy of `reference`
+without its table of worked grammars. The copy itself must still check, and `laws` over it must
+not. The exit status is 1 where an edit survives.
+"""
+import argparse
+import re
+import shutil
+import subprocess
+import sys
+from concurrent.futures import ThreadPoolExecutor
+from pathlib import Path
+
+from check_answers import copy_definitions
+
+EDITS = Path(__file__).with_suffix('')
+AT_ONCE = 2
+
+
+class Edit:
+    """What is wrong, the file, what stands there, what is put there."""
+
+    def __init__(self, path):
+        field = dict(re.findall(r'^(#|file:|old:|new:) (.*)$', path.read_text(), re.M))
+        self.name, self.what = path.stem, field['#']
+        self.file, self.old, self.new = field['file:'], field['old:'], field['new:']
+
+    def make(self, crate):
+        path = crate / self.file
+        text = path.read_text()
+        if text.count(self.old) != 1:
+            sys.exit(f'{self.file}: this stands {text.count(self.old)} times: {self.old}')
+        path.write_text(text.replace(self.old, self.new))
+
+
+def room_with(edit, crates, room):
+    """A repository of the three crates with one edit of `reference`."""
+    shutil.rmtree(room, ignore_errors=True)
+    for crate in ('grammar', 'laws'):
+        shutil.copytree(crates / crate, room / 'crates' / crate)
+    copy_definitions(crates / 'reference', room / 'crates/reference')
+    (room / 'crates.txt').write_text('grammar:\nreference: grammar\nlaws: grammar reference\n')
+    edit.make(room / 'crates/reference')
+
+
+def refusal(room):
+    """Where `laws` is refused first; or nothing, and why."""
+    done = subprocess.run(['rt', 'check', 'laws'], cwd=room, capture_output=True, text=True)
+    said = done.stdout + done.stderr
+    if not done.returncode:
+        return None, 'the laws still hold'
+    if not re.search(r'^rt: reference proved', said, re.M):
+        return None, 'the edited definition itself is refused'
+    first = re.search(r'crates/laws/specs/(\S+?\.antt):\d+:\d+: error: `([^`]+)`', said)
+    if not first:
+        return None, f'no refusal is named:\n{said[-1500:]}'
+    return f'{first.group(2)} in {first.group(1)}', None
+
+
+def tried(edit, crates, room):
+    room_with(edit, crates, room)
+    where, why = refusal(room)
+    shutil.rmtree(room, ignore_errors=True)
+    return (f'caught: {edit.what} ({where})', True) if where else (f'NOT REFUSED: {edit.what}: {why}', False)
+
+
+def main():
+    parser = argparse.ArgumentParser(description=__doc__, formatter_class=argparse.RawDescriptionHelpFormatter)
+    parser.add_argument('edits', nargs='*', help='names of edits; all where none is given')
+    parser.add_argument('--crates', default='crates', type=Path)
+    parser.add_argument('--room', default='target/wrong-laws', type=Path)
+    given = parser.parse_args()
+    edits = [Edit(path) for path in sorted(EDITS.glob('*.edit')) if not given.edits or path.stem in given.edits]
+    if not edits:
+        sys.exit('there are no such edits')
+    with ThreadPoolExecutor(AT_ONCE) as pool:
+        results = pool.map(lambda edit: tried(edit, given.crates, given.room / edit.name), edits)
+        survived = 0
+        for line, refused in results:
+            print(line, flush=True)
+            survived += not refused
+    return 1 if survived else 0
+
+
+if __name__ == '__main__':
+    sys.exit(main())
