@@ -108,16 +108,8 @@ fn elements(
     let payload = head.payload;
     let next = put_own(s, sort, at, payload, work, out);
     if kind == 6 {
-        let p = alternatives(
-            s,
-            end,
-            depth - 1,
-            sort,
-            word(s, payload),
-            payload + 1,
-            work,
-            next,
-        );
+        let count = word(s, payload);
+        let p = alternatives(s, end, depth - 1, sort, count, payload + 1, work, next);
         let there = p.at;
         let written = p.out;
         return elements(s, end, depth, sort, n - 1, there, work, written);

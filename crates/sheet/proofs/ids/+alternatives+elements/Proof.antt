@@ -85,8 +85,8 @@ pub +alternatives+elements-spec : {M : Type 1} → statement M
     (λ c. search collected-none)
     (λ c κs. ((search needs, search needs, search elements-room), search first-found))
     (λ c κs. search needs)
-    (λ c. search (block-depth, first-found))
     (λ c κs. search needs)
+    (λ c. search (block-depth, first-found))
     (λ c. search needs)
     (λ c κs.
     let f = first-found (c .before .before .before .before .before .before .before .before .before .before .before .pre .1 .1) (c .before .before .before .before .before .before .before .before .if1 .left) in
