@@ -12,6 +12,7 @@ import re
 import shutil
 import subprocess
 import sys
+import threading
 from concurrent.futures import ThreadPoolExecutor
 from pathlib import Path
 
@@ -37,14 +38,28 @@ class Edit:
         path.write_text(text.replace(self.old, self.new))
 
 
-def room_with(edit, crates, room):
-    """A repository of the three crates with one edit of `reference`."""
-    shutil.rmtree(room, ignore_errors=True)
-    for crate in ('grammar', 'laws'):
-        shutil.copytree(crates / crate, room / 'crates' / crate)
-    copy_definitions(crates / 'reference', room / 'crates/reference')
-    (room / 'crates.txt').write_text('grammar:\nreference: grammar\nlaws: grammar reference\n')
-    edit.make(room / 'crates/reference')
+class Rooms:
+    """A scratch repository of the three crates for each thread, so that `grammar` is proved once in each."""
+
+    def __init__(self, crates, place):
+        self.crates, self.place, self.own = crates, place, threading.local()
+
+    def room(self):
+        if not hasattr(self.own, 'room'):
+            room = self.place / str(threading.get_ident())
+            for crate in ('grammar', 'laws'):
+                shutil.copytree(self.crates / crate, room / 'crates' / crate)
+            (room / 'crates.txt').write_text('grammar:\nreference: grammar\nlaws: grammar reference\n')
+            self.own.room = room
+        return self.own.room
+
+    def tried(self, edit):
+        """A line to print, and whether the edit was refused."""
+        room = self.room()
+        copy_definitions(self.crates / 'reference', room / 'crates/reference')
+        edit.make(room / 'crates/reference')
+        where, why = refusal(room)
+        return (f'caught: {edit.what} ({where})', True) if where else (f'NOT REFUSED: {edit.what}: {why}', False)
 
 
 def refusal(room):
@@ -61,13 +76,6 @@ def refusal(room):
     return f'{first.group(2)} in {first.group(1)}', None
 
 
-def tried(edit, crates, room):
-    room_with(edit, crates, room)
-    where, why = refusal(room)
-    shutil.rmtree(room, ignore_errors=True)
-    return (f'caught: {edit.what} ({where})', True) if where else (f'NOT REFUSED: {edit.what}: {why}', False)
-
-
 def main():
     parser = argparse.ArgumentParser(description=__doc__, formatter_class=argparse.RawDescriptionHelpFormatter)
     parser.add_argument('edits', nargs='*', help='names of edits; all where none is given')
@@ -77,10 +85,10 @@ def main():
     edits = [Edit(path) for path in sorted(EDITS.glob('*.edit')) if not given.edits or path.stem in given.edits]
     if not edits:
         sys.exit('there are no such edits')
+    shutil.rmtree(given.room, ignore_errors=True)
+    rooms, survived = Rooms(given.crates, given.room), 0
     with ThreadPoolExecutor(AT_ONCE) as pool:
-        results = pool.map(lambda edit: tried(edit, given.crates, given.room / edit.name), edits)
-        survived = 0
-        for line, refused in results:
+        for line, refused in pool.map(rooms.tried, edits):
             print(line, flush=True)
             survived += not refused
     return 1 if survived else 0

@@ -1,14 +1,15 @@
 // The sheet reader: any bytes are refused by document 01's number, or known to be one tree's encoding.
+// Words, and the walks over a sheet that was read, are open to the crates above.
 mod answer;
 mod distinct;
-mod ids;
+pub mod ids;
 mod judge;
 mod lists;
 mod records;
 mod rules;
 mod sizes;
-mod walk;
-mod words;
+pub mod walk;
+pub mod words;
 
 pub use answer::Answer;
 pub use answer::Parts;
@@ -24,7 +25,6 @@ use sizes::refusal_numbers;
 use sizes::sheet_numbers;
 use words::clear;
 ghost use mathlib.Core.Path.{_≡_};
-ghost use lib.ListN.{length};
 ghost use Rattle.sheet.specs.Answer.{ReadAs, readLent, workAfter};
 ghost use Rattle.sheet.specs.Sizes.{summaryOf, numbersOf, idsOf, namesOf, placesOf};
 

@@ -1,3 +1,4 @@
+-- `sheet::read` meets its contract.
 use mathlib.Core.Path.{_∙_, ap}
 use lib.ListN.{replicate}
 use Rattle.sheet.proofs.Laws.Answer.{read-refused, too-short, too-long, no-words, good-length, lent-one, after-one, lent-two, after-two, lent-all, after-all}

@@ -1,3 +1,4 @@
+-- `sheet::read_sheet` meets its contract.
 use mathlib.Core.Path.{_∙_}
 use native.Mathlib.Omega.{arith}
 use Rattle.sheet.proofs.Laws.Sizes.{summed, numbers-refused, numbers-sheet, ids-out, names-out, places-out, work-cleared}

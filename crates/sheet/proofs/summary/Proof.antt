@@ -1,3 +1,4 @@
+-- `sheet::summary` meets its contract.
 use mathlib.Core.Path.{_∙_}
 use native.Mathlib.Omega.{arith}
 use Rattle.sheet.proofs.Laws.Sizes.{summed, summary-refused, summary-sheet, work-cleared}

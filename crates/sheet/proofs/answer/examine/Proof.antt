@@ -1,3 +1,4 @@
+-- `sheet::answer::examine` meets its contract.
 use native.Mathlib.Omega.{arith}
 use mathlib.Core.Path.{sym, _∙_, refl}
 use borrow.Author.Tests.{not-true, not-false}

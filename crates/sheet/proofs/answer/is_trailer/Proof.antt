@@ -1,3 +1,4 @@
+-- `sheet::answer::is_trailer` meets its contract.
 use borrow.Author.Needs.{needs}
 use Rattle.sheet.proofs.answer.is_trailer.Statement.{statement}
 use Rattle.sheet.proofs.answer.is_trailer.Tie as tie

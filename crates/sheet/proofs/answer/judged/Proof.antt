@@ -1,3 +1,4 @@
+-- `sheet::answer::judged` meets its contract.
 use mathlib.Core.Path.{sym, _∙_}
 use borrow.Author.Tests.{not-true, not-false}
 use Rattle.sheet.proofs.Laws.Answer.{read-refused, not-distinct, not-below, is-sheet, below-same, here, sheet-read}

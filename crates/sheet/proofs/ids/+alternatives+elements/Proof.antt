@@ -1,3 +1,4 @@
+-- `ids::alternatives`, `ids::elements` meet their contracts: depth falls, then the items left; what is written are the ids of the trees that stand there.
 use borrow.Author.Needs.{needs}
 use native.Mathlib.Omega.{arith}
 use Prim.Native.Nat.{ℕ, _<_, _+_, _*_, _^_}

@@ -1,3 +1,4 @@
+-- `ids::bodies` meets its contract: the rules left fall; a body is walked as a block is.
 use borrow.Author.Needs.{needs}
 use native.Mathlib.Omega.{arith}
 use Rattle.sheet.proofs.Laws.Collect.{collected-none}

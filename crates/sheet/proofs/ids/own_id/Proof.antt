@@ -1,3 +1,4 @@
+-- `sheet::ids::own_id` meets its contract.
 use borrow.Author.Needs.{needs}
 use Rattle.sheet.proofs.ids.own_id.Statement.{statement}
 use Rattle.sheet.proofs.ids.own_id.Tie as tie

@@ -1,3 +1,4 @@
+-- `sheet::ids::push` meets its contract.
 use borrow.Author.Needs.{needs}
 use Rattle.sheet.proofs.ids.push.Statement.{statement}
 use Rattle.sheet.proofs.ids.push.Tie as tie

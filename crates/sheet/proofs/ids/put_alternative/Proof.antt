@@ -1,3 +1,4 @@
+-- `sheet::ids::put_alternative` meets its contract.
 use borrow.Author.Needs.{needs}
 use Rattle.sheet.proofs.ids.put_alternative.Statement.{statement}
 use Rattle.sheet.proofs.ids.put_alternative.Tie as tie

@@ -1,3 +1,4 @@
+-- `sheet::ids::put_own` meets its contract.
 use borrow.Author.Needs.{needs}
 use Rattle.sheet.proofs.ids.put_own.Statement.{statement}
 use Rattle.sheet.proofs.ids.put_own.Tie as tie

@@ -1,3 +1,4 @@
+-- `sheet::judge::all_below` meets its contract.
 use borrow.Author.Tests.{not-true, not-false}
 use Rattle.grammar.specs.Ids.{isBelow}
 use borrow.Author.Needs.{needs}

@@ -1,3 +1,4 @@
+-- `sheet::judge::all_distinct` meets its contract.
 use native.Mathlib.Omega.{arith}
 use borrow.Author.Tests.{not-true, not-false}
 use Rattle.grammar.specs.Ids.{isDistinct}

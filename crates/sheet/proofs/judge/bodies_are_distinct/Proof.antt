@@ -1,3 +1,4 @@
+-- `sheet::judge::bodies_are_distinct` meets its contract.
 use borrow.Author.Tests.{not-true, not-false}
 use borrow.Author.Needs.{needs}
 use Rattle.sheet.proofs.judge.bodies_are_distinct.Statement.{statement}

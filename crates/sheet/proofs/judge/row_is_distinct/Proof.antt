@@ -1,3 +1,4 @@
+-- `sheet::judge::row_is_distinct` meets its contract.
 use mathlib.Core.Path.{_∙_, ap}
 use Rattle.grammar.specs.Ids.{distinct}
 use borrow.Author.Needs.{needs}

@@ -1,3 +1,4 @@
+-- `sheet::lists::is_below` meets its contract: whether all are below is whether those from `i` on are.
 use borrow.Author.Needs.{needs}
 use Prim.Native.Nat.{_≤_, _-_, _+_}
 use mathlib.Core.Path.{_≡_}

@@ -1,3 +1,4 @@
+-- `sheet::lists::is_distinct` meets its contract.
 use Rattle.sheet.proofs.Laws.Lists.{judged-distinct, words-range}
 use borrow.Author.Needs.{needs}
 use Rattle.sheet.proofs.lists.is_distinct.Statement.{statement}

@@ -1,3 +1,4 @@
+-- `sheet::lists::is_rising` meets its contract: whether all rise is whether those from `i` on rise.
 use borrow.Author.Needs.{needs}
 use Prim.Native.Nat.{_≤_, _-_, _+_}
 use mathlib.Core.Path.{_≡_}

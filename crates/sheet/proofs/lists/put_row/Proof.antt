@@ -1,3 +1,4 @@
+-- `sheet::lists::put_row` meets its contract: the first `i` words are the first `i` numbers of the row.
 use native.Mathlib.Omega.{arith}
 use borrow.Author.Needs.{needs}
 use Prim.Native.Nat.{_≤_, _-_, _+_}

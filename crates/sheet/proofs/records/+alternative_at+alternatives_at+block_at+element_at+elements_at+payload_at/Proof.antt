@@ -1,3 +1,4 @@
+-- `records::alternative_at`, `records::alternatives_at`, `records::block_at`, `records::element_at`, `records::elements_at`, `records::payload_at` meet their contracts: depth falls, then the kind of record, then the items left.
 use borrow.Author.Needs.{needs}
 use Prim.Native.Nat.{ℕ, _<_, _+_, _*_, _^_}
 use borrow.Fn.Kinds.{In}

@@ -1,3 +1,4 @@
+-- `sheet::records::body_at` meets its contract.
 use borrow.Author.Needs.{needs}
 use Rattle.sheet.proofs.records.body_at.Statement.{statement}
 use Rattle.sheet.proofs.records.body_at.Tie as tie

@@ -1,3 +1,4 @@
+-- `sheet::records::call_at` meets its contract.
 use borrow.Author.Needs.{needs}
 use Rattle.sheet.proofs.records.call_at.Statement.{statement}
 use Rattle.sheet.proofs.records.call_at.Tie as tie

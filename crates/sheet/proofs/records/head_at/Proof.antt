@@ -1,3 +1,4 @@
+-- `sheet::records::head_at` meets its contract.
 use borrow.Author.Needs.{needs}
 use Rattle.sheet.proofs.records.head_at.Statement.{statement}
 use Rattle.sheet.proofs.records.head_at.Tie as tie

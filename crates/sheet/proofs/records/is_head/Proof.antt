@@ -1,3 +1,4 @@
+-- `sheet::records::is_head` meets its contract.
 use borrow.Author.Needs.{needs}
 use Rattle.sheet.proofs.records.is_head.Statement.{statement}
 use Rattle.sheet.proofs.records.is_head.Tie as tie

@@ -1,3 +1,4 @@
+-- `sheet::records::is_label` meets its contract.
 use borrow.Author.Tests.{eq-eqb, ne-eqb}
 use borrow.Author.Needs.{needs}
 use Rattle.sheet.proofs.records.is_label.Statement.{statement}

@@ -1,3 +1,4 @@
+-- `sheet::records::is_name` meets its contract.
 use borrow.Author.Tests.{le-leb, lt-leb}
 use Rattle.sheet.proofs.records.is_name.Statement.{statement}
 use Rattle.sheet.proofs.records.is_name.Tie as tie

@@ -1,3 +1,4 @@
+-- `sheet::records::leaf_at` meets its contract.
 use borrow.Author.Needs.{needs}
 use Rattle.sheet.proofs.records.leaf_at.Statement.{statement}
 use Rattle.sheet.proofs.records.leaf_at.Tie as tie

@@ -1,3 +1,4 @@
+-- `sheet::records::option_at` meets its contract.
 use borrow.Author.Needs.{needs}
 use Rattle.sheet.proofs.records.option_at.Statement.{statement}
 use Rattle.sheet.proofs.records.option_at.Tie as tie

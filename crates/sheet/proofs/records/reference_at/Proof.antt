@@ -1,3 +1,4 @@
+-- `sheet::records::reference_at` meets its contract.
 use borrow.Author.Needs.{needs}
 use Rattle.sheet.proofs.records.reference_at.Statement.{statement}
 use Rattle.sheet.proofs.records.reference_at.Tie as tie

@@ -1,3 +1,4 @@
+-- `sheet::records::rule_at` meets its contract.
 use borrow.Author.Needs.{needs}
 use Rattle.sheet.proofs.records.rule_at.Statement.{statement}
 use Rattle.sheet.proofs.records.rule_at.Tie as tie

@@ -1,3 +1,4 @@
+-- `sheet::records::token_at` meets its contract.
 use borrow.Author.Needs.{needs}
 use Rattle.sheet.proofs.records.token_at.Statement.{statement}
 use Rattle.sheet.proofs.records.token_at.Tie as tie

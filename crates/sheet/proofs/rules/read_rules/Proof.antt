@@ -1,3 +1,4 @@
+-- `sheet::rules::read_rules` meets its contract: the rules read so far, and what is left to read, are what the definition reads.
 use Prim.Native.Nat.{_-_}
 use borrow.Author.Needs.{needs}
 use Rattle.grammar.specs.Words.{words}

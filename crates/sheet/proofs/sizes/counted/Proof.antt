@@ -1,3 +1,4 @@
+-- `sheet::sizes::counted` meets its contract.
 use native.Mathlib.Omega.{arith}
 use mathlib.Core.Path.{refl}
 use Rattle.sheet.proofs.Laws.Sizes.{sort-count}

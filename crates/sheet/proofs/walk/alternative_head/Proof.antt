@@ -1,3 +1,4 @@
+-- `sheet::walk::alternative_head` meets its contract.
 use borrow.Author.Needs.{needs}
 use Rattle.sheet.proofs.walk.alternative_head.Statement.{statement}
 use Rattle.sheet.proofs.walk.alternative_head.Tie as tie

@@ -1,3 +1,4 @@
+-- `sheet::walk::element_head` meets its contract.
 use borrow.Author.Needs.{needs}
 use Rattle.sheet.proofs.walk.element_head.Statement.{statement}
 use Rattle.sheet.proofs.walk.element_head.Tie as tie

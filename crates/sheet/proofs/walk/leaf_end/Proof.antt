@@ -1,3 +1,4 @@
+-- `sheet::walk::leaf_end` meets its contract.
 use borrow.Author.Needs.{needs}
 use Rattle.sheet.proofs.walk.leaf_end.Statement.{statement}
 use Rattle.sheet.proofs.walk.leaf_end.Tie as tie

@@ -1,3 +1,4 @@
+-- `sheet::words::clear` meets its contract: zeros stand in front of `i`, and behind it what stood there.
 use native.Mathlib.Omega.{arith}
 use lib.ListN.{length-set}
 use borrow.Author.Needs.{needs}

@@ -1,3 +1,4 @@
+-- `sheet::words::put_bytes` meets its contract.
 use borrow.Author.Needs.{needs}
 use native.Mathlib.Omega.{arith}
 use lib.ListN.{length-set}

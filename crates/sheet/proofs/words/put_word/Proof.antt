@@ -1,3 +1,4 @@
+-- `sheet::words::put_word` meets its contract.
 use borrow.Author.Needs.{needs}
 use Rattle.sheet.proofs.words.put_word.Statement.{statement}
 use Rattle.sheet.proofs.words.put_word.Tie as tie

@@ -1,3 +1,4 @@
+-- `sheet::words::word` meets its contract.
 use borrow.Author.Needs.{needs}
 use Rattle.grammar.specs.Laws.Words.{getD-words}
 use mathlib.Core.Path.{sym, _∙_}

@@ -1,0 +1,5 @@
+-- The Rust's and the textbook's reading of left corners, side by side.
+pub mod Readings
+pub mod Symbols
+pub mod SameRun
+pub mod Sheets

@@ -1,0 +1,281 @@
+-- What is promised of the definition: nullability, left corners, cycles; demand 3 and the bound on plans; origins, other
+-- units, validity. The quoted sentences are document 01's; the proofs are in Proved.
+use Prim.Native.Nat.{ℕ, suc, _^_, _≤_, _<_, zero, _+_}
+use mathlib.Core.Path.{_≡_}
+use mathlib.Core.Logic.{_↔_, _⊎_}
+use mathlib.Core.List.{List, [], _∷_, _++_, map, List·Memᴰ}
+use mathlib.Core.Option.{some, none}
+use mathlib.Core.Bool.{true, false}
+use lib.ListN.{length}
+use Rattle.grammar.specs.Tree.{ElementHead, Element, leaf, block, call, AlternativeOf, Block, RuleOf, Sheet, Leaf, token, terminal, Alternative, Rule, bodyDepth}
+use Rattle.grammar.specs.Words.{words, bytes}
+use Rattle.grammar.specs.Encode.{encode}
+use Rattle.grammar.specs.Ids.{member, distinct}
+use Rattle.grammar.specs.Valid.{all, rising, valid, fits}
+use Rattle.grammar.specs.Reading.{sheet, read}
+use Rattle.grammar.specs.Shape.{Shape, eraseElement, eraseElements, eraseBlock, Shapes, eraseRules, find, Word}
+use Rattle.grammar.specs.Derive.{CanBeEmpty, RuleDerives, isKept, isRemoved}
+use Rattle.grammar.specs.Corners.{Corners, textbook, Corner, Reaches}
+use Rattle.grammar.specs.Laws.Derive.Empty.{AllOf}
+use Rattle.reference.specs.Analysis.{elementNullable, blockIsNullable, nullableRules, grammarOf, leftCorners, blockCorners, leftCornerCycles, Grammar, idsOf}
+use Rattle.reference.specs.Substitute.{Limits, Planned, Substituted, decided, declined, budget, step, substitute}
+use Rattle.reference.specs.Apply.{Entry, Node, Origin, Origins, origins, provenance}
+use Rattle.reference.specs.Run.{answerTo, answer, areLent, filled, outcome, innerDepth, Stage, noPlan, findPlan, eliminateInUnit, eliminateMutualLeftRecursion, sheetAfter}
+use Rattle.grammar.specs.Laws.Derive.Removal.{EachCall}
+use Rattle.reference.specs.Walks.{isOptional}
+
+-- 1. "What derives the empty string can be empty." The definition's tests, in the grammar of some rules, are this.
+pub record EmptyDerivation (d : ℕ) (rs : List (RuleOf (Block d))) : Type 0 where
+  pub ofRule : (i : ℕ) → (member i (nullableRules d rs) ≡ true) ↔ RuleDerives d rs i []
+  pub ofElement : (k : ℕ) (e : Element (Block k))
+      → (elementNullable (grammarOf d rs) (blockIsNullable (grammarOf d rs) k) e ≡ true) ↔ CanBeEmpty (eraseRules d rs) (eraseElement (eraseBlock k) e)
+  pub ofAlternative : (k : ℕ) (es : List (Element (Block k)))
+      → (all (elementNullable (grammarOf d rs) (blockIsNullable (grammarOf d rs) k)) es ≡ true) ↔ CanBeEmpty (eraseRules d rs) (eraseElements (eraseBlock k) es)
+  pub ofBlock : (k : ℕ) (b : Block k) → (blockIsNullable (grammarOf d rs) k b ≡ true) ↔ CanBeEmpty (eraseRules d rs) (eraseBlock k b)
+
+-- 2. The rule with an id is a left corner of a shape, by a reading.
+pub record CornerRule (c : Corners) (d : ℕ) (rs : List (RuleOf (Block d))) (s : Shape) (i : ℕ) : Type 0 where
+  pub rule : RuleOf (Block d)
+  pub there : List·Memᴰ rule rs
+  pub id : rule .id ≡ i
+  pub corner : Corner c (eraseRules d rs) s (rule .name)
+
+-- collectLeftCornerCalls lists the left corners and nothing else, in each reading.
+pub record LeftCornersListed (c : Corners) (d : ℕ) (rs : List (RuleOf (Block d))) : Type 0 where
+  pub ofAlternative : (k : ℕ) (es : List (Element (Block k))) (i : ℕ)
+      → (member i (leftCorners c (grammarOf d rs) k es) ≡ true) ↔ CornerRule c d rs (eraseElements (eraseBlock k) es) i
+  pub ofBlock : (k : ℕ) (b : Block k) (i : ℕ) → (member i (blockCorners c (grammarOf d rs) k b) ≡ true) ↔ CornerRule c d rs (eraseBlock k b) i
+
+-- "Its left corners are found where every element in front can be empty: the rule called there, or a left corner of an
+-- alternative of the block there."
+pub data LeftCorner (G : Shapes) : (d : ℕ) → List (Element (Block d)) → ℕ → Type 0 where
+  called : {d : ℕ} {es : List (Element (Block d))} (front rest : List (Element (Block d))) (h : ElementHead) {n : ℕ} (a : ℕ) {b : Shape}
+      → front ++ (leaf h (call n a) ∷ rest) ≡ es → AllOf (λ e. CanBeEmpty G (eraseElement (eraseBlock d) e)) front → find G n ≡ some b
+      → LeftCorner G d es n
+  inside : {d : ℕ} {es : List (Element (Block (suc d)))} (front rest : List (Element (Block (suc d)))) (h : ElementHead) (b : Block (suc d))
+      {a : AlternativeOf (Block d)} {n : ℕ}
+      → front ++ (block h b ∷ rest) ≡ es → AllOf (λ e. CanBeEmpty G (eraseElement (eraseBlock (suc d)) e)) front → List·Memᴰ a b
+      → LeftCorner G d (a .elements) n → LeftCorner G (suc d) es n
+
+-- The textbook reading is this, word for word.
+abbrev pub TextbookCorners : Shapes → Type 0
+TextbookCorners G = (d : ℕ) (es : List (Element (Block d))) (n : ℕ) → Corner textbook G (eraseElements (eraseBlock d) es) n ↔ LeftCorner G d es n
+
+-- 3. The rule with one id reaches the rule with another by a path of left corners.
+pub record RuleReaches (c : Corners) (d : ℕ) (rs : List (RuleOf (Block d))) (i j : ℕ) : Type 0 where
+  pub source : RuleOf (Block d)
+  pub source-there : List·Memᴰ source rs
+  pub source-id : source .id ≡ i
+  pub goal : RuleOf (Block d)
+  pub goal-there : List·Memᴰ goal rs
+  pub goal-id : goal .id ≡ j
+  pub path : Reaches c (eraseRules d rs) (source .name) (goal .name)
+
+-- "More than one rule, each reaching each", its ids rising; and with a rule all that reach it and are reached.
+pub record IsLargest (c : Corners) (d : ℕ) (rs : List (RuleOf (Block d))) (cycle : List ℕ) : Type 0 where
+  pub several : 2 ≤ length cycle
+  pub rises : rising cycle ≡ true
+  pub joined : (i j : ℕ) → member i cycle ≡ true → member j cycle ≡ true → RuleReaches c d rs i j
+  pub largest : (i j : ℕ) → member i cycle ≡ true → RuleReaches c d rs i j → RuleReaches c d rs j i → member j cycle ≡ true
+
+-- The least id of a cycle is its first.
+abbrev pub least : List ℕ → ℕ
+least [] = 0
+least (x ∷ xs) = x
+
+-- "Cycles are the largest sets of more than one rule, each reaching each; sorted by least id." Least ids rise, so no cycle
+-- is listed twice.
+pub record CyclesListed (c : Corners) (d : ℕ) (rs : List (RuleOf (Block d))) : Type 0 where
+  pub listed : (cycle : List ℕ) → List·Memᴰ cycle (leftCornerCycles c (grammarOf d rs) d rs) ↔ IsLargest c d rs cycle
+  pub sorted : rising (map least (leftCornerCycles c (grammarOf d rs) d rs)) ≡ true
+  -- No larger set of rules that reach each other holds a cycle.
+  pub noLarger : (cycle wider : List ℕ) → List·Memᴰ cycle (leftCornerCycles c (grammarOf d rs) d rs)
+      → ((i : ℕ) → member i cycle ≡ true → member i wider ≡ true) → ((i j : ℕ) → member i wider ≡ true → member j wider ≡ true → RuleReaches c d rs i j)
+      → (i : ℕ) → member i wider ≡ true → member i cycle ≡ true
+
+abbrev pub Elements : Type 0
+Elements = List (Element (Block innerDepth))
+
+-- Rules are told apart by their ids and by their names. Nothing more is asked of a sheet here, and a valid one has it.
+pub record Told {B : Type 0} (rs : List (RuleOf B)) : Type 0 where
+  pub ids : distinct (idsOf rs) ≡ true
+  pub names : distinct (map (λ r. r .name) rs) ≡ true
+
+-- 4. "A rule handed in is kept if a rule of the result has its id": every kept rule derives the same token strings before
+-- and after.
+pub record SameStrings (before after : List Rule) : Type 0 where
+  pub derives : (i : ℕ) → isKept before after i ≡ true → (w : Word) → RuleDerives bodyDepth before i w ↔ RuleDerives bodyDepth after i w
+
+-- 5. "Else removed": no kept rule calls a removed one.
+pub record Closed (before after : List Rule) : Type 0 where
+  pub uncalled : (r : Rule) → List·Memᴰ r before → isRemoved before after (r .id) ≡ true → (q : Rule) → List·Memᴰ q after
+      → EachCall (λ n. n ≡ r .name → ⊥) (eraseBlock bodyDepth (q .body))
+
+-- 6. "An alternative starts with its first outermost element and goes on with all those after it, taken together": it starts
+-- with the plain call of a rule, without arguments, and goes on with something that cannot be empty in a grammar.
+pub record Continues (rules : List Rule) (name : ℕ) (es : Elements) : Type 0 where
+  pub head : ElementHead
+  pub rest : Elements
+  pub starts : es ≡ leaf head (call name 0) ∷ rest
+  pub plain : head .quantifier ≡ 0
+  pub goesOn : CanBeEmpty (eraseRules bodyDepth rules) (eraseElements (eraseBlock innerDepth) rest) → ⊥
+
+-- It has no left corner in a cycle, read in a grammar.
+pub record NoCorner (corners : Corners) (rules : List Rule) (cycle : List ℕ) (es : Elements) : Type 0 where
+  pub none : (q : Rule) → List·Memᴰ q rules → member (q .id) cycle ≡ true
+      → Corner corners (eraseRules bodyDepth rules) (eraseElements (eraseBlock innerDepth) es) (q .name) → ⊥
+
+-- "A symbol is a token, or a call whose name no rule of its grammar has, [..] or a kind 5 element".
+pub data IsSymbol (G : Shapes) : Leaf → Type 0 where
+  is-token : {n : ℕ} → IsSymbol G (token n)
+  is-terminal : IsSymbol G terminal
+  is-unknown : {n a : ℕ} → find G n ≡ none → IsSymbol G (call n a)
+
+-- A property of every leaf of a tree, with its element's head.
+module _ (P : ElementHead → Leaf → Type 0) where
+  abbrev pub OnElement : {B : Type 0} → (B → Type 0) → Element B → Type 0
+  OnElement Q (leaf h l) = P h l
+  OnElement Q (block h b) = Q b
+
+  unfoldable pub OnBlock : (d : ℕ) → Block d → Type 0
+  OnBlock zero b = Unit {0}
+  OnBlock (suc d) as′ = AllOf (λ a. AllOf (OnElement (OnBlock d)) (a .elements)) as′
+
+-- It is no symbol with quantifier 1 to 4.
+abbrev pub NotOptional : Shapes → ElementHead → Leaf → Type 0
+NotOptional G h l = IsSymbol G l → isOptional h ≡ false
+
+-- A grammar without a symbol of quantifier 1 to 4.
+pub record NoOptionalSymbol (rules : List Rule) : Type 0 where
+  pub everywhere : (r : Rule) → List·Memᴰ r rules → OnBlock (NotOptional (eraseRules bodyDepth rules)) bodyDepth (r .body)
+
+-- A left corner as document 01 reads them, with a symbol of quantifier 1 to 4 in front of it.
+pub data PastSymbol (G : Shapes) : (d : ℕ) → List (Element (Block d)) → ℕ → Type 0 where
+  behind-symbol : {d : ℕ} {es : List (Element (Block d))} (front rest : List (Element (Block d))) (h : ElementHead) (l : Leaf) {n : ℕ}
+      → front ++ (leaf h l ∷ rest) ≡ es → AllOf (λ e. CanBeEmpty G (eraseElement (eraseBlock d) e)) front → IsSymbol G l → isOptional h ≡ true
+      → LeftCorner G d rest n → PastSymbol G d es n
+  within-block : {d : ℕ} {es : List (Element (Block (suc d)))} (front rest : List (Element (Block (suc d)))) (h : ElementHead) (b : Block (suc d))
+      {a : AlternativeOf (Block d)} {n : ℕ}
+      → front ++ (block h b ∷ rest) ≡ es → AllOf (λ e. CanBeEmpty G (eraseElement (eraseBlock (suc d)) e)) front → List·Memᴰ a b
+      → PastSymbol G d (a .elements) n → PastSymbol G (suc d) es n
+
+-- By the textbook's left corners, of an alternative of the second sort: none is in the cycle replaced.
+pub record NoLeftCorner (rules : List Rule) (cycle : List ℕ) (es : Elements) : Type 0 where
+  pub none : (q : Rule) → List·Memᴰ q rules → member (q .id) cycle ≡ true → LeftCorner (eraseRules bodyDepth rules) innerDepth es (q .name) → ⊥
+
+-- By the textbook's left corners, but for the Rust's run: none is, or a symbol with quantifier 1 to 4 stands in front of it.
+pub record OnlyPastSymbols (rules : List Rule) (cycle : List ℕ) (es : Elements) : Type 0 where
+  pub past : (q : Rule) → List·Memᴰ q rules → member (q .id) cycle ≡ true → LeftCorner (eraseRules bodyDepth rules) innerDepth es (q .name)
+      → PastSymbol (eraseRules bodyDepth rules) innerDepth es (q .name)
+
+-- A rule joined, as its plan leaves it: every alternative goes on after the rule's plain call, or is of the second sort,
+-- which is handed in, since the readings of left corners part there. Both sorts occur.
+pub record JoinedShape (Without : Elements → Type 0) (rules : List Rule) (hub : ℕ) : Type 0 where
+  pub rule : Rule
+  pub isLeft : List·Memᴰ rule rules
+  pub isHub : rule .id ≡ hub
+  pub every : (a : Alternative) → List·Memᴰ a (rule .body) → Continues rules (rule .name) (a .elements) ⊎ Without (a .elements)
+  pub oneContinues : (a : Alternative) × List·Memᴰ a (rule .body) × Continues rules (rule .name) (a .elements)
+  pub oneWithout : (a : Alternative) × List·Memᴰ a (rule .body) × Without (a .elements)
+
+-- 7. "Cycles later than a plan are those of every grammar from the one it leaves to the result": if the rule joined cannot
+-- be empty, no cycle of a later grammar holds it. Cycles have two rules or more.
+pub record NoLaterCycle (corners : Corners) (t : Stage) (later : List Rule) : Type 0 where
+  pub free : (RuleDerives bodyDepth (t .after .node) (t .plan .hub) [] → ⊥) → (cycle : List ℕ)
+      → List·Memᴰ cycle (leftCornerCycles corners (grammarOf bodyDepth later) bodyDepth later) → member (t .plan .hub) cycle ≡ false
+
+-- "A plan joins its hub and replaces its cycle": of a stage and the grammar that it starts from.
+pub record Joins (corners : Corners) (before : List Rule) (t : Stage) : Type 0 where
+  pub starts : t .before ≡ before
+  pub isCycle : List·Memᴰ (t .cycle) (leftCornerCycles corners (grammarOf bodyDepth before) bodyDepth before)
+  pub inCycle : member (t .plan .hub) (t .cycle) ≡ true
+
+module _ (s : Sheet) where
+  -- The rules that the first stages of a run leave.
+  abbrev pub rulesOf : List Stage → List Rule
+  rulesOf ts = sheetAfter s ts .rules
+
+  -- Demand 3 of a run, given by its stages, and of the second sort of alternative.
+  -- Between any two stages: `front` leads to the first of them, `middle` on to the second.
+  pub record Demand3 (corners : Corners) (Without : List Rule → List ℕ → Elements → Type 0) (stages : List Stage) : Type 0 where
+    pub sameStrings : SameStrings (s .rules) (rulesOf stages)
+    pub sameBetween : (front middle rest : List Stage) → front ++ (middle ++ rest) ≡ stages → SameStrings (rulesOf front) (rulesOf (front ++ middle))
+    pub closed : Closed (s .rules) (rulesOf stages)
+    pub closedBetween : (front middle rest : List Stage) → front ++ (middle ++ rest) ≡ stages → Closed (rulesOf front) (rulesOf (front ++ middle))
+    pub joins : (front : List Stage) (t : Stage) (rest : List Stage) → front ++ (t ∷ rest) ≡ stages → Joins corners (rulesOf front) t
+    pub shape : (t : Stage) → List·Memᴰ t stages → JoinedShape (Without (t .after .node) (t .cycle)) (t .after .node) (t .plan .hub)
+    pub noLaterCycle : (front : List Stage) (t : Stage) (middle rest : List Stage) → front ++ (t ∷ (middle ++ rest)) ≡ stages
+        → NoLaterCycle corners t (rulesOf (front ++ (t ∷ middle)))
+    -- "A rule joined and kept stands in the result as its last plan left it."
+    pub stands : (front : List Stage) (t : Stage) (rest : List Stage) → front ++ (t ∷ rest) ≡ stages
+        → (q : Rule) → List·Memᴰ q (rulesOf stages) → q .id ≡ t .plan .hub → List·Memᴰ q (t .after .node)
+
+  -- 8. "Plans never outnumber rules": each rule is the hub of at most one, and the loop of a parser unit ends because no
+  -- cycle has a plan.
+  pub record Bound (limits : Limits) (corners : Corners) (stages : List Stage) : Type 0 where
+    pub once : distinct (map (λ t. t .plan .hub) stages) ≡ true
+    pub few : length stages ≤ length (s .rules)
+    pub ended : s .kind ≡ 2 → findPlan limits corners (s .preserved) (rulesOf stages) ≡ noPlan
+
+  -- The loop's turns are enough: any more give the same.
+  pub record EnoughTurns (limits : Limits) (corners : Corners) : Type 0 where
+    pub more : s .kind ≡ 2 → (turns : ℕ)
+        → eliminateInUnit limits corners (s .kind) (s .preserved) (turns + suc (length (s .rules))) (s .rules) (s .counters) 0 ≡ eliminateMutualLeftRecursion limits corners s
+
+-- A substitution's fuel is its budget.
+module _ (d : ℕ) (rs : List (RuleOf (Block (suc d)))) (g : Grammar) (cycle : List ℕ) (hub : ℕ) where
+  -- A number of steps, one after the other.
+  pub data Steps : ℕ → List (Planned d) → List (Planned d) → Type 0 where
+    none-left : {ps : List (Planned d)} → Steps 0 ps ps
+    one-more : {n : ℕ} {ps qs ks : List (Planned d)} → step d rs g cycle hub ps ≡ some (decided qs) → Steps n qs ks → Steps (suc n) ps ks
+
+  -- It ends because no work is left. "The step beyond the budget declines": it declines so after exactly as many steps as
+  -- the budget has, with work left.
+  pub record FuelIsBudget : Type 0 where
+    pub finished : (limits : Limits) (left made : ℕ) (ps : List (Planned d)) (m : Substituted d) → substitute d rs g cycle hub limits left made ps ≡ decided m
+        → (n : ℕ) × Steps n ps (m .alternatives) × (step d rs g cycle hub (m .alternatives) ≡ none) × (made + n ≡ m .steps) × (n ≤ left)
+    pub spent : (limits : Limits) (left made : ℕ) (ps : List (Planned d)) → substitute d rs g cycle hub limits left made ps ≡ declined budget
+        → (qs : List (Planned d)) × Steps left ps qs × (step d rs g cycle hub qs ≡ none → ⊥)
+
+-- 9. The node that an entry of the trail is about, its owner, and the origin that it records.
+abbrev pub nodeOf : Entry → Node
+nodeOf e = record { kind = e .kind; id = e .id }
+
+abbrev pub ownerOf : Entry → Node
+ownerOf e = record { kind = e .kind; id = e .owner }
+
+abbrev pub originOf : Entry → Origin
+originOf e = record { reason = e .reason; owner = ownerOf e }
+
+-- "An element's list in the Rust is its owner's list, then its own entry; so for all of reason 2." For reason 1 it is the
+-- entry, once, however often it was recorded.
+pub record Traced (index : List Origins) (e : Entry) : Type 0 where
+  pub copied : e .reason ≡ 2 → origins index (nodeOf e) ≡ origins index (ownerOf e) ++ (originOf e ∷ [])
+  pub bounded : e .reason ≡ 1 → origins index (nodeOf e) ≡ originOf e ∷ []
+
+-- So for every entry, and no other node has an origin.
+pub record OriginsTold (trail : List Entry) : Type 0 where
+  pub recorded : (e : Entry) → List·Memᴰ e trail → Traced (provenance trail) e
+  pub others : (n : Node) → ((e : Entry) → List·Memᴰ e trail → nodeOf e ≡ n → ⊥) → origins (provenance trail) n ≡ []
+
+-- 10. "Lexer and combined units have no plans": they come back word for word, byte for byte.
+pub record ComesBack (limits : Limits) (c : Corners) (bs : List ℕ) : Type 0 where
+  pub answered : answerTo limits c bs ≡ answer 0 0 (words bs) []
+  pub whole : (result trail work : List ℕ) → areLent result trail work ≡ true
+      → outcome limits c bs result trail work
+      ≡ record { number = 0; plans = 0; steps = 0; resultLength = length bs; trailLength = 0; result = filled bs result; trail = filled [] trail; work = filled [] work }
+
+-- 11. A valid tree that fits a sheet: the reader accepts its encoding and finds it again.
+pub record ReadsBack (t : Sheet) : Type 0 where
+  pub isValid : valid t ≡ true
+  pub isFitting : fits t ≡ true
+  pub found : read (bytes (encode t)) ≡ sheet t
+
+-- The words of an answer: such a tree's, and a trail that has room. Refusal 9 excludes "a trail over 4,096 entries", of 4
+-- words each.
+pub record GoodAnswer (result trail : List ℕ) : Type 0 where
+  pub tree : Sheet
+  pub isEncoding : encode tree ≡ result
+  pub readsBack : ReadsBack tree
+  pub short : length trail ≤ 16384
+  pub areWords : (w : ℕ) → List·Memᴰ w trail → w < 2 ^ 32

@@ -1,0 +1,9 @@
+pub mod Demands
+pub mod Lists
+pub mod Analysis
+pub mod Planning
+pub mod Running
+pub mod BothReadings
+pub mod Validity
+pub mod Provenance
+pub mod Proved

@@ -1,0 +1,205 @@
+-- Demand 3 and the bound on plans, of every sheet that is not refused.
+use Prim.Native.Nat.{ℕ, zero, suc, _+_, _≤_}
+use mathlib.Core.Path.{_≡_, refl, sym, ap, _∙_, subst, subst₂}
+use mathlib.Core.Logic.{⊎-elim}
+use mathlib.Core.List.{List, [], _∷_, _++_, map, append-nil, List·Memᴰ, List·Memᴰ·head, List·Memᴰ·tail, List·Memᴰ·not-nil, List·Memᴰ·cases-cons}
+use mathlib.Core.Bool.{true, false, not}
+use native.Mathlib.Nat.{zero-add, suc-add}
+use native.Mathlib.Omega.{arith}
+use lib.ListN.{length, length-map}
+use lib.Dec.{eqb}
+use borrow.Author.Tests.{not-true, eqb-true, eqb-false, eq-eqb}
+use Rattle.grammar.specs.Tree.{Rule, bodyDepth, Counters, Sheet}
+use Rattle.grammar.specs.Ids.{member, distinct, ruleIds}
+use Rattle.grammar.specs.Corners.{Corners}
+use Rattle.grammar.specs.Laws.Parse.{left-true, right-true, either}
+use Rattle.reference.specs.Substitute.{Limits}
+use Rattle.reference.specs.Apply.{applyPlan}
+use Rattle.reference.specs.Run.{innerDepth, Stage, ended, Search, noPlan, planned, tooLarge, preceded, findPlan, refusalOf, eliminateInUnit, eliminateMutualLeftRecursion}
+use Rattle.laws.specs.Demands.{Told, SameStrings, Closed, NoCorner, NoLaterCycle, Joins, rulesOf, Demand3, Bound, EnoughTurns}
+use Rattle.laws.specs.Lists.Lookup.{not-in}
+use Rattle.laws.specs.Running.Leaves.{Leaves, leaves-derives}
+use Rattle.laws.specs.Running.Stages.{rulesAfter, sheet-after, rules-append, stage-cycle, Happened, Chain, next, chain-leaves, chain-front, chain-behind, Rest, applying, turn, turns-once, run-ends, sheet-ends}
+use Rattle.laws.specs.Running.OneStage.{stage-shape}
+use Rattle.laws.specs.Running.Later.{hub-in-cycle, no-later}
+use Rattle.laws.specs.Running.Once.{follows-all, follows-here, hubs-distinct, hubs-rules}
+
+-- Numbers that differ and stand in a list are no more than it has.
+taken : ℕ → List ℕ → List ℕ
+taken x [] = []
+taken x (y ∷ ys) = elim (eqb x y) [ true ↦ ys | false ↦ y ∷ taken x ys ]
+
+taken-length : (x : ℕ) (ys : List ℕ) → List·Memᴰ x ys → suc (length (taken x ys)) ≡ length ys
+unfolding taken
+taken-length x [] m = absurd (List·Memᴰ·not-nil m)
+taken-length x (y ∷ ys) m =
+    either (eqb x y)
+    (λ t. rw (t, taken))
+    (λ f. rw (f, taken) (ap suc (taken-length x ys (⊎-elim (λ e. absurd (eqb-false x y f e)) (λ n. n) (List·Memᴰ·cases-cons m)))))
+
+taken-other : (x : ℕ) {z : ℕ} (ys : List ℕ) → List·Memᴰ z ys → (z ≡ x → ⊥) → List·Memᴰ z (taken x ys)
+unfolding taken
+taken-other x [] m ne = absurd (List·Memᴰ·not-nil m)
+taken-other x (y ∷ ys) m ne =
+    either (eqb x y)
+    (λ t. rw (t, taken) (⊎-elim (λ e. absurd (ne (e ∙ sym (eqb-true x y t)))) (λ n. n) (List·Memᴰ·cases-cons m)))
+    (λ f. rw (f, taken) (⊎-elim List·Memᴰ·head (λ n. List·Memᴰ·tail (taken-other x ys n ne)) (List·Memᴰ·cases-cons m)))
+
+no-more : (xs ys : List ℕ) → distinct xs ≡ true → ((x : ℕ) → List·Memᴰ x xs → List·Memᴰ x ys) → length xs ≤ length ys
+unfolding distinct
+no-more [] ys t h = omega arith
+no-more (x ∷ xs) ys t h =
+    let fresh = not-true (member x xs) (left-true (not (member x xs)) (distinct xs) t) in
+    let ih = no-more xs (taken x ys) (right-true (not (member x xs)) (distinct xs) t) (λ z m. taken-other x ys (h z (List·Memᴰ·tail m)) (λ e. not-in x xs fresh (subst (λ y. List·Memᴰ y xs) e m))) in
+    let l = taken-length x ys (h x (List·Memᴰ·head refl)) in
+    omega arith
+
+-- Stages never outnumber rules.
+chain-few : (limits : Limits) (corners : Corners) (preserved : List ℕ) {rs : List Rule} {ts : List Stage} → Told rs → Chain limits corners preserved rs ts
+    → length ts ≤ length rs
+chain-few limits corners preserved {rs} {ts} k c =
+    subst₂ _≤_ (length-map ts (λ t. t .plan .hub)) (length-map rs (λ r. r .id))
+    (no-more (map (λ t. t .plan .hub) ts) (ruleIds rs) (hubs-distinct limits corners preserved k c) (λ i m. hubs-rules limits corners preserved k c m))
+
+-- One turn more changes nothing, unless the turns ran out.
+module _ (limits : Limits) (corners : Corners) (kind : ℕ) (preserved : List ℕ) where
+  turn-more : (turns : ℕ) (rs : List Rule) (c : Counters) (recorded : ℕ)
+      → ((ts : List Stage) → eliminateInUnit limits corners kind preserved turns rs c recorded ≡ ended ts → length ts ≡ turns → ⊥)
+      → eliminateInUnit limits corners kind preserved (suc turns) rs c recorded ≡ eliminateInUnit limits corners kind preserved turns rs c recorded
+  unfolding eliminateInUnit
+  turn-more zero rs c recorded h = absurd (h [] refl refl)
+  turn-more (suc turns) rs c recorded h =
+      turns-once limits corners kind preserved (suc turns) rs c recorded
+      ∙ go (findPlan limits corners preserved rs) (λ ts e. h ts (turns-once limits corners kind preserved turns rs c recorded ∙ e)) (turn-more turns)
+      ∙ sym (turns-once limits corners kind preserved turns rs c recorded)
+    where
+      rest : ℕ → Rest limits corners kind preserved
+      rest n = eliminateInUnit limits corners kind preserved n
+
+      applied : (t : Stage) (n : ℕ) → ((ts : List Stage) → applying limits corners kind preserved (rest turns) t recorded n ≡ ended ts → length ts ≡ suc turns → ⊥)
+          → ((rs : List Rule) (c : Counters) (recorded : ℕ) → ((ts : List Stage) → rest turns rs c recorded ≡ ended ts → length ts ≡ turns → ⊥) → rest (suc turns) rs c recorded ≡ rest turns rs c recorded)
+          → applying limits corners kind preserved (rest (suc turns)) t recorded n ≡ applying limits corners kind preserved (rest turns) t recorded n
+      applied t zero h ih =
+          ap (preceded t) (ih (t .after .node) (t .after .counters) (recorded + length (t .after .entries)) (λ ts e l. h (t ∷ ts) (ap (preceded t) e) (ap suc l)))
+      applied t (suc n) h ih = refl
+
+      go : (o : Search) → ((ts : List Stage) → turn limits corners kind preserved (rest turns) rs c recorded o ≡ ended ts → length ts ≡ suc turns → ⊥)
+          → ((rs : List Rule) (c : Counters) (recorded : ℕ) → ((ts : List Stage) → rest turns rs c recorded ≡ ended ts → length ts ≡ turns → ⊥) → rest (suc turns) rs c recorded ≡ rest turns rs c recorded)
+          → turn limits corners kind preserved (rest (suc turns)) rs c recorded o ≡ turn limits corners kind preserved (rest turns) rs c recorded o
+      go noPlan h ih = refl
+      go (planned cycle plan) h ih =
+          applied (record { before = rs; cycle = cycle; plan = plan; after = applyPlan innerDepth rs plan c }) (refusalOf kind preserved (applyPlan innerDepth rs plan c) recorded) h ih
+      go tooLarge h ih = refl
+
+  turns-more : (more : ℕ) (rs : List Rule) → Told rs → (c : Counters) (recorded : ℕ)
+      → eliminateInUnit limits corners kind preserved (more + suc (length rs)) rs c recorded ≡ eliminateInUnit limits corners kind preserved (suc (length rs)) rs c recorded
+  turns-more zero rs k c recorded = ap (λ n. eliminateInUnit limits corners kind preserved n rs c recorded) (zero-add (suc (length rs)))
+  turns-more (suc more) rs k c recorded =
+      ap (λ n. eliminateInUnit limits corners kind preserved n rs c recorded) (suc-add more (suc (length rs)))
+      ∙ turn-more (more + suc (length rs)) rs c recorded
+      (λ ts e l. let few = chain-few limits corners preserved k (run-ends limits corners kind preserved (more + suc (length rs)) rs c recorded ts e .chain) in omega arith)
+      ∙ turns-more more rs k c recorded
+
+pub enough-turns : (limits : Limits) (corners : Corners) (s : Sheet) → Told (s .rules) → EnoughTurns s limits corners
+unfolding eliminateMutualLeftRecursion
+enough-turns limits corners s k =
+    record { more = λ e n. turns-more limits corners (s .kind) (s .preserved) n (s .rules) k (s .counters) 0 ∙ sym (rw (eq-eqb (s .kind) 2 e, eliminateMutualLeftRecursion)) }
+
+module _ (limits : Limits) (corners : Corners) (s : Sheet) (told : Told (s .rules)) (ts : List Stage) (run : eliminateMutualLeftRecursion limits corners s ≡ ended ts) where
+  chain : Chain limits corners (s .preserved) (s .rules) ts
+  chain = sheet-ends limits corners s ts run .0
+
+  module _ (front middle rest : List Stage) (w : front ++ (middle ++ rest) ≡ ts) where
+    abbrev first : List Rule
+    first = rulesAfter (s .rules) front
+
+    whole : Chain limits corners (s .preserved) (s .rules) (front ++ (middle ++ rest))
+    whole = subst (Chain limits corners (s .preserved) (s .rules)) (sym w) chain
+
+    between-told : Told first
+    between-told = chain-leaves limits corners (s .preserved) told (chain-front limits corners (s .preserved) front (middle ++ rest) whole) .told
+
+    between : Leaves bodyDepth first (rulesAfter first middle)
+    between = chain-leaves limits corners (s .preserved) between-told (chain-front limits corners (s .preserved) middle rest (chain-behind limits corners (s .preserved) front (middle ++ rest) whole))
+
+    first-is : first ≡ rulesOf s front
+    first-is = sym (sheet-after s front)
+
+    second-is : rulesAfter first middle ≡ rulesOf s (front ++ middle)
+    second-is = sym (rules-append (s .rules) front middle) ∙ sym (sheet-after s (front ++ middle))
+
+    same-strings : SameStrings (rulesOf s front) (rulesOf s (front ++ middle))
+    same-strings =
+        subst₂ SameStrings first-is second-is
+        (record { derives = λ i k w. leaves-derives bodyDepth between-told between i (right-true (member i (ruleIds first)) (member i (ruleIds (rulesAfter first middle))) k) w })
+
+    closed : Closed (rulesOf s front) (rulesOf s (front ++ middle))
+    closed =
+        subst₂ Closed first-is second-is
+        (record { uncalled = λ r m k q n. between .closed r m (not-true (member (r .id) (ruleIds (rulesAfter first middle))) (right-true (member (r .id) (ruleIds first)) _ k)) q n })
+
+  -- A stage, cut out of the run.
+  record At (front : List Stage) (t : Stage) (us : List Stage) : Type 0 where
+    pub starts : t .before ≡ rulesAfter (s .rules) front
+    pub known : Told (t .before)
+    pub happened : Happened limits corners (s .preserved) t
+    pub onward : Chain limits corners (s .preserved) (t .after .node) us
+
+  at-head : {rs : List Rule} {t : Stage} {us : List Stage} (front : List Stage) → rs ≡ rulesAfter (s .rules) front → Told rs
+      → Chain limits corners (s .preserved) rs (t ∷ us) → At front t us
+  at-head front f k (next e h c) = record { starts = e ∙ f; known = subst Told (sym e) k; happened = h; onward = c }
+
+  stage-at : (front : List Stage) (t : Stage) (us : List Stage) → front ++ (t ∷ us) ≡ ts → At front t us
+  stage-at front t us w =
+      let c = subst (Chain limits corners (s .preserved) (s .rules)) (sym w) chain in
+      at-head front refl (chain-leaves limits corners (s .preserved) told (chain-front limits corners (s .preserved) front (t ∷ us) c) .told) (chain-behind limits corners (s .preserved) front (t ∷ us) c)
+
+  cut-at : {t : Stage} {us : List Stage} → List·Memᴰ t us → (front : List Stage) × (rest : List Stage) × (front ++ (t ∷ rest) ≡ us)
+  cut-at (List·Memᴰ·head {xs = xs} e) = ([], xs, ap (λ t. t ∷ xs) e)
+  cut-at (List·Memᴰ·tail {x = x} m) = let (front, rest, w) = cut-at m in (x ∷ front, rest, ap (λ l. x ∷ l) w)
+
+  rules-behind : (front : List Stage) (t : Stage) (us : List Stage) → rulesAfter (t .after .node) us ≡ rulesOf s (front ++ (t ∷ us))
+  rules-behind front t us = sym (rules-append (s .rules) front (t ∷ us)) ∙ sym (sheet-after s (front ++ (t ∷ us)))
+
+  -- Every grammar of the run tells its rules apart.
+  pub told-after : (front rest : List Stage) → front ++ rest ≡ ts → Told (rulesOf s front)
+  told-after front rest w = subst Told (first-is front [] rest w) (between-told front [] rest w)
+
+  whole-run : [] ++ (ts ++ []) ≡ ts
+  whole-run = append-nil ts
+
+  -- Demand 3, for either reading.
+  pub demand3 : Demand3 s corners (NoCorner corners) ts
+  demand3 =
+      record {
+        sameStrings = subst (λ rs. SameStrings rs (rulesOf s ts)) (sheet-after s []) (same-strings [] ts [] whole-run);
+        sameBetween = same-strings;
+        closed = subst (λ rs. Closed rs (rulesOf s ts)) (sheet-after s []) (closed [] ts [] whole-run);
+        closedBetween = closed;
+        joins = λ front t rest w.
+            let a = stage-at front t rest w in
+            subst (λ rs. Joins corners rs t) (a .starts ∙ sym (sheet-after s front))
+            (record { starts = refl; isCycle = stage-cycle limits corners (s .preserved) (a .happened); inCycle = hub-in-cycle limits corners (s .preserved) (a .known) (a .happened) });
+        shape = λ t m.
+            let (front, rest, w) = cut-at m in
+            let a = stage-at front t rest w in
+            stage-shape limits corners (s .preserved) (a .known) (a .happened);
+        noLaterCycle = λ front t middle rest w.
+            let a = stage-at front t (middle ++ rest) w in
+            subst (NoLaterCycle corners t) (rules-behind front t middle)
+            (no-later limits corners (s .preserved) (a .known) (a .happened) (chain-front limits corners (s .preserved) middle rest (a .onward)));
+        stands = λ front t rest w q m e.
+            let a = stage-at front t rest w in
+            let f = follows-all limits corners (s .preserved) (a .known) (a .happened) (follows-here limits corners (s .preserved) (a .known) (a .happened)) (a .onward) .0 in
+            f .stands q (subst (List·Memᴰ q) (ap (rulesOf s) (sym w) ∙ sym (rules-behind front t rest)) m) e;
+      }
+
+  pub bound : Bound s limits corners ts
+  bound =
+      record {
+        once = hubs-distinct limits corners (s .preserved) told chain;
+        few = chain-few limits corners (s .preserved) told chain;
+        ended = λ k.
+            let e = sheet-ends limits corners s ts run .1 k in
+            ⊎-elim (λ p. ap (findPlan limits corners (s .preserved)) (sheet-after s ts) ∙ p) (λ l. absurd (let h = chain-few limits corners (s .preserved) told chain in omega arith)) (e .why);
+      }

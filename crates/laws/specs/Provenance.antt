@@ -1,0 +1,3 @@
+-- The trail and the origins that it tells.
+pub mod Trail
+pub mod Origins

@@ -1,0 +1,262 @@
+-- The trail of fresh ids: each entry has the next id of its kind and an owner that was there before; and the ids of a
+-- copy are those that its entries record.
+use Prim.Native.Nat.{ℕ, zero, suc, _^_, _≤_, _<_}
+use mathlib.Core.Path.{_≡_, refl, sym, ap, _∙_}
+use mathlib.Core.Logic.{⊎-elim}
+use mathlib.Core.List.{List, [], _∷_, _++_, append-assoc, append-nil, List·Memᴰ, List·Memᴰ·head, Memᴰ·append-left, Memᴰ·append-right, List·Memᴰ·tail, List·Memᴰ·not-nil, List·Memᴰ·append-cases, List·Memᴰ·eq-of-singleton}
+use mathlib.Core.Bool.{Bool, true, false}
+use native.Mathlib.Omega.{arith}
+use lib.Dec.{eqb}
+use borrow.Author.Tests.{eqb-true, eqb-false, eq-eqb, ne-eqb}
+use Rattle.grammar.specs.Tree.{Label, unlabelled, labelled, ElementHead, Leaf, epsilon, action, predicate, call, token, terminal, Element, leaf, block, AlternativeOf, Block, Counters}
+use Rattle.grammar.specs.Encode.{each}
+use Rattle.grammar.specs.Ids.{only, labelIds, headIds, leafIds, elementIds, alternativeIds, blockIds}
+use Rattle.grammar.specs.Laws.Parse.{either}
+use Rattle.reference.specs.Apply.{Entry, boundary, Fresh, freshEach, moved, past, renumberLabel, renumberHead, renumberLeaf, renumberElement, renumberElements, renumberAlternative, renumberBlock}
+use Rattle.reference.specs.Run.{encodeEntry}
+use Rattle.laws.specs.Lists.Count.{count, between, between-one, between-none, between-join}
+
+-- The sorts of ids with a counter.
+pub data Sort : Type 0 where
+  ofAlternative ofElement ofLabel ofAction ofPredicate : Sort
+
+-- Numbered as in the trail.
+abbrev pub number : Sort → ℕ
+number ofAlternative = 2
+number ofElement = 3
+number ofLabel = 4
+number ofAction = 5
+number ofPredicate = 6
+
+abbrev pub counterAt : Sort → Counters → ℕ
+counterAt ofAlternative c = c .alternative
+counterAt ofElement c = c .element
+counterAt ofLabel c = c .label
+counterAt ofAction c = c .action
+counterAt ofPredicate c = c .predicate
+
+-- The sort with a number.
+sortAt : ℕ → Sort
+sortAt k =
+    elim (eqb k 2) [
+      | true ↦ ofAlternative
+      | false ↦ elim (eqb k 3) [ true ↦ ofElement | false ↦ elim (eqb k 4) [ true ↦ ofLabel | false ↦ elim (eqb k 5) [ true ↦ ofAction | false ↦ ofPredicate ] ] ]
+    ]
+
+sort-number : (s : Sort) → sortAt (number s) ≡ s
+unfolding sortAt
+sort-number ofAlternative = refl
+sort-number ofElement = refl
+sort-number ofLabel = refl
+sort-number ofAction = refl
+sort-number ofPredicate = refl
+
+pub number-same : (s t : Sort) → number s ≡ number t → s ≡ t
+number-same s t e = sym (sort-number s) ∙ ap sortAt e ∙ sort-number t
+
+pub number-one : (s : Sort) → eqb (number s) 1 ≡ false
+number-one ofAlternative = refl
+number-one ofElement = refl
+number-one ofLabel = refl
+number-one ofAction = refl
+number-one ofPredicate = refl
+
+pub past-at : (s : Sort) (k : ℕ) (c : Counters) → counterAt s (past k c) ≡ moved (eqb k (number s)) (counterAt s c)
+past-at ofAlternative k c = refl
+past-at ofElement k c = refl
+past-at ofLabel k c = refl
+past-at ofAction k c = refl
+past-at ofPredicate k c = refl
+
+-- Counters go up.
+abbrev pub Up : Counters → Counters → Type 0
+Up c c′ = (s : Sort) → counterAt s c ≤ counterAt s c′
+
+pub past-up : (k : ℕ) (c : Counters) → Up c (past k c)
+past-up k c s = rw (past-at s k c) (go (eqb k (number s)))
+  where
+    go : (b : Bool) → counterAt s c ≤ moved b (counterAt s c)
+    go true = omega arith
+    go false = omega arith
+
+-- The entries of a run of fresh ids, from some counters to others. A rule's entry takes no id; its id is a word.
+pub data Trail : Counters → List Entry → Counters → Type 0 where
+  t-end : {c : Counters} → Trail c [] c
+  t-rule : {c c′ : Counters} {es : List Entry} (h : ℕ) → h < 2 ^ 32 → Trail c es c′ → Trail c (boundary 1 h h ∷ es) c′
+  t-fresh : {c c′ : Counters} {es : List Entry} (s : Sort) (b : Bool) (owner : ℕ) → owner < counterAt s c → Trail (past (number s) c) es c′
+      → Trail c (record { kind = number s; id = counterAt s c; reason = moved b 1; owner = owner } ∷ es) c′
+
+pub trail-append : {c c₁ c₂ : Counters} {es fs : List Entry} → Trail c es c₁ → Trail c₁ fs c₂ → Trail c (es ++ fs) c₂
+trail-append t-end u = u
+trail-append (t-rule h l t) u = t-rule h l (trail-append t u)
+trail-append (t-fresh s b o l t) u = t-fresh s b o l (trail-append t u)
+
+pub trail-nil : {c c′ : Counters} {es : List Entry} → Trail c es c′ → Trail c (es ++ []) c′
+trail-nil {c} {c′} {es} t = rw (append-nil es) t
+
+pub trail-up : {c c′ : Counters} {es : List Entry} → Trail c es c′ → Up c c′
+trail-up t-end s = omega arith
+trail-up (t-rule h l t) s = trail-up t s
+trail-up (t-fresh {c = c} k b o l t) s = let h = trail-up t s in let g = past-up (number k) c s in omega arith
+
+-- The ids that entries of a kind record.
+unfoldable pub idsAt : ℕ → List Entry → List ℕ
+idsAt k [] = []
+idsAt k (e ∷ es) = only (eqb k (e .kind)) (e .id) ++ idsAt k es
+
+pub idsAt-append : (k : ℕ) (es fs : List Entry) → idsAt k (es ++ fs) ≡ idsAt k es ++ idsAt k fs
+unfolding idsAt
+idsAt-append k [] fs = refl
+idsAt-append k (e ∷ es) fs = ap (λ l. only (eqb k (e .kind)) (e .id) ++ l) (idsAt-append k es fs) ∙ sym (append-assoc (only (eqb k (e .kind)) (e .id)) (idsAt k es) (idsAt k fs))
+
+-- They are the numbers from one counter up to the other, each once.
+pub trail-count : {c c′ : Counters} {es : List Entry} → Trail c es c′ → (s : Sort) (x : ℕ) → count x (idsAt (number s) es) ≡ between (counterAt s c) (counterAt s c′) x
+unfolding idsAt count
+trail-count {c} t-end s x = sym (between-none (counterAt s c) x)
+trail-count (t-rule h l t) s x = rw (number-one s) (trail-count t s x)
+trail-count {c} {c′} (t-fresh {es = es} k b o l t) s x =
+    let more = trail-count t s x in
+    let h = trail-up t s in
+    either (eqb (number s) (number k))
+    (λ u.
+    let e = eqb-true (number s) (number k) u in
+    let p : counterAt s (past (number k) c) ≡ suc (counterAt s c) = past-at s (number k) c ∙ ap (λ b. moved b (counterAt s c)) (eq-eqb (number k) (number s) (sym e)) in
+    let q : counterAt k c ≡ counterAt s c = ap (λ r. counterAt r c) (sym (number-same s k e)) in
+    rw (u, more, p, q) (let i = rw p at h in rw (← between-one (counterAt s c) x) (between-join (counterAt s c) (suc (counterAt s c)) (counterAt s c′) x (omega arith) (omega arith))))
+    (λ f.
+    let ne = ne-eqb (number k) (number s) (λ e. eqb-false (number s) (number k) f (sym e)) in
+    let p : counterAt s (past (number k) c) ≡ counterAt s c = past-at s (number k) c ∙ ap (λ b. moved b (counterAt s c)) ne in
+    rw (f, more, p) refl)
+
+-- Every number in it is a word, where the counters at its end are.
+number-small : (s : Sort) → number s ≤ 6
+number-small ofAlternative = omega arith
+number-small ofElement = omega arith
+number-small ofLabel = omega arith
+number-small ofAction = omega arith
+number-small ofPredicate = omega arith
+
+reason-small : (b : Bool) → moved b 1 ≤ 2
+reason-small true = omega arith
+reason-small false = omega arith
+
+entry-words : (e : Entry) → e .kind < 2 ^ 32 → e .id < 2 ^ 32 → e .reason < 2 ^ 32 → e .owner < 2 ^ 32 → {w : ℕ} → List·Memᴰ w (encodeEntry e) → w < 2 ^ 32
+unfolding encodeEntry
+entry-words e k i r o (List·Memᴰ·head q) = omega arith
+entry-words e k i r o (List·Memᴰ·tail (List·Memᴰ·head q)) = omega arith
+entry-words e k i r o (List·Memᴰ·tail (List·Memᴰ·tail (List·Memᴰ·head q))) = omega arith
+entry-words e k i r o (List·Memᴰ·tail (List·Memᴰ·tail (List·Memᴰ·tail m))) = let q = List·Memᴰ·eq-of-singleton m in omega arith
+
+pub trail-words : {c c′ : Counters} {es : List Entry} → Trail c es c′ → ((s : Sort) → counterAt s c′ < 2 ^ 32) → {w : ℕ} → List·Memᴰ w (each encodeEntry es) → w < 2 ^ 32
+trail-words t-end h m = absurd (List·Memᴰ·not-nil m)
+trail-words (t-rule g l t) h m =
+    ⊎-elim (λ n. entry-words (boundary 1 g g) (omega arith) l (omega arith) l n) (λ n. trail-words t h n) (List·Memᴰ·append-cases (encodeEntry (boundary 1 g g)) m)
+trail-words (t-fresh {c = c} s b o l t) h m =
+    let e : Entry = record { kind = number s; id = counterAt s c; reason = moved b 1; owner = o } in
+    let top = h s in
+    let up = trail-up t s in
+    let past = past-up (number s) c s in
+    let k = number-small s in
+    let r = reason-small b in
+    ⊎-elim (λ n. entry-words e (omega arith) (omega arith) (omega arith) (omega arith) n) (λ n. trail-words t h n) (List·Memᴰ·append-cases (encodeEntry e) m)
+
+-- Each id of a tree is below its counter.
+abbrev pub Below : {A : Type 0} → Counters → (ℕ → A → List ℕ) → A → Type 0
+Below c ids x = (s : Sort) (i : ℕ) → List·Memᴰ i (ids (number s) x) → i < counterAt s c
+
+pub below-up : {A : Type 0} {c c′ : Counters} (ids : ℕ → A → List ℕ) (x : A) → Up c c′ → Below c ids x → Below c′ ids x
+below-up ids x u h s i m = let a = h s i m in let b = u s in omega arith
+
+-- A copy: its ids are those recorded, and the entries are a trail.
+pub record Copied {A : Type 0} (ids : ℕ → A → List ℕ) (old : A) (c : Counters) (f : Fresh A) : Type 0 where
+  pub same : (k : ℕ) → ids k (f .node) ≡ idsAt k (f .entries)
+  pub trail : Below c ids old → Trail c (f .entries) (f .counters)
+
+copied-label : (l : Label) (c : Counters) → Copied labelIds l c (renumberLabel l c)
+unfolding renumberLabel labelIds idsAt
+copied-label unlabelled c = record { same = λ k. refl; trail = λ h. t-end }
+copied-label (labelled i n) c =
+    record { same = λ k. sym (append-nil (only (eqb k 4) (c .label))); trail = λ h. t-fresh ofLabel true i (h ofLabel i (List·Memᴰ·head refl)) t-end }
+
+copied-leaf : (l : Leaf) (c : Counters) → Copied leafIds l c (renumberLeaf l c)
+unfolding renumberLeaf leafIds idsAt
+copied-leaf epsilon c = record { same = λ k. refl; trail = λ h. t-end }
+copied-leaf (action i rs) c =
+    record { same = λ k. sym (append-nil (only (eqb k 5) (c .action))); trail = λ h. t-fresh ofAction true i (h ofAction i (List·Memᴰ·head refl)) t-end }
+copied-leaf (predicate i rs) c =
+    record { same = λ k. sym (append-nil (only (eqb k 6) (c .predicate))); trail = λ h. t-fresh ofPredicate true i (h ofPredicate i (List·Memᴰ·head refl)) t-end }
+copied-leaf (call n a) c = record { same = λ k. refl; trail = λ h. t-end }
+copied-leaf (token n) c = record { same = λ k. refl; trail = λ h. t-end }
+copied-leaf terminal c = record { same = λ k. refl; trail = λ h. t-end }
+
+copied-head : (h : ElementHead) (c : Counters) → Copied headIds h c (renumberHead h c)
+unfolding renumberHead headIds idsAt
+copied-head h c =
+    let l = copied-label (h .label) (past 3 c) in
+    record {
+      same = λ k. rw (append-nil (renumberLabel (h .label) (past 3 c) .entries), l .same k) refl;
+      trail = λ b.
+          t-fresh ofElement true (h .id) (b ofElement (h .id) (List·Memᴰ·head refl))
+          (trail-nil (l .trail (below-up labelIds (h .label) (past-up 3 c) (λ s i m. b s i (Memᴰ·append-right (only (eqb (number s) 3) (h .id)) m)))));
+    }
+
+-- One after the other.
+module _ {A B : Type 0} (idsA : ℕ → A → List ℕ) (idsB : ℕ → B → List ℕ) {a : A} {b : B} (c : Counters) (f : Fresh A) (g : Counters → Fresh B)
+    (p : Copied idsA a c f) (q : (c₁ : Counters) → Copied idsB b c₁ (g c₁)) where
+  both-same : (k : ℕ) → idsA k (f .node) ++ idsB k (g (f .counters) .node) ≡ idsAt k (f .entries ++ (g (f .counters) .entries ++ []))
+  both-same k =
+      rw (append-nil (g (f .counters) .entries), idsAt-append k (f .entries) (g (f .counters) .entries), p .same k, q (f .counters) .same k) refl
+
+  both-trail : Below c idsA a → Below c idsB b → Trail c (f .entries ++ (g (f .counters) .entries ++ [])) (g (f .counters) .counters)
+  both-trail h k = let t = p .trail h in trail-append t (trail-nil (q (f .counters) .trail (below-up idsB b (trail-up t) k)))
+
+copied-each : {A : Type 0} (ids : ℕ → A → List ℕ) (g : A → Counters → Fresh A) → ((a : A) (c : Counters) → Copied ids a c (g a c)) → (as′ : List A) (c : Counters)
+    → Copied (λ k. each (ids k)) as′ c (freshEach g as′ c)
+unfolding freshEach idsAt
+copied-each ids g h [] c = record { same = λ k. refl; trail = λ b. t-end }
+copied-each ids g h (a ∷ as′) c =
+    record {
+      same = both-same ids (λ k. each (ids k)) {a = a} {b = as′} c (g a c) (freshEach g as′) (h a c) (copied-each ids g h as′);
+      trail = λ b.
+          both-trail ids (λ k. each (ids k)) {a = a} {b = as′} c (g a c) (freshEach g as′) (h a c) (copied-each ids g h as′)
+          (λ s i m. b s i (Memᴰ·append-left (each (ids (number s)) as′) m)) (λ s i m. b s i (Memᴰ·append-right (ids (number s) a) m));
+    }
+
+module _ {B : Type 0} (renumber : B → Counters → Fresh B) (ids : ℕ → B → List ℕ) (h : (b : B) (c : Counters) → Copied ids b c (renumber b c)) where
+  pub copied-element : (e : Element B) (c : Counters) → Copied (λ k. elementIds k (ids k)) e c (renumberElement renumber e c)
+  unfolding renumberElement elementIds
+  copied-element (leaf x l) c =
+      record {
+        same = both-same headIds leafIds {a = x} {b = l} c (renumberHead x c) (renumberLeaf l) (copied-head x c) (copied-leaf l);
+        trail = λ b.
+            both-trail headIds leafIds {a = x} {b = l} c (renumberHead x c) (renumberLeaf l) (copied-head x c) (copied-leaf l)
+            (λ s i m. b s i (Memᴰ·append-left (leafIds (number s) l) m)) (λ s i m. b s i (Memᴰ·append-right (headIds (number s) x) m));
+      }
+  copied-element (block x y) c =
+      record {
+        same = both-same headIds ids {a = x} {b = y} c (renumberHead x c) (renumber y) (copied-head x c) (h y);
+        trail = λ b.
+            both-trail headIds ids {a = x} {b = y} c (renumberHead x c) (renumber y) (copied-head x c) (h y)
+            (λ s i m. b s i (Memᴰ·append-left (ids (number s) y) m)) (λ s i m. b s i (Memᴰ·append-right (headIds (number s) x) m));
+      }
+
+  pub copied-elements : (es : List (Element B)) (c : Counters) → Copied (λ k. each (elementIds k (ids k))) es c (renumberElements renumber es c)
+  unfolding renumberElements
+  copied-elements es c = copied-each (λ k. elementIds k (ids k)) (renumberElement renumber) copied-element es c
+
+  pub copied-alternative : (a : AlternativeOf B) (c : Counters) → Copied (λ k. alternativeIds k (ids k)) a c (renumberAlternative renumber a c)
+  unfolding renumberAlternative alternativeIds idsAt
+  copied-alternative a c =
+      let l = copied-elements (a .elements) (past 2 c) in
+      record {
+        same = λ k. rw (append-nil (renumberElements renumber (a .elements) (past 2 c) .entries), l .same k) refl;
+        trail = λ b.
+            t-fresh ofAlternative true (a .id) (b ofAlternative (a .id) (List·Memᴰ·head refl))
+            (trail-nil (l .trail (below-up (λ k. each (elementIds k (ids k))) (a .elements) (past-up 2 c) (λ s i m. b s i (Memᴰ·append-right (only (eqb (number s) 2) (a .id)) m)))));
+      }
+
+pub copied-block : (d : ℕ) (b : Block d) (c : Counters) → Copied (λ k. blockIds k d) b c (renumberBlock d b c)
+unfolding renumberBlock blockIds
+copied-block zero b c = absurd b
+copied-block (suc d) as′ c =
+    copied-each (λ k. alternativeIds k (blockIds k d)) (renumberAlternative (renumberBlock d)) (copied-alternative (renumberBlock d) (λ k. blockIds k d) (copied-block d)) as′ c

@@ -1,0 +1,191 @@
+-- The run as a chain of stages: each found in the grammar that the one before left.
+use Prim.Native.Nat.{ℕ, zero, suc, _+_}
+use mathlib.Core.Path.{_≡_, refl, sym, ap, _∙_, subst}
+use mathlib.Core.Logic.{_⊎_, inl, inr, ⊎-map}
+use mathlib.Core.List.{List, [], _∷_, _++_, List·Memᴰ, List·Memᴰ·head, List·Memᴰ·tail}
+use mathlib.Core.Bool.{true, _&&_}
+use native.Mathlib.Omega.{arith}
+use lib.ListN.{length}
+use lib.Dec.{eqb}
+use borrow.Author.Tests.{eqb-false}
+use Rattle.grammar.specs.Tree.{Rule, bodyDepth, Counters, Sheet}
+use Rattle.grammar.specs.Ids.{distinct, ruleIds, ruleNames, isDistinct, isBelow}
+use Rattle.grammar.specs.Valid.{valid, isKind, okRules, rising}
+use Rattle.grammar.specs.Corners.{Corners}
+use Rattle.grammar.specs.Laws.Parse.{left-true, right-true, either}
+use Rattle.reference.specs.Analysis.{Grammar, grammarOf, leftCornerCycles}
+use Rattle.reference.specs.Substitute.{Limits, Decided, decided, declined, overfull}
+use Rattle.reference.specs.Plan.{CyclePlan, planCycle}
+use Rattle.reference.specs.Apply.{applyPlan}
+use Rattle.reference.specs.Run.{innerDepth, Stage, Search, noPlan, planned, tooLarge, Run, ended, stopped, preceded, searchCycles, findPlan, refusalOf, eliminateInUnit, eliminateMutualLeftRecursion, sheetAfter}
+use Rattle.laws.specs.Demands.{Told}
+use Rattle.laws.specs.Planning.Substituted.{Known}
+use Rattle.laws.specs.Planning.Plans.{Made, plan-made}
+use Rattle.laws.specs.Running.Leaves.{Leaves, leaves-refl, leaves-trans, plan-leaves}
+
+-- The rules that stages leave.
+abbrev pub rulesAfter : List Rule → List Stage → List Rule
+rulesAfter rs [] = rs
+rulesAfter rs (t ∷ ts) = rulesAfter (t .after .node) ts
+
+pub sheet-after : (s : Sheet) (ts : List Stage) → sheetAfter s ts .rules ≡ rulesAfter (s .rules) ts
+unfolding sheetAfter
+sheet-after s [] = refl
+sheet-after s (t ∷ ts) = sheet-after (record { kind = s .kind; rules = t .after .node; preserved = s .preserved; counters = t .after .counters }) ts
+
+pub rules-append : (rs : List Rule) (ts us : List Stage) → rulesAfter rs (ts ++ us) ≡ rulesAfter (rulesAfter rs ts) us
+rules-append rs [] us = refl
+rules-append rs (t ∷ ts) us = rules-append (t .after .node) ts us
+
+-- What a valid sheet is asked for here: its rules share no id and no name.
+pub valid-told : (s : Sheet) → valid s ≡ true → Told (s .rules)
+unfolding valid isDistinct
+valid-told s v =
+    let a = right-true (isKind (s .kind)) _ v in
+    let b = right-true (okRules (s .rules) && rising (s .preserved)) _ a in
+    let c = left-true (isDistinct (s .rules)) (isBelow (s .counters) (s .rules)) b in
+    record {
+      ids = left-true (distinct (ruleIds (s .rules))) _ c;
+      names = left-true (distinct (ruleNames (s .rules))) _ (right-true (distinct (ruleIds (s .rules))) _ c);
+    }
+
+-- A grammar with its names and nullable rules.
+pub known : (rs : List Rule) → Told rs → Known bodyDepth rs (grammarOf bodyDepth rs)
+unfolding grammarOf
+known rs t = record { named = refl; ids = t .ids; names = t .names }
+
+module _ (limits : Limits) (corners : Corners) (preserved : List ℕ) where
+  searched : (g : Grammar) (rs : List Rule) (cycles : List (List ℕ)) {cycle : List ℕ} {plan : CyclePlan innerDepth}
+      → searchCycles limits corners preserved g rs cycles ≡ planned cycle plan
+      → List·Memᴰ cycle cycles × (planCycle limits corners g innerDepth rs preserved cycle ≡ decided plan)
+  unfolding searchCycles
+  searched g rs [] e = absurd (let z : _≡_ {A = ℕ} 0 1 = cc in omega arith)
+  searched g rs (c ∷ cycles) {cycle} {plan} e = go (planCycle limits corners g innerDepth rs preserved c) refl e (λ e. searched g rs cycles e)
+    where
+      go : (o : Decided (CyclePlan innerDepth)) → planCycle limits corners g innerDepth rs preserved c ≡ o
+          → (elim o as (λ x. Search) [ decided plan ↦ planned c plan | declined y ↦ searchCycles limits corners preserved g rs cycles | overfull ↦ tooLarge ]) ≡ planned cycle plan
+          → (searchCycles limits corners preserved g rs cycles ≡ planned cycle plan → List·Memᴰ cycle cycles × (planCycle limits corners g innerDepth rs preserved cycle ≡ decided plan))
+          → List·Memᴰ cycle (c ∷ cycles) × (planCycle limits corners g innerDepth rs preserved cycle ≡ decided plan)
+      go (decided p) k f ih =
+          let a : c ≡ cycle = cc in
+          let b : p ≡ plan = cc in
+          (List·Memᴰ·head (sym a), subst (λ c. planCycle limits corners g innerDepth rs preserved c ≡ decided plan) a (k ∙ ap decided b))
+      go (declined y) k f ih = let r = ih f in (List·Memᴰ·tail (r .0), r .1)
+      go overfull k f ih = absurd (let z : _≡_ {A = ℕ} 0 1 = cc in omega arith)
+
+  -- A stage of the run: the plan was found in the grammar before, and applied.
+  pub record Happened (t : Stage) : Type 0 where
+    pub counters : Counters
+    pub found : findPlan limits corners preserved (t .before) ≡ planned (t .cycle) (t .plan)
+    pub left : t .after ≡ applyPlan innerDepth (t .before) (t .plan) counters
+
+  pub data Chain : List Rule → List Stage → Type 0 where
+    last : {rs : List Rule} → Chain rs []
+    next : {rs : List Rule} {t : Stage} {ts : List Stage} → t .before ≡ rs → Happened t → Chain (t .after .node) ts → Chain rs (t ∷ ts)
+
+  -- The plan of a stage was made for a cycle of its grammar.
+  pub stage-cycle : {t : Stage} → Happened t → List·Memᴰ (t .cycle) (leftCornerCycles corners (grammarOf bodyDepth (t .before)) bodyDepth (t .before))
+  unfolding findPlan
+  stage-cycle {t} h = searched (grammarOf bodyDepth (t .before)) (t .before) (leftCornerCycles corners (grammarOf bodyDepth (t .before)) bodyDepth (t .before)) (h .found) .0
+
+  pub stage-made : {t : Stage} → Happened t → Made corners innerDepth (t .before) (grammarOf bodyDepth (t .before)) preserved (t .cycle) (t .plan)
+  unfolding findPlan
+  stage-made {t} h =
+      let g = grammarOf bodyDepth (t .before) in
+      plan-made corners innerDepth (t .before) g preserved (t .cycle) limits (t .plan) (searched g (t .before) (leftCornerCycles corners g bodyDepth (t .before)) (h .found) .1)
+
+  pub stage-leaves : {t : Stage} → Told (t .before) → Happened t → Leaves bodyDepth (t .before) (t .after .node)
+  stage-leaves {t} k h =
+      subst (λ f. Leaves bodyDepth (t .before) (f .node)) (sym (h .left)) (plan-leaves (known (t .before) k) (stage-made h) (h .counters))
+
+  pub chain-leaves : {rs : List Rule} {ts : List Stage} → Told rs → Chain rs ts → Leaves bodyDepth rs (rulesAfter rs ts)
+  chain-leaves {rs} k last = leaves-refl bodyDepth rs k
+  chain-leaves {rs} k (next {t = t} {ts = ts} e h c) =
+      let a = subst (λ r. Leaves bodyDepth r (t .after .node)) e (stage-leaves (subst Told (sym e) k) h) in
+      leaves-trans bodyDepth k a (chain-leaves (a .told) c)
+
+  -- A chain may be cut anywhere.
+  pub chain-front : {rs : List Rule} (ts us : List Stage) → Chain rs (ts ++ us) → Chain rs ts
+  chain-front [] us c = last
+  chain-front (t ∷ ts) us (next e h c) = next e h (chain-front ts us c)
+
+  pub chain-behind : {rs : List Rule} (ts us : List Stage) → Chain rs (ts ++ us) → Chain (rulesAfter rs ts) us
+  chain-behind [] us c = c
+  chain-behind (t ∷ ts) us (next e h c) = chain-behind ts us c
+
+-- How a run that is not refused ends.
+module _ (limits : Limits) (corners : Corners) (kind : ℕ) (preserved : List ℕ) where
+  pub record Ends (turns : ℕ) (rs : List Rule) (ts : List Stage) : Type 0 where
+    pub chain : Chain limits corners preserved rs ts
+    pub why : (findPlan limits corners preserved (rulesAfter rs ts) ≡ noPlan) ⊎ (length ts ≡ turns)
+
+  ended-same : {ts us : List Stage} → ended ts ≡ ended us → ts ≡ us
+  ended-same e = cc
+
+  preceded-ended : (t : Stage) (r : Run) {ts : List Stage} → preceded t r ≡ ended ts → (us : List Stage) × (r ≡ ended us) × (t ∷ us ≡ ts)
+  preceded-ended t (ended us) e = (us, refl, ended-same e)
+  preceded-ended t (stopped n) e = absurd (let z : _≡_ {A = ℕ} 0 1 = cc in omega arith)
+
+  -- One turn of the loop, given what the search found and the turns that follow.
+  abbrev pub Rest : Type 0
+  Rest = List Rule → Counters → ℕ → Run
+
+  abbrev pub applying : Rest → Stage → ℕ → ℕ → Run
+  applying rest t recorded n =
+      elim n [
+        | suc n ↦ stopped (suc n)
+        | zero ↦ preceded t (rest (t .after .node) (t .after .counters) (recorded + length (t .after .entries)))
+      ]
+
+  abbrev pub turn : Rest → List Rule → Counters → ℕ → Search → Run
+  turn rest rs c recorded o =
+      elim o [
+        | noPlan ↦ ended []
+        | tooLarge ↦ stopped 7
+        | planned cycle plan ↦
+            let after = applyPlan innerDepth rs plan c in
+            applying rest (record { before = rs; cycle = cycle; plan = plan; after = after }) recorded (refusalOf kind preserved after recorded)
+      ]
+
+  pub turns-once : (turns : ℕ) (rs : List Rule) (c : Counters) (recorded : ℕ)
+      → eliminateInUnit limits corners kind preserved (suc turns) rs c recorded ≡ turn (eliminateInUnit limits corners kind preserved turns) rs c recorded (findPlan limits corners preserved rs)
+  unfolding eliminateInUnit
+  turns-once turns rs c recorded = refl
+
+  applied-ended : (rest : Rest) (t : Stage) (recorded n : ℕ) {ts : List Stage} → applying rest t recorded n ≡ ended ts
+      → (us : List Stage) × (rest (t .after .node) (t .after .counters) (recorded + length (t .after .entries)) ≡ ended us) × (t ∷ us ≡ ts)
+  applied-ended rest t recorded zero e = preceded-ended t (rest (t .after .node) (t .after .counters) (recorded + length (t .after .entries))) e
+  applied-ended rest t recorded (suc n) e = absurd (let z : _≡_ {A = ℕ} 0 1 = cc in omega arith)
+
+  pub run-ends : (turns : ℕ) (rs : List Rule) (c : Counters) (recorded : ℕ) (ts : List Stage) → eliminateInUnit limits corners kind preserved turns rs c recorded ≡ ended ts
+      → Ends turns rs ts
+  unfolding eliminateInUnit
+  run-ends zero rs c recorded ts e = subst (Ends zero rs) (ended-same e) (record { chain = last; why = inr refl })
+  run-ends (suc turns) rs c recorded ts e = go (findPlan limits corners preserved rs) refl (sym (turns-once turns rs c recorded) ∙ e) (run-ends turns)
+    where
+      go : (o : Search) → findPlan limits corners preserved rs ≡ o → turn (eliminateInUnit limits corners kind preserved turns) rs c recorded o ≡ ended ts
+          → ((ks : List Rule) (c : Counters) (n : ℕ) (us : List Stage) → eliminateInUnit limits corners kind preserved turns ks c n ≡ ended us → Ends turns ks us)
+          → Ends (suc turns) rs ts
+      go noPlan k f ih = subst (Ends (suc turns) rs) (ended-same f) (record { chain = last; why = inl k })
+      go (planned cycle plan) k f ih =
+          let after = applyPlan innerDepth rs plan c in
+          let t : Stage = record { before = rs; cycle = cycle; plan = plan; after = after } in
+          let (us, g, w) = applied-ended (eliminateInUnit limits corners kind preserved turns) t recorded (refusalOf kind preserved after recorded) f in
+          let y = ih (after .node) (after .counters) (recorded + length (after .entries)) us g in
+          subst (Ends (suc turns) rs) w
+          (record { chain = next refl (record { counters = c; found = k; left = refl }) (y .chain); why = ⊎-map (λ p. p) (ap suc) (y .why) })
+      go tooLarge k f ih = absurd (let z : _≡_ {A = ℕ} 0 1 = cc in omega arith)
+
+-- Of a whole sheet: only a parser unit has stages.
+module _ (limits : Limits) (corners : Corners) (s : Sheet) where
+  pub sheet-ends : (ts : List Stage) → eliminateMutualLeftRecursion limits corners s ≡ ended ts
+      → Chain limits corners (s .preserved) (s .rules) ts × (s .kind ≡ 2 → Ends limits corners (s .kind) (s .preserved) (suc (length (s .rules))) (s .rules) ts)
+  unfolding eliminateMutualLeftRecursion
+  sheet-ends ts e =
+      either (eqb (s .kind) 2)
+      (λ t.
+      let x = run-ends limits corners (s .kind) (s .preserved) (suc (length (s .rules))) (s .rules) (s .counters) 0 ts (rw (t, eliminateMutualLeftRecursion) at e) in
+      (x .chain, λ k. x))
+      (λ f.
+      let none : [] ≡ ts = ended-same limits corners (s .kind) (s .preserved) (rw (f, eliminateMutualLeftRecursion) at e) in
+      (subst (Chain limits corners (s .preserved) (s .rules)) none last, λ k. absurd (eqb-false (s .kind) 2 f k)))

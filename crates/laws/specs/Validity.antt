@@ -1,0 +1,7 @@
+-- The result of a run is a valid tree that fits a sheet.
+pub mod Kept
+pub mod Wordy
+pub mod Fits
+pub mod Sound
+pub mod Runs
+pub mod Result

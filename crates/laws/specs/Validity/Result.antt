@@ -1,0 +1,228 @@
+-- The run: every grammar on the way is valid, the result fits, and all entries are one trail.
+use Prim.Native.Nat.{ℕ, _≤_, _<_, _+_, _^_, _*_}
+use mathlib.Core.Path.{_≡_, refl, sym, subst, subst₂}
+use mathlib.Core.List.{List, List·Memᴰ, List·Memᴰ·head, List·Memᴰ·tail, List·Memᴰ·not-nil, [], _∷_, _++_, Memᴰ·append-right}
+use mathlib.Core.Bool.{Bool, true, false, _&&_}
+use native.Mathlib.Omega.{arith}
+use lib.ListN.{length, getD, length-append}
+use lib.Dec.{leb, ltb}
+use borrow.Author.Tests.{leb-true, le-leb, ltb-true}
+use Rattle.grammar.specs.Tree.{Rule, Counters, Sheet, bodyDepth}
+use Rattle.grammar.specs.Encode.{encode, each, encodeRules, encodeCounters}
+use Rattle.grammar.specs.Ids.{distinct, ruleIds, ruleNames, bodyIds, isDistinct, below, isBelow}
+use Rattle.grammar.specs.Valid.{rising, isKind, ruleLimit, valid, fits}
+use Rattle.grammar.specs.Reading.{Reading, refused, sheet, read}
+use Rattle.grammar.specs.Corners.{Corners}
+use Rattle.grammar.specs.Laws.Parse.{both-true, left-true, right-true}
+use Rattle.grammar.specs.Laws.Whole.{Parts, parts-valid, valid-parts}
+use Rattle.grammar.specs.Laws.Codec.{reads-back, accepted-valid}
+use Rattle.reference.specs.Substitute.{Limits}
+use Rattle.reference.specs.Plan.{CyclePlan}
+use Rattle.reference.specs.Apply.{Fresh, applyPlan, Entry}
+use Rattle.reference.specs.Run.{innerDepth, Stage, planned, findPlan, Run, ended, stopped, areWords, sheetWith, isShort, refusalOf, eliminateMutualLeftRecursion, sheetAfter, entriesOf, answer, answerRun, answerReading, answerTo, encodeEntry}
+use Rattle.laws.specs.Lists.Lookup.{all-in}
+use Rattle.laws.specs.Demands.{ReadsBack, GoodAnswer}
+use Rattle.laws.specs.Lists.Count.{distinct-count, count-distinct, below-count, count-below}
+use Rattle.laws.specs.Provenance.Trail.{Sort, ofAlternative, ofElement, ofLabel, ofAction, ofPredicate, number, counterAt, Trail, t-end, trail-append, trail-words}
+use Rattle.laws.specs.Validity.Runs.{Stages, s-end, s-plan, sheet-stages, plan-found}
+use Rattle.laws.specs.Validity.Fits.{Carries, fits-carries, ids-under, carries-fits}
+use Rattle.laws.specs.Validity.Sound.{Sound, applied-sound, applied-trace}
+
+-- A sheet's validity, sort by sort.
+module _ (rs : List Rule) (t : isDistinct rs ≡ true) where
+  pub rules-distinct : (distinct (ruleIds rs) ≡ true) × (distinct (ruleNames rs) ≡ true)
+  unfolding isDistinct
+  rules-distinct =
+      (left-true (distinct (ruleIds rs)) _ t, left-true (distinct (ruleNames rs)) _ (right-true (distinct (ruleIds rs)) _ t))
+
+  ids-distinct : (s : Sort) → distinct (bodyIds (number s) rs) ≡ true
+  unfolding isDistinct
+  ids-distinct = go
+    where
+      t₂ : (distinct (bodyIds 2 rs) && (distinct (bodyIds 3 rs) && (distinct (bodyIds 4 rs) && (distinct (bodyIds 5 rs) && distinct (bodyIds 6 rs))))) ≡ true
+      t₂ = right-true (distinct (ruleNames rs)) _ (right-true (distinct (ruleIds rs)) _ t)
+
+      t₃ : (distinct (bodyIds 3 rs) && (distinct (bodyIds 4 rs) && (distinct (bodyIds 5 rs) && distinct (bodyIds 6 rs)))) ≡ true
+      t₃ = right-true (distinct (bodyIds 2 rs)) _ t₂
+
+      t₄ : (distinct (bodyIds 4 rs) && (distinct (bodyIds 5 rs) && distinct (bodyIds 6 rs))) ≡ true
+      t₄ = right-true (distinct (bodyIds 3 rs)) _ t₃
+
+      t₅ : (distinct (bodyIds 5 rs) && distinct (bodyIds 6 rs)) ≡ true
+      t₅ = right-true (distinct (bodyIds 4 rs)) _ t₄
+
+      go : (s : Sort) → distinct (bodyIds (number s) rs) ≡ true
+      go ofAlternative = left-true (distinct (bodyIds 2 rs)) _ t₂
+      go ofElement = left-true (distinct (bodyIds 3 rs)) _ t₃
+      go ofLabel = left-true (distinct (bodyIds 4 rs)) _ t₄
+      go ofAction = left-true (distinct (bodyIds 5 rs)) _ t₅
+      go ofPredicate = right-true (distinct (bodyIds 5 rs)) _ t₅
+
+pub parts-sound : (s : Sheet) → Parts s → Carries s → Sound bodyDepth (s .counters) (s .rules)
+parts-sound s v c =
+    record {
+      few = leb-true (length (s .rules)) ruleLimit (v .few);
+      ids = rules-distinct (s .rules) (v .distinct) .0;
+      names = rules-distinct (s .rules) (v .distinct) .1;
+      rules = v .rules;
+      once = λ k. distinct-count (bodyIds (number k) (s .rules)) (ids-distinct (s .rules) (v .distinct) k);
+      under = λ k. below-count (counterAt k (s .counters)) (bodyIds (number k) (s .rules)) (ids-under (s .counters) (s .rules) (v .below) k);
+      ruleWords = c .rule;
+      bodyWords = c .inside;
+    }
+
+pub sound-parts : (s : Sheet) → isKind (s .kind) ≡ true → rising (s .preserved) ≡ true → Sound bodyDepth (s .counters) (s .rules) → Parts s
+unfolding isDistinct isBelow
+sound-parts s k p h =
+    let d : (t : Sort) → distinct (bodyIds (number t) (s .rules)) ≡ true = λ t. count-distinct (bodyIds (number t) (s .rules)) (h .once t) in
+    let b : (t : Sort) → below (counterAt t (s .counters)) (bodyIds (number t) (s .rules)) ≡ true = λ t. count-below (counterAt t (s .counters)) (bodyIds (number t) (s .rules)) (h .under t) in
+    record {
+      kind = k;
+      few = le-leb (length (s .rules)) ruleLimit (h .few);
+      rules = h .rules;
+      preserved = p;
+      distinct = both-true _ _ (h .ids) (both-true _ _ (h .names) (both-true _ _ (d ofAlternative) (both-true _ _ (d ofElement) (both-true _ _ (d ofLabel) (both-true _ _ (d ofAction) (d ofPredicate))))));
+      below = both-true _ _ (b ofAlternative) (both-true _ _ (b ofElement) (both-true _ _ (b ofLabel) (both-true _ _ (b ofAction) (b ofPredicate))));
+    }
+
+-- A sheet that is valid and fits.
+pub record Good (s : Sheet) : Type 0 where
+  pub parts : Parts s
+  pub fitting : fits s ≡ true
+
+pub good-of : (s : Sheet) → valid s ≡ true → fits s ≡ true → Good s
+good-of s v f = record { parts = valid-parts s v; fitting = f }
+
+pub good-sound : {s : Sheet} → Good s → Sound bodyDepth (s .counters) (s .rules)
+good-sound {s} g = parts-sound s (g .parts) (fits-carries s (g .fitting))
+
+-- What refusals 8 and 9 exclude.
+not-refused : (kind : ℕ) (preserved : List ℕ) (after : Fresh (List Rule)) (n : ℕ) → refusalOf kind preserved after n ≡ 0
+    → (areWords (after .counters) ≡ true) × (length (encode (sheetWith kind preserved after)) ≤ 8192) × (n + length (after .entries) ≤ 4096)
+unfolding refusalOf isShort
+not-refused kind preserved after n e = words (areWords (after .counters)) refl e
+  where
+    short : (b : Bool) → isShort kind preserved after n ≡ b → _≡_ {A = ℕ} (elim b as (λ x. ℕ) [ false ↦ 9 | true ↦ 0 ]) 0
+        → (length (encode (sheetWith kind preserved after)) ≤ 8192) × (n + length (after .entries) ≤ 4096)
+    short true k f = (
+      leb-true (length (encode (sheetWith kind preserved after))) 8192 (left-true (leb (length (encode (sheetWith kind preserved after))) 8192) _ k),
+      leb-true (n + length (after .entries)) 4096 (right-true (leb (length (encode (sheetWith kind preserved after))) 8192) _ k),
+    )
+    short false k f = absurd (omega arith)
+
+    words : (b : Bool) → areWords (after .counters) ≡ b → _≡_ {A = ℕ} (elim b as (λ x. ℕ) [ false ↦ 8 | true ↦ elim (isShort kind preserved after n) as (λ x. ℕ) [ false ↦ 9 | true ↦ 0 ] ]) 0
+        → (areWords (after .counters) ≡ true) × (length (encode (sheetWith kind preserved after)) ≤ 8192) × (n + length (after .entries) ≤ 4096)
+    words true k f = let r = short (isShort kind preserved after n) refl f in (k, r .0, r .1)
+    words false k f = absurd (omega arith)
+
+pub good-reads : {s : Sheet} → Good s → ReadsBack s
+good-reads {s} g =
+    let v = parts-valid s (g .parts) in
+    record { isValid = v; isFitting = g .fitting; found = reads-back s v (g .fitting) }
+
+-- The counters of a sheet that fits are words.
+counters-fit : (s : Sheet) → fits s ≡ true → (k : Sort) → counterAt k (s .counters) < 2 ^ 32
+unfolding fits encode
+counters-fit s t k = ltb-true (counterAt k (s .counters)) (2 ^ 32) (all-in (λ w. ltb w (2 ^ 32)) (right-true (leb (length (encode s)) 8192) _ t) (Memᴰ·append-right (encodeRules (s .rules) ++ s .preserved) (there k)))
+  where
+    there : (k : Sort) → List·Memᴰ (counterAt k (s .counters)) (s .kind ∷ length (encodeRules (s .rules) ++ s .preserved) ∷ length (s .preserved) ∷ encodeCounters (s .counters))
+    there ofAlternative = List·Memᴰ·tail (List·Memᴰ·tail (List·Memᴰ·tail (List·Memᴰ·head refl)))
+    there ofElement = List·Memᴰ·tail (List·Memᴰ·tail (List·Memᴰ·tail (List·Memᴰ·tail (List·Memᴰ·head refl))))
+    there ofLabel = List·Memᴰ·tail (List·Memᴰ·tail (List·Memᴰ·tail (List·Memᴰ·tail (List·Memᴰ·tail (List·Memᴰ·head refl)))))
+    there ofAction = List·Memᴰ·tail (List·Memᴰ·tail (List·Memᴰ·tail (List·Memᴰ·tail (List·Memᴰ·tail (List·Memᴰ·tail (List·Memᴰ·head refl))))))
+    there ofPredicate = List·Memᴰ·tail (List·Memᴰ·tail (List·Memᴰ·tail (List·Memᴰ·tail (List·Memᴰ·tail (List·Memᴰ·tail (List·Memᴰ·tail (List·Memᴰ·head refl)))))))
+
+module _ (limits : Limits) (corners : Corners) where
+  -- Each stage leaves a sheet that is valid and fits.
+  stage-good : (s : Sheet) {cycle : List ℕ} {plan : CyclePlan innerDepth} (n : ℕ)
+      → findPlan limits corners (s .preserved) (s .rules) ≡ planned cycle plan
+      → refusalOf (s .kind) (s .preserved) (applyPlan innerDepth (s .rules) plan (s .counters)) n ≡ 0 → Good s
+      → Good (sheetWith (s .kind) (s .preserved) (applyPlan innerDepth (s .rules) plan (s .counters)))
+  stage-good s {cycle} {plan} n f r g =
+      let after = applyPlan innerDepth (s .rules) plan (s .counters) in
+      let h : Sound bodyDepth (after .counters) (after .node) = applied-sound innerDepth (s .counters) (s .rules) (good-sound g) plan (plan-found limits corners (s .preserved) (s .rules) (s .counters) f) in
+      let t = sheetWith (s .kind) (s .preserved) after in
+      let p = sound-parts t (g .parts .kind) (g .parts .preserved) h in
+      let (w, l, j) = not-refused (s .kind) (s .preserved) after n r in
+      record {
+        parts = p;
+        fitting = carries-fits t p (record { rule = h .ruleWords; inside = h .bodyWords; preserved = fits-carries s (g .fitting) .preserved }) w l;
+      }
+
+  -- And so does the run; its entries are one trail.
+  module _ (kind : ℕ) (preserved : List ℕ) where
+    abbrev sheetBy : List Rule → Counters → Sheet
+    sheetBy rs c = record { kind = kind; rules = rs; preserved = preserved; counters = c }
+
+    stages-good : {rs : List Rule} {c : Counters} {n : ℕ} {ss : List Stage} → Stages limits corners kind preserved rs c n ss → Good (sheetBy rs c) → Good (sheetAfter (sheetBy rs c) ss)
+    unfolding sheetAfter
+    stages-good s-end g = g
+    stages-good (s-plan {rs = rs} {c = c} {n = n} f r x) g = stages-good x (stage-good (sheetBy rs c) n f r g)
+
+    stages-each : {rs : List Rule} {c : Counters} {n : ℕ} {ss : List Stage} → Stages limits corners kind preserved rs c n ss → Good (sheetBy rs c)
+        → {t : Stage} → List·Memᴰ t ss → Good (sheetWith kind preserved (t .after))
+    stages-each s-end g m = absurd (List·Memᴰ·not-nil m)
+    stages-each (s-plan {rs = rs} {c = c} {n = n} f r x) g (List·Memᴰ·head e) = subst (λ t. Good (sheetWith kind preserved (t .after))) (sym e) (stage-good (sheetBy rs c) n f r g)
+    stages-each (s-plan {rs = rs} {c = c} {n = n} f r x) g (List·Memᴰ·tail m) = stages-each x (stage-good (sheetBy rs c) n f r g) m
+
+    stages-trail : {rs : List Rule} {c : Counters} {n : ℕ} {ss : List Stage} → Stages limits corners kind preserved rs c n ss → Good (sheetBy rs c)
+        → Trail c (entriesOf ss) (sheetAfter (sheetBy rs c) ss .counters)
+    unfolding sheetAfter entriesOf
+    stages-trail s-end g = t-end
+    stages-trail (s-plan {rs = rs} {c = c} {n = n} {plan = plan} f r x) g =
+        trail-append (applied-trace innerDepth c rs (good-sound g) plan (plan-found limits corners preserved rs c f)) (stages-trail x (stage-good (sheetBy rs c) n f r g))
+
+    stages-short : {rs : List Rule} {c : Counters} {n : ℕ} {ss : List Stage} → Stages limits corners kind preserved rs c n ss → n ≤ 4096 → n + length (entriesOf ss) ≤ 4096
+    unfolding entriesOf
+    stages-short s-end l = omega arith
+    stages-short (s-plan {rs = rs} {c = c} {n = n} {plan = plan} {ts = ts} f r x) l =
+        let after = applyPlan innerDepth rs plan c in
+        let h = not-refused kind preserved after n r .2 in
+        let more = stages-short x h in
+        let e = length-append (after .entries) (entriesOf ts) in
+        omega arith
+
+  pub run-good : (s : Sheet) {ss : List Stage} → eliminateMutualLeftRecursion limits corners s ≡ ended ss → Good s → Good (sheetAfter s ss)
+  run-good s e g = stages-good (s .kind) (s .preserved) (sheet-stages limits corners s e) g
+
+  pub run-each : (s : Sheet) {ss : List Stage} → eliminateMutualLeftRecursion limits corners s ≡ ended ss → Good s → {t : Stage} → List·Memᴰ t ss → Good (sheetWith (s .kind) (s .preserved) (t .after))
+  run-each s e g m = stages-each (s .kind) (s .preserved) (sheet-stages limits corners s e) g m
+
+  pub run-trail : (s : Sheet) {ss : List Stage} → eliminateMutualLeftRecursion limits corners s ≡ ended ss → Good s → Trail (s .counters) (entriesOf ss) (sheetAfter s ss .counters)
+  run-trail s e g = stages-trail (s .kind) (s .preserved) (sheet-stages limits corners s e) g
+
+  -- The trail of a run: at most 4,096 entries, and words alone.
+  pub run-room : (s : Sheet) {ss : List Stage} → eliminateMutualLeftRecursion limits corners s ≡ ended ss → Good s
+      → (length (entriesOf ss) ≤ 4096) × ((w : ℕ) → List·Memᴰ w (each encodeEntry (entriesOf ss)) → w < 2 ^ 32)
+  run-room s {ss} e g =
+      let l = stages-short (s .kind) (s .preserved) (sheet-stages limits corners s e) (omega arith) in
+      (omega arith, λ w m. trail-words (run-trail s e g) (counters-fit (sheetAfter s ss) (run-good s e g .fitting)) m)
+
+  entries-length : (es : List Entry) → length (each encodeEntry es) ≡ 4 * length es
+  unfolding encodeEntry
+  entries-length [] = refl
+  entries-length (e ∷ es) = let h = entries-length es in omega arith
+
+  run-answer : (s : Sheet) → Good s → {ss : List Stage} → eliminateMutualLeftRecursion limits corners s ≡ ended ss → GoodAnswer (encode (sheetAfter s ss)) (each encodeEntry (entriesOf ss))
+  run-answer s g {ss} k =
+      let r = run-room s k g in
+      let l = entries-length (entriesOf ss) in
+      let n = r .0 in
+      record { tree = sheetAfter s ss; isEncoding = refl; readsBack = good-reads (run-good s k g); short = omega arith; areWords = r .1 }
+
+  pub answer-good : (bs : List ℕ) → ((i : ℕ) → getD bs i 0 < 256) → {plans steps : ℕ} {ws ts : List ℕ} → answerTo limits corners bs ≡ answer plans steps ws ts → GoodAnswer ws ts
+  unfolding answerTo answerReading answerRun
+  answer-good bs b {plans} {steps} {ws} {ts} e = go (read bs) refl e
+    where
+      ran : (s : Sheet) → Good s → (r : Run) → eliminateMutualLeftRecursion limits corners s ≡ r → answerRun s r ≡ answer plans steps ws ts → GoodAnswer ws ts
+      ran s g (stopped n) k f = absurd (let z : _≡_ {A = ℕ} 0 1 = cc in omega arith)
+      ran s g (ended ss) k f =
+          let same : encode (sheetAfter s ss) ≡ ws = cc in
+          let trail : each encodeEntry (entriesOf ss) ≡ ts = cc in
+          subst₂ GoodAnswer same trail (run-answer s g k)
+
+      go : (r : Reading) → read bs ≡ r → answerReading limits corners r ≡ answer plans steps ws ts → GoodAnswer ws ts
+      go (refused n) k f = absurd (let z : _≡_ {A = ℕ} 0 1 = cc in omega arith)
+      go (sheet s) k f =
+          let (v, w) = accepted-valid bs b s k in
+          ran s (good-of s v w) (eliminateMutualLeftRecursion limits corners s) refl f

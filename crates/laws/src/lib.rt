@@ -1,0 +1,1 @@
+// What is proved of the definition in `reference`: theorems only, in specs/.
