@@ -6,6 +6,7 @@ pub mod Read
 pub mod Ids
 pub mod Valid
 pub mod Reading
+pub mod Stands
 pub mod Shape
 pub mod Derive
 pub mod Corners

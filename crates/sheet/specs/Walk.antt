@@ -5,11 +5,11 @@ use mathlib.Core.List.{List, [], _∷_, _++_}
 use mathlib.Core.Bool.{Bool, true, false, _&&_, not}
 use lib.ListN.{length, getD, take}
 use lib.Dec.{eqb}
+use Rattle.grammar.specs.Stands.{Spans}
 use Rattle.grammar.specs.Tree.{Element, AlternativeOf, Block, Rule, RuleOf, bodyDepth}
 use Rattle.grammar.specs.Encode.{each, encodeElement, encodeAlternative, encodeBlock, encodeRule}
 use Rattle.grammar.specs.Valid.{all, okElement, okAlternative, okBlock, okRule}
 use Rattle.grammar.specs.Ids.{only, elementIds, alternativeIds, blockIds, bodyIds}
-use Rattle.grammar.specs.Laws.Parse.{Spans}
 use Rattle.sheet.specs.declared.ids.Place.{Place}
 use Rattle.sheet.specs.declared.ids.Own.{Own}
 use Rattle.sheet.specs.declared.ids.Own.the-variants.{Id, Nothing}

@@ -7,14 +7,15 @@ use native.Mathlib.Omega.{arith}
 use lib.ListN.{length, getD}
 use lib.Dec.{leb, eqb}
 use borrow.Author.Tests.{le-leb, eq-eqb, ne-eqb}
+use Rattle.grammar.specs.Stands.{Spans, Stands}
 use Rattle.grammar.specs.Tree.{Reference, ElementHead, Leaf, epsilon, action, predicate, call, token, terminal, leaf, block, Rule, bodyDepth}
 use Rattle.grammar.specs.Encode.{each, encodeOption, encodeReference, encodeHead, leafKind, encodeLeaf, encodeElement, encodeAlternative, encodeRule, encodeBlock, encodeRules}
 use Rattle.grammar.specs.Parse.{Got, got, given}
 use Rattle.grammar.specs.Read.{isName, isLabel, labelOf, room, optionAt, referenceAt, bodyAt, callAt, tokenAt, leafAt, isHead, headAt, payloadAt, elementAt, alternativeAt, ruleAt, blockAt, rulesAt}
 use Rattle.grammar.specs.Valid.{all, okOption, okReference, okLabel, okHead, okLeaf, okElement, okAlternative, okRule, okBlock}
-use Rattle.grammar.specs.Laws.Stands.{Stands, run-stands, stands-head, stands-length, stands-split}
+use Rattle.grammar.specs.Laws.Stands.{run-stands, stands-head, stands-length, stands-split}
 use Rattle.grammar.specs.Laws.Label.{is-label, label-of}
-use Rattle.grammar.specs.Laws.Parse.{both-true, left-true, right-true, then-got, given-got, Spans, Complete, many-complete}
+use Rattle.grammar.specs.Laws.Parse.{both-true, left-true, right-true, then-got, given-got, Complete, many-complete}
 
 module _ (ws : List ℕ) (end : ℕ) where
   given-room : {A : Type 0} (n at : ℕ) (f : Unit {0} → Got A) {r : Got A} → at + n ≤ end → f tt ≡ r → given (room ws end n at) f ≡ r

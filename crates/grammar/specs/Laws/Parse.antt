@@ -5,10 +5,11 @@ use mathlib.Core.List.{List, [], _∷_}
 use mathlib.Core.Bool.{Bool, true, false, _&&_}
 use native.Mathlib.Omega.{arith}
 use lib.ListN.{length}
+use Rattle.grammar.specs.Stands.{Spans, Stands}
 use Rattle.grammar.specs.Parse.{Got, got, bad, _then_, given, many}
 use Rattle.grammar.specs.Encode.{each}
 use Rattle.grammar.specs.Valid.{all}
-use Rattle.grammar.specs.Laws.Stands.{Stands, stands-none, stands-length, stands-append, stands-split}
+use Rattle.grammar.specs.Laws.Stands.{stands-none, stands-length, stands-append, stands-split}
 
 pub both-true : (a b : Bool) → a ≡ true → b ≡ true → (a && b) ≡ true
 both-true true b p q = q
@@ -60,18 +61,13 @@ pub given-got : {A : Type 0} (b : Bool) (f : Unit {0} → Got A) {r : Got A} →
 given-got b f e d = rw e d
 
 module _ (ws : List ℕ) (end : ℕ) where
-  -- The encoding of a stands from `at` up to q, and a passes the test.
-  pub record Spans {A : Type 0} (enc : A → List ℕ) (ok : A → Bool) (at : ℕ) (a : A) (q : ℕ) : Type 0 where
-    pub stands : Stands ws end (enc a) at q
-    pub fine : ok a ≡ true
-
   -- What a parser finds stands there.
   abbrev pub Sound : {A : Type 0} → (ℕ → Got A) → (A → List ℕ) → (A → Bool) → Type 0
-  Sound p enc ok = (at : ℕ) → at ≤ end → Yields (Spans enc ok at) (p at)
+  Sound p enc ok = (at : ℕ) → at ≤ end → Yields (Spans ws end enc ok at) (p at)
 
   -- What stands there a parser finds.
   abbrev pub Complete : {A : Type 0} → (ℕ → Got A) → (A → List ℕ) → (A → Bool) → Type 0
-  Complete {A} p enc ok = (at : ℕ) (a : A) (q : ℕ) → Spans enc ok at a q → p at ≡ got a q
+  Complete {A} p enc ok = (at : ℕ) (a : A) (q : ℕ) → Spans ws end enc ok at a q → p at ≡ got a q
 
 module _ {ws : List ℕ} {end : ℕ} {A : Type 0} (one : ℕ → Got A) (enc : A → List ℕ) (ok : A → Bool) where
   pub many-sound : Sound ws end one enc ok → (n at : ℕ) → at ≤ end

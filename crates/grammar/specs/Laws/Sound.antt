@@ -7,14 +7,15 @@ use native.Mathlib.Omega.{arith}
 use lib.ListN.{length, getD}
 use lib.Dec.{leb, eqb}
 use borrow.Author.Tests.{leb-true, eqb-true}
+use Rattle.grammar.specs.Stands.{Spans, Stands}
 use Rattle.grammar.specs.Tree.{Reference, ElementHead, Leaf, action, predicate, Rule, bodyDepth}
 use Rattle.grammar.specs.Encode.{each, encodeOption, encodeReference, encodeHead, leafKind, encodeLeaf, encodeElement, encodeAlternative, encodeRule, encodeBlock, encodeRules}
 use Rattle.grammar.specs.Parse.{Got, given}
 use Rattle.grammar.specs.Read.{isName, isLabel, room, optionAt, referenceAt, bodyAt, callAt, tokenAt, leafAt, isHead, headAt, payloadAt, elementAt, alternativeAt, ruleAt, blockAt, rulesAt}
 use Rattle.grammar.specs.Valid.{all, okOption, okReference, okHead, okLeaf, okElement, okAlternative, okRule, okBlock}
-use Rattle.grammar.specs.Laws.Stands.{Stands, first, stands-none, stands-two, stands-run, stands-length, stands-append}
+use Rattle.grammar.specs.Laws.Stands.{first, stands-none, stands-two, stands-run, stands-length, stands-append}
 use Rattle.grammar.specs.Laws.Label.{label-fine, label-id, label-name}
-use Rattle.grammar.specs.Laws.Parse.{both-true, left-true, right-true, either, Yields, nothing, yields, yields-map, yields-then, yields-given, Spans, Sound, many-sound}
+use Rattle.grammar.specs.Laws.Parse.{both-true, left-true, right-true, either, Yields, nothing, yields, yields-map, yields-then, yields-given, Sound, many-sound}
 
 module _ (ws : List ℕ) (end : ℕ) where
   yields-room : {A : Type 0} {P : A → ℕ → Type 0} (n at : ℕ) (f : Unit {0} → Got A)

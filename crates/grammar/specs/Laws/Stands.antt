@@ -1,4 +1,4 @@
--- A list of words that stands in another from a place up to a place: the relation that the reader decides and the encoder makes true.
+-- Lists of words that stand in another, one after the other.
 use Prim.Native.Nat.{ℕ, zero, suc, _+_, _≤_}
 use mathlib.Core.Path.{_≡_, refl, sym, ap, _∙_}
 use mathlib.Core.List.{List, [], _∷_, _++_}
@@ -6,15 +6,7 @@ use native.Mathlib.Nat.{add-zero, add-suc}
 use native.Mathlib.Omega.{arith}
 use lib.ListN.{length, getD, take, drop}
 use lib.Seq.{drop-cons, take-length}
-
--- xs stands in ws from k words behind `at` up to q, which is not past the end.
-abbrev pub Run : List ℕ → ℕ → List ℕ → ℕ → ℕ → ℕ → Type 0
-Run ws end [] at k q = (q ≡ at + k) × (q ≤ end)
-Run ws end (x ∷ xs) at k q = (getD ws (at + k) 0 ≡ x) × Run ws end xs at (suc k) q
-
--- xs stands in ws from `at` up to q, which is not past the end.
-pub record Stands (ws : List ℕ) (end : ℕ) (xs : List ℕ) (at q : ℕ) : Type 0 where
-  pub run : Run ws end xs at 0 q
+use Rattle.grammar.specs.Stands.{Run, Stands}
 
 module _ (ws : List ℕ) (end : ℕ) where
   run-move : (xs : List ℕ) (at k at′ k′ q : ℕ) → at + k ≡ at′ + k′ → Run ws end xs at k q → Run ws end xs at′ k′ q

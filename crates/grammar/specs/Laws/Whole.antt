@@ -7,13 +7,14 @@ use native.Mathlib.Omega.{arith}
 use lib.ListN.{length, take, drop}
 use lib.Dec.{leb, eqb}
 use borrow.Author.Tests.{leb-true, eqb-true, le-leb, eq-eqb}
+use Rattle.grammar.specs.Stands.{Stands}
 use Rattle.grammar.specs.Tree.{Rule, Sheet, bodyDepth}
 use Rattle.grammar.specs.Encode.{encode, encodeRules, encodeCounters}
 use Rattle.grammar.specs.Parse.{Got, got}
 use Rattle.grammar.specs.Ids.{member, isDistinct, isBelow}
 use Rattle.grammar.specs.Valid.{all, okRule, okBlock, okRules, rising, ruleLimit, isKind, valid}
 use Rattle.grammar.specs.Reading.{Reading, refused, sheet, trailer, unitKind, firstDistance, secondDistance, isTrailer, rulesEnd, preservedIds, countersOf, rulesOf, sheetOf, judge, readWords}
-use Rattle.grammar.specs.Laws.Stands.{Stands, first, stands-head, stands-length, stands-append, stands-within, stands-slice, slice-stands, stands-split, stands-whole}
+use Rattle.grammar.specs.Laws.Stands.{first, stands-head, stands-length, stands-append, stands-within, stands-slice, slice-stands, stands-split, stands-whole}
 use Rattle.grammar.specs.Laws.Parse.{both-true, left-true, right-true, either, Yields, found, nothing, yields, yields-then, yields-given, then-got, given-got}
 use Rattle.grammar.specs.Laws.Sound.{RulesAt, rules-sound}
 use Rattle.grammar.specs.Laws.Complete.{rules-complete}

@@ -6,13 +6,14 @@ use mathlib.Core.Bool.{Bool, true, false}
 use native.Mathlib.Omega.{arith}
 use lib.ListN.{length, getD, take}
 use lib.Dec.{leb}
+use Rattle.grammar.specs.Stands.{Spans, Stands}
 use Rattle.grammar.specs.Tree.{AlternativeOf, Block, RuleOf, Rule, bodyDepth}
 use Rattle.grammar.specs.Read.{isName}
 use Rattle.grammar.specs.Encode.{each, encodeRule, encodeBlock, encodeAlternative}
 use Rattle.grammar.specs.Valid.{all, okRule, okBlock, okAlternative}
 use Rattle.grammar.specs.Ids.{blockIds, alternativeIds, bodyIds}
-use Rattle.grammar.specs.Laws.Stands.{Stands, stands-length, run-stands}
-use Rattle.grammar.specs.Laws.Parse.{Spans, right-true}
+use Rattle.grammar.specs.Laws.Stands.{stands-length, run-stands}
+use Rattle.grammar.specs.Laws.Parse.{right-true}
 use Rattle.sheet.specs.declared.ids.Place.{Place}
 use Rattle.sheet.specs.Walk.{Found, FoundMany, FoundAlternatives, FoundRules, Collected, CollectedAlternatives, CollectedRules, CollectedSort}
 use Rattle.sheet.proofs.Laws.Walk.{first-found, rest-found}

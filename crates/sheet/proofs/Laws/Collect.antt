@@ -8,13 +8,14 @@ use native.Mathlib.Numerals.{sub-one}
 use lib.ListN.{length, getD, take}
 use lib.Dec.{eqb, leb}
 use borrow.Author.Tests.{eq-eqb, ne-eqb, leb-true}
+use Rattle.grammar.specs.Stands.{Spans, Stands}
 use Rattle.grammar.specs.Tree.{Label, unlabelled, labelled, ElementHead, Leaf, epsilon, action, predicate, call, token, terminal, Element, leaf, block, AlternativeOf, Block}
 use Rattle.grammar.specs.Encode.{each, labelId, labelName, encodeLeaf, leafKind, encodeElement, encodeAlternative, encodeBlock}
 use Rattle.grammar.specs.Valid.{all, okHead, okLabel, okElement, okAlternative, okBlock, okOption}
 use Rattle.grammar.specs.Read.{isName}
 use Rattle.grammar.specs.Ids.{only, labelIds, headIds, leafIds, elementIds, alternativeIds, blockIds}
-use Rattle.grammar.specs.Laws.Stands.{Stands, stands-length, stands-head, run-stands}
-use Rattle.grammar.specs.Laws.Parse.{Spans, left-true, right-true}
+use Rattle.grammar.specs.Laws.Stands.{stands-length, stands-head, run-stands}
+use Rattle.grammar.specs.Laws.Parse.{left-true, right-true}
 use Rattle.sheet.specs.declared.ids.Place.{Place}
 use Rattle.sheet.specs.Walk.{ownIds, Found, FoundMany, FoundElement, FoundElements, FoundAlternatives, ElementSpans, HeadAt, AlternativeAt, LeafEnd, Collected, CollectedElements, CollectedAlternatives}
 use Rattle.sheet.proofs.Laws.Walk.{HeadWords, Opened, opened-leaf, opened-block, opened, leaf-kind, first-spans, first-found, rest-found, alternative-words}

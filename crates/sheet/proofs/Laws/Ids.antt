@@ -8,6 +8,7 @@ use lib.ListN.{length, getD, set, take}
 use lib.Seq.{take-suc-set}
 use lib.Dec.{eqb, leb}
 use borrow.Author.Tests.{eq-eqb, ne-eqb}
+use Rattle.grammar.specs.Stands.{Spans, Stands}
 use Rattle.grammar.specs.Ids.{only}
 use Rattle.sheet.specs.declared.ids.Own.the-variants.{Id, Nothing}
 use native.Mathlib.Numerals.{add-one, sub-one}
@@ -18,8 +19,8 @@ use Rattle.grammar.specs.Valid.{all, okHead, okLabel, okElement, okAlternative,
 use Rattle.grammar.specs.Read.{isName}
 use Rattle.grammar.specs.Ids.{labelIds, headIds, leafIds, elementIds, alternativeIds, blockIds}
 use Rattle.grammar.specs.Laws.Words.{length-words}
-use Rattle.grammar.specs.Laws.Stands.{Stands, stands-length, stands-head, run-stands}
-use Rattle.grammar.specs.Laws.Parse.{Spans, left-true, right-true}
+use Rattle.grammar.specs.Laws.Stands.{stands-length, stands-head, run-stands}
+use Rattle.grammar.specs.Laws.Parse.{left-true, right-true}
 use Rattle.sheet.specs.declared.ids.Own.{Own}
 use Rattle.sheet.specs.declared.ids.Place.{Place}
 use Rattle.sheet.specs.Walk.{ownOf, ownIds, Found, FoundMany, FoundElement, FoundElements, FoundAlternatives, ElementSpans, HeadAt, AlternativeAt, LeafEnd, Collected, CollectedElements, CollectedAlternatives}

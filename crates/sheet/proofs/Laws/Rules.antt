@@ -7,14 +7,15 @@ use native.Mathlib.Omega.{arith}
 use lib.ListN.{length, getD, set, replicate, length-append}
 use lib.Seq.{set-append-seam}
 use borrow.Author.Tests.{eq-eqb, ne-eqb}
+use Rattle.grammar.specs.Stands.{Spans, Stands}
 use Rattle.grammar.specs.Tree.{Rule, bodyDepth}
 use Rattle.grammar.specs.Parse.{Got, got, bad, _then_, given}
 use Rattle.grammar.specs.Encode.{each, encodeRule, encodeRules, encodeBlock}
 use Rattle.grammar.specs.Read.{ruleAt, blockAt, rulesAt}
 use Rattle.grammar.specs.Valid.{ruleLimit, okRule, okBlock}
 use Rattle.grammar.specs.Ids.{ruleIds, ruleNames}
-use Rattle.grammar.specs.Laws.Stands.{Stands, stands-length, stands-head}
-use Rattle.grammar.specs.Laws.Parse.{Spans, Yields, yields-got}
+use Rattle.grammar.specs.Laws.Stands.{stands-length, stands-head}
+use Rattle.grammar.specs.Laws.Parse.{Yields, yields-got}
 use Rattle.grammar.specs.Laws.Sound.{rule-sound, block-sound}
 use Rattle.sheet.specs.declared.records.Step.{Step}
 use Rattle.sheet.specs.declared.records.Step.the-variants.{Next, Bad}

@@ -8,6 +8,7 @@ use lib.ListN.{length, take, replicate, length-append}
 use lib.Seq.{length-take-le}
 use lib.Dec.{leb}
 use borrow.Author.Tests.{leb-true}
+use Rattle.grammar.specs.Stands.{Stands}
 use Rattle.grammar.specs.Tree as tree
 use Rattle.grammar.specs.Words.{words}
 use Rattle.grammar.specs.Encode.{encode, encodeRules, encodeCounters}
@@ -15,7 +16,7 @@ use Rattle.grammar.specs.Ids.{bodyIds}
 use Rattle.grammar.specs.Reading as reading
 use Rattle.grammar.specs.Reading.{refused, sheet, isLength, readWords}
 use Rattle.grammar.specs.Laws.Words.{length-words}
-use Rattle.grammar.specs.Laws.Stands.{Stands, stands-self, stands-split, stands-length, stands-within}
+use Rattle.grammar.specs.Laws.Stands.{stands-self, stands-split, stands-length, stands-within}
 use Rattle.grammar.specs.Laws.Parse.{left-true, right-true}
 use Rattle.grammar.specs.Laws.Whole.{IsSheet, words-sound, reads-sheet}
 use Rattle.sheet.specs.declared.rules.Rules.{Rules}

@@ -7,11 +7,12 @@ use native.Mathlib.Omega.{arith}
 use native.Mathlib.Numerals.{sub-one}
 use lib.ListN.{length, getD, length-append}
 use lib.Dec.{leb}
+use Rattle.grammar.specs.Stands.{Spans, Stands}
 use Rattle.grammar.specs.Tree.{OptionDecl, Reference, Label, ElementHead, Leaf, epsilon, action, predicate, call, token, terminal, Element, leaf, block, AlternativeOf, Block}
 use Rattle.grammar.specs.Encode.{each, encodeOption, encodeReference, labelId, labelName, encodeHead, encodeLeaf, leafKind, encodeElement, encodeAlternative, encodeBlock}
 use Rattle.grammar.specs.Valid.{all, okHead, okLeaf, okElement, okAlternative, okBlock, okOption}
-use Rattle.grammar.specs.Laws.Stands.{Stands, stands-length, stands-split, stands-head, run-stands}
-use Rattle.grammar.specs.Laws.Parse.{Spans, left-true, right-true}
+use Rattle.grammar.specs.Laws.Stands.{stands-length, stands-split, stands-head, run-stands}
+use Rattle.grammar.specs.Laws.Parse.{left-true, right-true}
 use Rattle.sheet.specs.Walk.{Found, FoundMany, FoundElement, FoundElements, FoundAlternative, FoundAlternatives, ElementSpans, HeadAt, AlternativeAt, LeafEnd}
 
 -- two words each
