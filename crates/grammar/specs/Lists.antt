@@ -1,5 +1,6 @@
 -- Functions on lists. Sets are lists here, and only membership in them is asked.
 use Prim.Native.Nat.{ℕ, zero, suc, _+_}
+use mathlib.Core.Logic.{_⊎_}
 use mathlib.Core.List.{List, [], _∷_}
 use mathlib.Core.Option.{Option, none, some}
 use mathlib.Core.Bool.{Bool, true, false, _||_}
@@ -53,3 +54,12 @@ rounds round zero xs = xs
 rounds round (suc n) xs =
     let ys = round xs in
     elim (eqb (length ys) (length xs)) [ true ↦ xs | false ↦ rounds round n ys ]
+
+-- Each, or one, of a list has a property.
+abbrev pub AllOf : {A : Type 0} → (A → Type 0) → List A → Type 0
+AllOf P [] = Unit {0}
+AllOf P (a ∷ as′) = P a × AllOf P as′
+
+abbrev pub AnyOf : {A : Type 0} → (A → Type 0) → List A → Type 0
+AnyOf P [] = ⊥
+AnyOf P (a ∷ as′) = P a ⊎ AnyOf P as′

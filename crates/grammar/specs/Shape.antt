@@ -89,3 +89,15 @@ eraseRules d rs = bodiesBy d (λ r. r .name) rs
 unfoldable pub find : Shapes → ℕ → Option Shape
 find [] n = none
 find (r ∷ rs) n = elim (eqb (r .name) n) [ true ↦ some (r .body) | false ↦ find rs n ]
+
+-- Every name called in a shape has the property P.
+abbrev pub EachCall : (ℕ → Type 0) → Shape → Type 0
+EachCall P eps = Unit {0}
+EachCall P fail = Unit {0}
+EachCall P (symbol a) = Unit {0}
+EachCall P (callOf n) = P n
+EachCall P (seq s t) = EachCall P s × EachCall P t
+EachCall P (alt s t) = EachCall P s × EachCall P t
+EachCall P (opt s) = EachCall P s
+EachCall P (star s) = EachCall P s
+EachCall P (plus s) = EachCall P s

@@ -7,21 +7,20 @@ use mathlib.Core.List.{List, [], _∷_, _++_, map, List·Memᴰ}
 use mathlib.Core.Option.{some, none}
 use mathlib.Core.Bool.{true, false}
 use lib.ListN.{length}
+use Rattle.grammar.specs.Lists.{AllOf}
 use Rattle.grammar.specs.Tree.{ElementHead, Element, leaf, block, call, AlternativeOf, Block, RuleOf, Sheet, Leaf, token, terminal, Alternative, Rule, bodyDepth}
 use Rattle.grammar.specs.Words.{words, bytes}
 use Rattle.grammar.specs.Encode.{encode}
 use Rattle.grammar.specs.Ids.{member, distinct}
 use Rattle.grammar.specs.Valid.{all, rising, valid, fits}
 use Rattle.grammar.specs.Reading.{sheet, read}
-use Rattle.grammar.specs.Shape.{Shape, eraseElement, eraseElements, eraseBlock, Shapes, eraseRules, find, Word}
+use Rattle.grammar.specs.Shape.{Shape, eraseElement, eraseElements, eraseBlock, Shapes, eraseRules, find, Word, EachCall}
 use Rattle.grammar.specs.Derive.{CanBeEmpty, RuleDerives, isKept, isRemoved}
 use Rattle.grammar.specs.Corners.{Corners, textbook, Corner, Reaches}
-use Rattle.grammar.specs.Laws.Derive.Empty.{AllOf}
 use Rattle.reference.specs.Analysis.{elementNullable, blockIsNullable, nullableRules, grammarOf, leftCorners, blockCorners, leftCornerCycles, Grammar, idsOf}
 use Rattle.reference.specs.Substitute.{Limits, Planned, Substituted, decided, declined, budget, step, substitute}
 use Rattle.reference.specs.Apply.{Entry, Node, Origin, Origins, origins, provenance}
 use Rattle.reference.specs.Run.{answerTo, answer, areLent, filled, outcome, innerDepth, Stage, noPlan, findPlan, eliminateInUnit, eliminateMutualLeftRecursion, sheetAfter}
-use Rattle.grammar.specs.Laws.Derive.Removal.{EachCall}
 use Rattle.reference.specs.Walks.{isOptional}
 
 -- 1. "What derives the empty string can be empty." The definition's tests, in the grammar of some rules, are this.

@@ -3,11 +3,11 @@ use Prim.Native.Nat.{ℕ, zero, suc}
 use mathlib.Core.Path.{refl, ap, subst}
 use mathlib.Core.Logic.{_↔_}
 use mathlib.Core.List.{List, [], _∷_, _++_, map, List·Memᴰ, List·Memᴰ·head, List·Memᴰ·tail}
+use Rattle.grammar.specs.Lists.{AllOf}
 use Rattle.grammar.specs.Tree.{ElementHead, Leaf, epsilon, action, predicate, call, token, terminal, Element, leaf, block, Block}
 use Rattle.grammar.specs.Shape.{Shape, alts, callOf, eraseLeaf, eraseElement, eraseElements, eraseBlock, Shapes}
 use Rattle.grammar.specs.Derive.{CanBeEmpty}
 use Rattle.grammar.specs.Corners.{textbook, stops, Corner, c-call, c-first, c-later, c-left, c-right}
-use Rattle.grammar.specs.Laws.Derive.Empty.{AllOf}
 pub use Rattle.laws.specs.Demands.{LeftCorner, called, inside}
 use Rattle.grammar.specs.Laws.Derive.Corner.{corner-quantified}
 

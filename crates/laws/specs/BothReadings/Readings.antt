@@ -5,12 +5,13 @@ use mathlib.Core.Logic.{_⊎_, inl, inr, ⊎-elim, ⊎-map}
 use mathlib.Core.List.{List, [], _∷_, _++_, append-assoc, List·Memᴰ, List·Memᴰ·head, List·Memᴰ·tail}
 use mathlib.Core.Option.{Option, none, some, Option·none-ne-some}
 use mathlib.Core.Bool.{true, false≢true}
+use Rattle.grammar.specs.Lists.{AllOf}
 use Rattle.grammar.specs.Tree.{ElementHead, Leaf, epsilon, action, predicate, call, token, terminal, Element, leaf, block, AlternativeOf, Block, Rule, bodyDepth, Sheet}
 use Rattle.grammar.specs.Shape.{Shape, callOf, eraseLeaf, eraseElement, eraseBlock, Shapes, find, eraseRules}
 use Rattle.grammar.specs.Derive.{CanBeEmpty}
 use Rattle.grammar.specs.Corners.{Corners, rust, textbook, isMissing, isSymbol, stops, Skippable, Corner, c-call, c-first, c-later, c-left, c-right}
 use Rattle.grammar.specs.Laws.Parse.{either}
-use Rattle.grammar.specs.Laws.Derive.Empty.{AllOf, symbol-empty, call-empty, quantified-empty}
+use Rattle.grammar.specs.Laws.Derive.Empty.{symbol-empty, call-empty, quantified-empty}
 use Rattle.grammar.specs.Laws.Derive.Corner.{corner-quantified, symbol-quantified}
 use Rattle.reference.specs.Walks.{isOptional}
 use Rattle.reference.specs.Substitute.{Limits}

@@ -5,12 +5,11 @@ use mathlib.Core.Logic.{⊎-elim}
 use mathlib.Core.List.{List, [], _∷_, _++_, map, List·Memᴰ, List·Memᴰ·head, List·Memᴰ·tail, List·Memᴰ·cases-cons, List·Memᴰ·append-cases, List·Memᴰ·eq-of-singleton, Memᴰ·of-map}
 use mathlib.Core.Option.{Option, none, some}
 use mathlib.Core.Bool.{Bool, true, false, _&&_, not, false≢true}
+use Rattle.grammar.specs.Lists.{AllOf}
 use Rattle.grammar.specs.Tree.{ElementHead, Leaf, epsilon, action, predicate, call, token, terminal, leaf, block, AlternativeOf, Block, RuleOf, Counters}
-use Rattle.grammar.specs.Shape.{Shape, eraseLeaf, eraseElement, eraseBlock, Shapes, find}
+use Rattle.grammar.specs.Shape.{Shape, eraseLeaf, eraseElement, eraseBlock, Shapes, find, EachCall}
 use Rattle.grammar.specs.Corners.{rust, textbook, isMissing}
 use Rattle.grammar.specs.Laws.Parse.{either}
-use Rattle.grammar.specs.Laws.Derive.Empty.{AllOf}
-use Rattle.grammar.specs.Laws.Derive.Removal.{EachCall}
 use Rattle.grammar.specs.Laws.Derive.Copies.{Change, changeElement, changeAlternative, changeBlock, dropIds, dropLeafId}
 use Rattle.grammar.specs.Laws.Derive.Rules.{in-map}
 use Rattle.reference.specs.Walks.{sortOf}

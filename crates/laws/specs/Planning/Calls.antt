@@ -5,9 +5,9 @@ use mathlib.Core.List.{List, [], _∷_, _++_, map, List·Memᴰ, List·Memᴰ·h
 use mathlib.Core.Option.{some}
 use Rattle.grammar.specs.Tree.{ElementHead, Leaf, epsilon, action, predicate, call, token, terminal, Element, leaf, block, AlternativeOf, Block, RuleOf}
 use Rattle.grammar.specs.Encode.{each}
-use Rattle.grammar.specs.Shape.{Shape, eps, fail, symbol, callOf, seq, alt, opt, star, plus, quantified, eraseLeaf, eraseElement, eraseBlock}
+use Rattle.grammar.specs.Shape.{Shape, eps, fail, symbol, callOf, seq, alt, opt, star, plus, quantified, eraseLeaf, eraseElement, eraseBlock, EachCall}
 use Rattle.grammar.specs.Laws.Derive.Quantifier.{quantified-cases}
-use Rattle.grammar.specs.Laws.Derive.Removal.{EachCall, each-quantified}
+use Rattle.grammar.specs.Laws.Derive.Removal.{each-quantified}
 use Rattle.reference.specs.Walks.{sortOf, elementGives, blockGives, elementsGive, nothing}
 use Rattle.reference.specs.Analysis.{Grammar, target, calls, collectCallsInElements, collectCallsInto}
 use Rattle.reference.specs.Substitute.{plainHead}

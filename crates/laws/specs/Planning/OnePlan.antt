@@ -13,11 +13,11 @@ use Rattle.grammar.specs.Encode.{each}
 use Rattle.grammar.specs.Ids.{member, distinct}
 use Rattle.grammar.specs.Lists.{keep}
 use Rattle.grammar.specs.Corners.{Corners, isMissing, Corner}
-use Rattle.grammar.specs.Shape.{Shape, alts, Shapes, find, eraseBlock, eraseRules}
+use Rattle.grammar.specs.Shape.{Shape, alts, Shapes, find, eraseBlock, eraseRules, EachCall}
 use Rattle.grammar.specs.Laws.Parse.{both-true, left-true, right-true, either}
 use Rattle.grammar.specs.Laws.Derive.Cover.{Alike, Same, same-trans, SameStrings, alike-replaced, replaceBody, replaced-others, replaced-found}
 use Rattle.grammar.specs.Laws.Derive.Copies.{map-unseen}
-use Rattle.grammar.specs.Laws.Derive.Removal.{EachCall, AlikeOn, removal, without, without-found}
+use Rattle.grammar.specs.Laws.Derive.Removal.{AlikeOn, removal, without, without-found}
 use Rattle.grammar.specs.Laws.Derive.Corner.{same-corner, removal-corner}
 use Rattle.grammar.specs.Laws.Derive.Rules.{in-map, rule-found, found-rule}
 use Rattle.reference.specs.Analysis.{Grammar, idsOf, target, collectCallsInto, collectCallsInElements}

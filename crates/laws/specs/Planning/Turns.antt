@@ -9,10 +9,10 @@ use lib.ListN.{length, take, drop}
 use lib.Seq.{take-at, drop-at}
 use lib.Dec.{eqb}
 use borrow.Author.Tests.{eqb-true, eq-eqb}
+use Rattle.grammar.specs.Lists.{AllOf}
 use Rattle.grammar.specs.Tree.{OptionDecl, ElementHead, epsilon, action, predicate, call, token, terminal, Element, leaf, block, AlternativeOf, Block, RuleOf}
 use Rattle.grammar.specs.Ids.{member}
 use Rattle.grammar.specs.Laws.Parse.{both-true, left-true, either}
-use Rattle.grammar.specs.Laws.Derive.Empty.{AllOf}
 use Rattle.reference.specs.Walks.{sortOf, isEpsilonOnly, isOne, bareReference}
 use Rattle.reference.specs.Analysis.{Grammar, target, ruleWithId}
 use Rattle.reference.specs.Substitute.{Clause, danglingReference, labelCollision, bindingCollision, optionCollision, budget, Decided, decided, declined, overfull, _andThen_, require, found, decideEach, Limits, inSlotOf, PlannedCorner, optional, satellite, blocked, settled, further, memberCorner, plannedCorner, without, plainHead, plain, splitOptional, unionOptions, Planned, labelsCollide, implicitBindingsCollide, remainingActionsReference, spliceAlternative, spliceSatellite, isWithin, Substituted, replacement, step, substitute}

@@ -13,11 +13,10 @@ use Rattle.grammar.specs.Tree.{ElementHead, epsilon, action, predicate, call, t
 use Rattle.grammar.specs.Ids.{member}
 use Rattle.grammar.specs.Valid.{all}
 use Rattle.grammar.specs.Lists.{any, meet}
-use Rattle.grammar.specs.Shape.{eraseBlock, eraseRules}
+use Rattle.grammar.specs.Shape.{eraseBlock, eraseRules, EachCall}
 use Rattle.grammar.specs.Derive.{CanBeEmpty}
 use Rattle.grammar.specs.Corners.{Corners, Corner}
 use Rattle.grammar.specs.Laws.Parse.{left-true, right-true, either}
-use Rattle.grammar.specs.Laws.Derive.Removal.{EachCall}
 use Rattle.grammar.specs.Laws.Derive.Copies.{changeElement, dropIds, copies-shape}
 use Rattle.grammar.specs.Laws.Derive.Rules.{in-map}
 use Rattle.reference.specs.Walks.{sortOf, isEpsilonOnly, isOne}

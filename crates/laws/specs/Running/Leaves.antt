@@ -7,11 +7,10 @@ use mathlib.Core.Bool.{true, false, true≢false}
 use Rattle.grammar.specs.Tree.{Block, RuleOf, Counters}
 use Rattle.grammar.specs.Ids.{member}
 use Rattle.grammar.specs.Corners.{Corners}
-use Rattle.grammar.specs.Shape.{Word, callOf, eraseBlock, eraseRules}
+use Rattle.grammar.specs.Shape.{Word, callOf, eraseBlock, eraseRules, EachCall}
 use Rattle.grammar.specs.Derive.{Der, RuleDerives}
 use Rattle.grammar.specs.Laws.Parse.{either}
 use Rattle.grammar.specs.Laws.Derive.Cover.{Same, same-refl, same-trans}
-use Rattle.grammar.specs.Laws.Derive.Removal.{EachCall}
 use Rattle.grammar.specs.Laws.Derive.Rules.{in-map, rule-derives}
 use Rattle.reference.specs.Analysis.{Grammar, idsOf}
 use Rattle.reference.specs.Plan.{CyclePlan}

@@ -6,12 +6,12 @@ use mathlib.Core.List.{List, [], _∷_, _++_, map, List·Memᴰ, List·Memᴰ·h
 use mathlib.Core.Option.{some, Option·some-injective}
 use mathlib.Core.Bool.{true, not, false≢true}
 use native.Mathlib.Omega.{arith}
+use Rattle.grammar.specs.Lists.{AllOf}
 use Rattle.grammar.specs.Tree.{ElementHead, call, Element, leaf, Block, RuleOf, Rule, bodyDepth}
 use Rattle.grammar.specs.Ids.{member, distinct}
 use Rattle.grammar.specs.Shape.{find, eraseBlock, eraseRules}
 use Rattle.grammar.specs.Corners.{Corners, Corner, Reaches}
 use Rattle.grammar.specs.Laws.Parse.{both-true, either}
-use Rattle.grammar.specs.Laws.Derive.Empty.{AllOf}
 use Rattle.grammar.specs.Laws.Derive.Rules.{in-member, in-map, rule-found}
 use Rattle.reference.specs.Walks.{sortOf, isEpsilonOnly}
 use Rattle.reference.specs.Analysis.{Grammar, idsOf, target, grammarOf}

@@ -5,11 +5,12 @@ use mathlib.Core.Logic.{_⊎_, inl, inr, ⊎-elim, ⊎-map}
 use mathlib.Core.List.{List, [], _∷_, _++_, map, map-append, map-map, List·Memᴰ, List·Memᴰ·head, List·Memᴰ·tail}
 use mathlib.Core.Option.{some}
 use mathlib.Core.Bool.{true, false, false≢true}
+use Rattle.grammar.specs.Lists.{AllOf}
 use Rattle.grammar.specs.Tree.{ElementHead, epsilon, action, predicate, call, token, terminal, Element, leaf, block, AlternativeOf, Block, RuleOf, Counters}
 use Rattle.grammar.specs.Shape.{Shape, eps, callOf, seqs, alts, quantified, eraseLeaf, eraseElement, eraseBlock, Shapes, find, eraseRules}
 use Rattle.grammar.specs.Derive.{CanBeEmpty, d-eps, d-call, d-left, d-right}
 use Rattle.grammar.specs.Corners.{Corners, rust, textbook, isMissing, isSymbol, stops, Skippable, Corner, c-call, c-first, c-later, c-left, c-right, Leads, Reaches, r-last, r-more}
-use Rattle.grammar.specs.Laws.Derive.Empty.{AllOf, seqs-empty, quantified-empty}
+use Rattle.grammar.specs.Laws.Derive.Empty.{seqs-empty, quantified-empty}
 use Rattle.grammar.specs.Laws.Derive.Corner.{corner-quantified, symbol-quantified, reaches-trans}
 use Rattle.grammar.specs.Laws.Derive.Elements.{corner-append}
 use Rattle.grammar.specs.Laws.Derive.Rules.{found-rule, rule-found}

@@ -6,12 +6,12 @@ use mathlib.Core.List.{List, [], _∷_, _++_, List·Memᴰ, List·Memᴰ·head, 
 use mathlib.Core.Option.{Option, none, some}
 use mathlib.Core.Bool.{Bool, true, false, _&&_, not, false≢true}
 use borrow.Author.Tests.{not-true}
-use Rattle.grammar.specs.Shape.{Shape, eps, fail, symbol, callOf, seq, alt, opt, star, plus, quantified, Shapes, find}
+use Rattle.grammar.specs.Shape.{Shape, eps, fail, symbol, callOf, seq, alt, opt, star, plus, quantified, Shapes, find, EachCall}
 use Rattle.grammar.specs.Derive.{CanBeEmpty}
 use Rattle.grammar.specs.Corners.{Corners, rust, textbook, isMissing, isSymbol, stops, Skippable, Corner, c-call, c-first, c-later, c-left, c-right, c-opt, c-star, c-plus, Reaches, r-last, r-more}
 use Rattle.grammar.specs.Laws.Parse.{left-true, right-true}
 use Rattle.grammar.specs.Laws.Derive.Quantifier.{quantified-cases}
-use Rattle.grammar.specs.Laws.Derive.Removal.{EachCall, each-any, AlikeOn, alike-on-sym, removal}
+use Rattle.grammar.specs.Laws.Derive.Removal.{each-any, AlikeOn, alike-on-sym, removal}
 use Rattle.grammar.specs.Laws.Derive.Cover.{SameStrings}
 
 module _ {c : Corners} {G : Shapes} where

@@ -4,9 +4,9 @@ use Prim.Native.Nat.{ℕ}
 use mathlib.Core.Path.{_≡_, refl, ap, subst}
 use mathlib.Core.Logic.{_↔_, _⊎_, inl, inr, ⊎-map, ⊎-elim}
 use mathlib.Core.List.{List, [], _∷_, _++_}
+use Rattle.grammar.specs.Lists.{AllOf, AnyOf}
 use Rattle.grammar.specs.Shape.{Shape, eps, seqs, alts, Shapes}
 use Rattle.grammar.specs.Corners.{Corners, Skippable, Corner, c-first, c-later, c-left, c-right}
-use Rattle.grammar.specs.Laws.Derive.Empty.{AllOf, AnyOf}
 
 -- The place of a left corner among the elements of an alternative.
 pub record Place (c : Corners) (G : Shapes) (es : List Shape) (n : ℕ) : Type 0 where

@@ -5,6 +5,7 @@ use mathlib.Core.Logic.{_↔_, _⊎_, inl, inr, ⊎-map, ⊎-elim}
 use mathlib.Core.List.{List, [], _∷_, _++_, map, cons≢nil}
 use mathlib.Core.Option.{some}
 use mathlib.Core.Bool.{Bool, true, false, _&&_, _||_, false≢true, or-true}
+use Rattle.grammar.specs.Lists.{AllOf, AnyOf}
 use Rattle.grammar.specs.Shape.{Symbol, Word, Shape, eps, fail, symbol, callOf, seq, alt, opt, star, plus, seqs, alts, quantified, Shapes, find}
 use Rattle.grammar.specs.Derive.{Der, d-eps, d-symbol, d-call, d-unknown, d-seq, d-left, d-right, d-absent, d-present, d-none, d-more, d-some, CanBeEmpty}
 use Rattle.grammar.specs.Valid.{all}
@@ -19,15 +20,6 @@ left-empty (a ∷ u) v e = absurd (cons≢nil e)
 right-empty : (u v : Word) → u ++ v ≡ [] → v ≡ []
 right-empty [] v e = e
 right-empty (a ∷ u) v e = absurd (cons≢nil e)
-
--- Each, or one, of a list has a property.
-abbrev pub AllOf : {A : Type 0} → (A → Type 0) → List A → Type 0
-AllOf P [] = Unit {0}
-AllOf P (a ∷ as′) = P a × AllOf P as′
-
-abbrev pub AnyOf : {A : Type 0} → (A → Type 0) → List A → Type 0
-AnyOf P [] = ⊥
-AnyOf P (a ∷ as′) = P a ⊎ AnyOf P as′
 
 module _ {G : Shapes} where
   -- A tree of the empty string joins trees of empty strings.

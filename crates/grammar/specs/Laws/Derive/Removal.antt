@@ -6,23 +6,11 @@ use mathlib.Core.Option.{some}
 use mathlib.Core.Bool.{Bool, true, false, true≢false}
 use lib.Dec.{eqb}
 use borrow.Author.Tests.{ne-eqb}
-use Rattle.grammar.specs.Shape.{Word, Shape, eps, fail, symbol, callOf, seq, alt, opt, star, plus, quantified, Shapes, find}
+use Rattle.grammar.specs.Shape.{Word, Shape, eps, fail, symbol, callOf, seq, alt, opt, star, plus, quantified, Shapes, find, EachCall}
 use Rattle.grammar.specs.Derive.{Der, d-eps, d-symbol, d-call, d-unknown, d-seq, d-left, d-right, d-absent, d-present, d-none, d-more, d-some}
 use Rattle.grammar.specs.Laws.Parse.{either}
 use Rattle.grammar.specs.Laws.Derive.Quantifier.{quantified-cases}
 use Rattle.grammar.specs.Laws.Derive.Cover.{Same, find-next, find-behind}
-
--- Every name called in a shape has the property P.
-abbrev pub EachCall : (ℕ → Type 0) → Shape → Type 0
-EachCall P eps = Unit {0}
-EachCall P fail = Unit {0}
-EachCall P (symbol a) = Unit {0}
-EachCall P (callOf n) = P n
-EachCall P (seq s t) = EachCall P s × EachCall P t
-EachCall P (alt s t) = EachCall P s × EachCall P t
-EachCall P (opt s) = EachCall P s
-EachCall P (star s) = EachCall P s
-EachCall P (plus s) = EachCall P s
 
 pub each-quantified : (P : ℕ → Type 0) (q : ℕ) (s : Shape) → EachCall P s → EachCall P (quantified q s)
 each-quantified P q s p = quantified-cases (λ o t. EachCall P t) q s p p p p
