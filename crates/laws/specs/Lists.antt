@@ -4,3 +4,4 @@ pub mod Order
 pub mod Count
 pub mod Every
 pub mod Lookup
+pub mod Few

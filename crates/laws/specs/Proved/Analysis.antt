@@ -1,4 +1,4 @@
--- The promises of DemandsA, proved: for every grammar whose rules share no id and no name, and for every sheet that the
+-- The promises of Demands, proved: for every grammar whose rules share no id and no name, and for every sheet that the
 -- reader accepts.
 use Prim.Native.Nat.{ℕ, _<_}
 use mathlib.Core.Path.{_≡_}

@@ -17,42 +17,12 @@ use Rattle.reference.specs.Substitute.{Limits}
 use Rattle.reference.specs.Apply.{applyPlan}
 use Rattle.reference.specs.Run.{innerDepth, Stage, ended, Search, noPlan, planned, tooLarge, preceded, findPlan, refusalOf, eliminateInUnit, eliminateMutualLeftRecursion}
 use Rattle.laws.specs.Demands.{Told, SameStrings, Closed, NoCorner, NoLaterCycle, Joins, rulesOf, Demand3, Bound, EnoughTurns}
-use Rattle.laws.specs.Lists.Lookup.{not-in}
+use Rattle.laws.specs.Lists.Few.{no-more}
 use Rattle.laws.specs.Running.Leaves.{Leaves, leaves-derives}
 use Rattle.laws.specs.Running.Stages.{rulesAfter, sheet-after, rules-append, stage-cycle, Happened, Chain, next, chain-leaves, chain-front, chain-behind, Rest, applying, turn, turns-once, run-ends, sheet-ends}
 use Rattle.laws.specs.Running.OneStage.{stage-shape}
 use Rattle.laws.specs.Running.Later.{hub-in-cycle, no-later}
 use Rattle.laws.specs.Running.Once.{follows-all, follows-here, hubs-distinct, hubs-rules}
-
--- Numbers that differ and stand in a list are no more than it has.
-taken : ℕ → List ℕ → List ℕ
-taken x [] = []
-taken x (y ∷ ys) = elim (eqb x y) [ true ↦ ys | false ↦ y ∷ taken x ys ]
-
-taken-length : (x : ℕ) (ys : List ℕ) → List·Memᴰ x ys → suc (length (taken x ys)) ≡ length ys
-unfolding taken
-taken-length x [] m = absurd (List·Memᴰ·not-nil m)
-taken-length x (y ∷ ys) m =
-    either (eqb x y)
-    (λ t. rw (t, taken))
-    (λ f. rw (f, taken) (ap suc (taken-length x ys (⊎-elim (λ e. absurd (eqb-false x y f e)) (λ n. n) (List·Memᴰ·cases-cons m)))))
-
-taken-other : (x : ℕ) {z : ℕ} (ys : List ℕ) → List·Memᴰ z ys → (z ≡ x → ⊥) → List·Memᴰ z (taken x ys)
-unfolding taken
-taken-other x [] m ne = absurd (List·Memᴰ·not-nil m)
-taken-other x (y ∷ ys) m ne =
-    either (eqb x y)
-    (λ t. rw (t, taken) (⊎-elim (λ e. absurd (ne (e ∙ sym (eqb-true x y t)))) (λ n. n) (List·Memᴰ·cases-cons m)))
-    (λ f. rw (f, taken) (⊎-elim List·Memᴰ·head (λ n. List·Memᴰ·tail (taken-other x ys n ne)) (List·Memᴰ·cases-cons m)))
-
-no-more : (xs ys : List ℕ) → distinct xs ≡ true → ((x : ℕ) → List·Memᴰ x xs → List·Memᴰ x ys) → length xs ≤ length ys
-unfolding distinct
-no-more [] ys t h = omega arith
-no-more (x ∷ xs) ys t h =
-    let fresh = not-true (member x xs) (left-true (not (member x xs)) (distinct xs) t) in
-    let ih = no-more xs (taken x ys) (right-true (not (member x xs)) (distinct xs) t) (λ z m. taken-other x ys (h z (List·Memᴰ·tail m)) (λ e. not-in x xs fresh (subst (λ y. List·Memᴰ y xs) e m))) in
-    let l = taken-length x ys (h x (List·Memᴰ·head refl)) in
-    omega arith
 
 -- Stages never outnumber rules.
 chain-few : (limits : Limits) (corners : Corners) (preserved : List ℕ) {rs : List Rule} {ts : List Stage} → Told rs → Chain limits corners preserved rs ts
