@@ -1,7 +1,7 @@
 -- The whole reader: from a sheet's bytes to a refusal of document 01's table or the tree that stands there.
 -- Refusal 2 is about lent buffers and belongs to the entry that lends them.
 use Prim.Native.Nat.{ℕ, _+_, _-_, _%_}
-use mathlib.Core.List.{List, [], _∷_}
+use mathlib.Core.List.{List}
 use mathlib.Core.Bool.{Bool, true, false, _&&_}
 use lib.ListN.{length, getD, take, drop}
 use lib.Dec.{leb, eqb}

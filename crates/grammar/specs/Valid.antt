@@ -1,10 +1,10 @@
 -- What refusals 4, 5 and 6 exclude, as a test of a tree; and when a tree fits a sheet.
-use Prim.Native.Nat.{ℕ, zero, suc, _*_, _^_}
-use mathlib.Core.List.{List, [], _∷_, _++_}
-use mathlib.Core.Bool.{Bool, true, false, _&&_, _||_, not}
+use Prim.Native.Nat.{ℕ, zero, suc, _^_}
+use mathlib.Core.List.{List, [], _∷_}
+use mathlib.Core.Bool.{Bool, true, _&&_}
 use lib.ListN.{length}
-use lib.Dec.{leb, ltb, eqb}
-use Rattle.grammar.specs.Tree.{OptionDecl, Reference, Label, unlabelled, labelled, ElementHead, Leaf, epsilon, action, predicate, call, token, terminal, Element, leaf, block, AlternativeOf, Block, RuleOf, Rule, bodyDepth, Counters, Sheet}
+use lib.Dec.{leb, ltb}
+use Rattle.grammar.specs.Tree.{OptionDecl, Reference, Label, unlabelled, labelled, ElementHead, Leaf, epsilon, action, predicate, call, token, terminal, Element, leaf, block, AlternativeOf, Block, RuleOf, Rule, bodyDepth, Sheet}
 use Rattle.grammar.specs.Encode.{encode}
 use Rattle.grammar.specs.Read.{isName}
 use Rattle.grammar.specs.Ids.{isDistinct, isBelow}

@@ -1,6 +1,6 @@
 -- 32-bit words in bytes, low byte first.
 use Prim.Native.Nat.{ℕ, _+_, _*_, _/_, _%_}
-use mathlib.Core.List.{List, [], _∷_, _++_}
+use mathlib.Core.List.{List, [], _∷_}
 
 abbrev pub wordOf : ℕ → ℕ → ℕ → ℕ → ℕ
 wordOf a b c d = a + 256 * (b + 256 * (c + 256 * d))

@@ -1,7 +1,7 @@
 -- The reader's answer as document 01 gives it: the refusal's number, or the sheet's parts, with the rules beside it.
 use Prim.Native.Nat.{ℕ, _+_}
 use mathlib.Core.Path.{_≡_}
-use mathlib.Core.List.{List, [], _∷_, _++_}
+use mathlib.Core.List.{List}
 use mathlib.Core.Bool.{true, false}
 use lib.ListN.{length, getD, replicate}
 use lib.Dec.{leb}

@@ -1,5 +1,4 @@
 -- What a validating function answers of what the definition finds: where the record stops, or that it is bad.
-use Prim.Native.Nat.{ℕ}
 use Rattle.grammar.specs.Parse.{Got, got, bad}
 use Rattle.sheet.specs.declared.records.Step.{Step}
 use Rattle.sheet.specs.declared.records.Step.the-variants.{Next, Bad}

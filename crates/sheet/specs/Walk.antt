@@ -1,12 +1,12 @@
 -- What a walk over a sheet rests on, and what it says: the tree that stands at a place.
-use Prim.Native.Nat.{ℕ, zero, suc, _+_, _-_, _*_, _%_, _<_, _≤_}
+use Prim.Native.Nat.{ℕ, _+_, _*_, _%_, _≤_}
 use mathlib.Core.Path.{_≡_}
 use mathlib.Core.List.{List, [], _∷_, _++_}
-use mathlib.Core.Bool.{Bool, true, false, _&&_, not}
+use mathlib.Core.Bool.{Bool, _&&_, not}
 use lib.ListN.{length, getD, take}
 use lib.Dec.{eqb}
 use Rattle.grammar.specs.Stands.{Spans}
-use Rattle.grammar.specs.Tree.{Element, AlternativeOf, Block, Rule, RuleOf, bodyDepth}
+use Rattle.grammar.specs.Tree.{Element, Block, Rule, bodyDepth}
 use Rattle.grammar.specs.Encode.{each, encodeElement, encodeAlternative, encodeBlock, encodeRule}
 use Rattle.grammar.specs.Valid.{all, okElement, okAlternative, okBlock, okRule}
 use Rattle.grammar.specs.Ids.{only, elementIds, alternativeIds, blockIds, bodyIds}

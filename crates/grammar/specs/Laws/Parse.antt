@@ -5,7 +5,7 @@ use mathlib.Core.List.{List, [], _∷_}
 use mathlib.Core.Bool.{Bool, true, false, _&&_}
 use native.Mathlib.Omega.{arith}
 use lib.ListN.{length}
-use Rattle.grammar.specs.Stands.{Spans, Stands}
+use Rattle.grammar.specs.Stands.{Spans}
 use Rattle.grammar.specs.Parse.{Got, got, bad, _then_, given, many}
 use Rattle.grammar.specs.Encode.{each}
 use Rattle.grammar.specs.Valid.{all}

@@ -1,6 +1,6 @@
 -- From the bytes of a sheet: what is answered stands for a run that has demand 3 and keeps the bound.
 use Prim.Native.Nat.{ℕ, _<_}
-use mathlib.Core.Path.{_≡_, refl, sym}
+use mathlib.Core.Path.{_≡_, refl}
 use mathlib.Core.List.{List}
 use native.Mathlib.Omega.{arith}
 use lib.ListN.{length, getD}
@@ -10,7 +10,7 @@ use Rattle.grammar.specs.Reading.{Reading, refused, sheet, read}
 use Rattle.grammar.specs.Corners.{Corners}
 use Rattle.grammar.specs.Laws.Codec.{accepted-valid}
 use Rattle.reference.specs.Substitute.{Limits}
-use Rattle.reference.specs.Run.{Stage, Run, ended, stopped, eliminateMutualLeftRecursion, sheetAfter, stepsOf, encodeEntry, entriesOf, Answer, refusal, answer, answerRun, answerReading, answerTo}
+use Rattle.reference.specs.Run.{Stage, Run, ended, stopped, eliminateMutualLeftRecursion, sheetAfter, stepsOf, encodeEntry, entriesOf, answer, answerRun, answerReading, answerTo}
 use Rattle.laws.specs.Demands.{NoCorner, Demand3, Bound}
 use Rattle.laws.specs.Running.Stages.{valid-told}
 use Rattle.laws.specs.Proved.Demand3.{demand3, bound}

@@ -2,17 +2,15 @@
 use Prim.Native.Nat.{ℕ, zero, suc, _+_, _≤_}
 use mathlib.Core.Path.{_≡_, refl, sym, ap, _∙_, subst, subst₂}
 use mathlib.Core.Logic.{⊎-elim}
-use mathlib.Core.List.{List, [], _∷_, _++_, map, append-nil, List·Memᴰ, List·Memᴰ·head, List·Memᴰ·tail, List·Memᴰ·not-nil, List·Memᴰ·cases-cons}
-use mathlib.Core.Bool.{true, false, not}
+use mathlib.Core.List.{List, [], _∷_, _++_, map, append-nil, List·Memᴰ, List·Memᴰ·head, List·Memᴰ·tail}
 use native.Mathlib.Nat.{zero-add, suc-add}
 use native.Mathlib.Omega.{arith}
 use lib.ListN.{length, length-map}
-use lib.Dec.{eqb}
-use borrow.Author.Tests.{not-true, eqb-true, eqb-false, eq-eqb}
+use borrow.Author.Tests.{not-true, eq-eqb}
 use Rattle.grammar.specs.Tree.{Rule, bodyDepth, Counters, Sheet}
-use Rattle.grammar.specs.Ids.{member, distinct, ruleIds}
+use Rattle.grammar.specs.Ids.{member, ruleIds}
 use Rattle.grammar.specs.Corners.{Corners}
-use Rattle.grammar.specs.Laws.Parse.{left-true, right-true, either}
+use Rattle.grammar.specs.Laws.Parse.{right-true}
 use Rattle.reference.specs.Substitute.{Limits}
 use Rattle.reference.specs.Apply.{applyPlan}
 use Rattle.reference.specs.Run.{innerDepth, Stage, ended, Search, noPlan, planned, tooLarge, preceded, findPlan, refusalOf, eliminateInUnit, eliminateMutualLeftRecursion}

@@ -1,13 +1,13 @@
 -- The returns of the functions that read the trailer and give the answer.
-use Prim.Native.Nat.{ℕ, zero, suc, _+_, _-_, _*_, _/_, _%_, _<_, _≤_}
+use Prim.Native.Nat.{ℕ, _+_, _-_, _/_, _%_, _<_, _≤_}
 use mathlib.Core.Path.{_≡_, refl, sym, ap, _∙_}
-use mathlib.Core.List.{List, [], _∷_, _++_}
-use mathlib.Core.Bool.{Bool, true, false, _&&_}
+use mathlib.Core.List.{List}
+use mathlib.Core.Bool.{Bool, true, false}
 use native.Mathlib.Omega.{arith}
-use lib.ListN.{length, getD, take, drop, replicate, length-take, length-drop}
+use lib.ListN.{length, getD, take, drop, replicate, length-drop}
 use lib.Seq.{length-take-le}
-use lib.Dec.{leb, ltb, eqb}
-use borrow.Author.Tests.{le-leb, lt-leb, eq-eqb, ne-eqb, leb-true, not-true, not-false}
+use lib.Dec.{leb}
+use borrow.Author.Tests.{le-leb, lt-leb, eq-eqb, ne-eqb, leb-true}
 use Rattle.grammar.specs.Tree as tree
 use Rattle.grammar.specs.Tree.{Rule}
 use Rattle.grammar.specs.Parse.{Got, got, bad, _then_, given}
@@ -17,21 +17,19 @@ use Rattle.grammar.specs.Read.{rulesAt}
 use Rattle.grammar.specs.Valid.{rising, ruleLimit}
 use Rattle.grammar.specs.Ids.{isDistinct, isBelow}
 use Rattle.grammar.specs.Reading as reading
-use Rattle.grammar.specs.Reading.{refused, sheet, trailer, rulesEnd, secondDistance, isTrailer, preservedIds, countersOf, rulesOf, sheetOf, judge, readWords, isLength}
+use Rattle.grammar.specs.Reading.{refused, sheet, rulesEnd, isTrailer, preservedIds, countersOf, rulesOf, sheetOf, judge, readWords, isLength}
 use Rattle.grammar.specs.Laws.Words.{length-words}
 use Rattle.grammar.specs.Laws.Stands.{stands-length}
 use Rattle.grammar.specs.Laws.Parse.{yields-got}
-use Rattle.grammar.specs.Laws.Sound.{RulesAt, rules-sound}
+use Rattle.grammar.specs.Laws.Sound.{rules-sound}
 use Rattle.sheet.specs.declared.judge.Counters.{Counters}
 use Rattle.sheet.specs.declared.rules.Rules.{Rules}
 use Rattle.sheet.specs.declared.rules.Rows.{Rows}
-use Rattle.sheet.specs.declared.answer.Answer.{Answer}
 use Rattle.sheet.specs.declared.answer.Answer.the-variants.{Refused, Sheet}
 use Rattle.sheet.specs.declared.answer.Reading.{Reading}
-use Rattle.sheet.specs.Walk.{FoundRules}
-use Rattle.sheet.specs.Rules.{IsEmpty, RowsOf, RulesRead, FoundRows, isGot}
+use Rattle.sheet.specs.Rules.{IsEmpty, RulesRead, FoundRows, isGot}
 use Rattle.sheet.specs.Answer as answer
-use Rattle.sheet.specs.Answer.{CountersAt, ReadAs, answerOf, RowsIn, readLent, workAfter}
+use Rattle.sheet.specs.Answer.{CountersAt, ReadAs, answerOf, readLent, workAfter}
 
 -- the trailer
 module _ (bs : List ℕ) {t : ℕ} (e : t ≡ length bs / 4 - 8) where

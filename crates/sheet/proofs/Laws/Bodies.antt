@@ -1,21 +1,20 @@
 -- The walk over the bodies of rules.
-use Prim.Native.Nat.{ℕ, zero, suc, _+_, _-_, _*_, _<_, _≤_}
-use mathlib.Core.Path.{_≡_, refl, sym, ap, _∙_}
-use mathlib.Core.List.{List, [], _∷_, _++_}
-use mathlib.Core.Bool.{Bool, true, false}
+use Prim.Native.Nat.{ℕ, suc, _+_, _-_, _≤_}
+use mathlib.Core.Path.{_≡_, sym, _∙_}
+use mathlib.Core.List.{List, _++_}
 use native.Mathlib.Omega.{arith}
 use lib.ListN.{length, getD, take}
 use lib.Dec.{leb}
-use Rattle.grammar.specs.Stands.{Spans, Stands}
-use Rattle.grammar.specs.Tree.{AlternativeOf, Block, RuleOf, Rule, bodyDepth}
+use Rattle.grammar.specs.Stands.{Spans}
+use Rattle.grammar.specs.Tree.{Block, RuleOf}
 use Rattle.grammar.specs.Read.{isName}
 use Rattle.grammar.specs.Encode.{each, encodeRule, encodeBlock, encodeAlternative}
 use Rattle.grammar.specs.Valid.{all, okRule, okBlock, okAlternative}
-use Rattle.grammar.specs.Ids.{blockIds, alternativeIds, bodyIds}
+use Rattle.grammar.specs.Ids.{blockIds}
 use Rattle.grammar.specs.Laws.Stands.{stands-length, run-stands}
 use Rattle.grammar.specs.Laws.Parse.{right-true}
 use Rattle.sheet.specs.declared.ids.Place.{Place}
-use Rattle.sheet.specs.Walk.{Found, FoundMany, FoundAlternatives, FoundRules, Collected, CollectedAlternatives, CollectedRules, CollectedSort}
+use Rattle.sheet.specs.Walk.{FoundMany, FoundAlternatives, Collected, CollectedAlternatives, CollectedRules, CollectedSort}
 use Rattle.sheet.proofs.Laws.Walk.{first-found, rest-found}
 use Rattle.sheet.proofs.Laws.Collect.{collected-more}
 

@@ -1,5 +1,5 @@
 -- A walk that collects ids, one element or alternative at a time.
-use Prim.Native.Nat.{ℕ, zero, suc, _+_, _-_, _*_, _/_, _%_, _<_, _≤_}
+use Prim.Native.Nat.{ℕ, zero, suc, _+_, _-_, _%_, _<_, _≤_}
 use mathlib.Core.Path.{_≡_, refl, sym, ap, _∙_}
 use mathlib.Core.List.{List, [], _∷_, _++_, append-assoc, append-nil}
 use mathlib.Core.Bool.{Bool, true, false, _&&_, not}
@@ -7,17 +7,16 @@ use native.Mathlib.Omega.{arith}
 use native.Mathlib.Numerals.{sub-one}
 use lib.ListN.{length, getD, take}
 use lib.Dec.{eqb, leb}
-use borrow.Author.Tests.{eq-eqb, ne-eqb, leb-true}
+use borrow.Author.Tests.{ne-eqb, leb-true}
 use Rattle.grammar.specs.Stands.{Spans, Stands}
-use Rattle.grammar.specs.Tree.{Label, unlabelled, labelled, ElementHead, Leaf, epsilon, action, predicate, call, token, terminal, Element, leaf, block, AlternativeOf, Block}
-use Rattle.grammar.specs.Encode.{each, labelId, labelName, encodeLeaf, leafKind, encodeElement, encodeAlternative, encodeBlock}
-use Rattle.grammar.specs.Valid.{all, okHead, okLabel, okElement, okAlternative, okBlock, okOption}
-use Rattle.grammar.specs.Read.{isName}
+use Rattle.grammar.specs.Tree.{Label, unlabelled, labelled, ElementHead, Leaf, epsilon, action, predicate, call, token, terminal, Element, block, AlternativeOf, Block}
+use Rattle.grammar.specs.Encode.{each, labelId, labelName, encodeLeaf, leafKind, encodeAlternative, encodeBlock}
+use Rattle.grammar.specs.Valid.{all, okHead, okLabel, okAlternative, okBlock}
 use Rattle.grammar.specs.Ids.{only, labelIds, headIds, leafIds, elementIds, alternativeIds, blockIds}
 use Rattle.grammar.specs.Laws.Stands.{stands-length, stands-head, run-stands}
 use Rattle.grammar.specs.Laws.Parse.{left-true, right-true}
 use Rattle.sheet.specs.declared.ids.Place.{Place}
-use Rattle.sheet.specs.Walk.{ownIds, Found, FoundMany, FoundElement, FoundElements, FoundAlternatives, ElementSpans, HeadAt, AlternativeAt, LeafEnd, Collected, CollectedElements, CollectedAlternatives}
+use Rattle.sheet.specs.Walk.{ownIds, FoundElement, FoundElements, FoundAlternatives, ElementSpans, HeadAt, AlternativeAt, LeafEnd, Collected, CollectedElements, CollectedAlternatives}
 use Rattle.sheet.proofs.Laws.Walk.{HeadWords, Opened, opened-leaf, opened-block, opened, leaf-kind, first-spans, first-found, rest-found, alternative-words}
 
 -- the own ids of an element's words are those of its tree

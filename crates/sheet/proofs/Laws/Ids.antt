@@ -1,30 +1,19 @@
 -- The ids that a walk collects: the returns of the functions that read and write them.
-use Prim.Native.Nat.{ℕ, zero, suc, _+_, _-_, _*_, _/_, _%_, _<_, _≤_}
-use mathlib.Core.Path.{_≡_, refl, sym, ap, _∙_}
-use mathlib.Core.List.{List, [], _∷_, _++_, append-assoc, append-nil}
-use mathlib.Core.Bool.{Bool, true, false, _&&_, not}
+use Prim.Native.Nat.{ℕ, _+_, _*_, _%_, _≤_}
+use mathlib.Core.Path.{_≡_, sym, ap, _∙_}
+use mathlib.Core.List.{List, [], _∷_, _++_, append-nil}
 use native.Mathlib.Omega.{arith}
 use lib.ListN.{length, getD, set, take}
 use lib.Seq.{take-suc-set}
-use lib.Dec.{eqb, leb}
-use borrow.Author.Tests.{eq-eqb, ne-eqb}
-use Rattle.grammar.specs.Stands.{Spans, Stands}
+use lib.Dec.{eqb}
+use borrow.Author.Tests.{ne-eqb}
 use Rattle.grammar.specs.Ids.{only}
 use Rattle.sheet.specs.declared.ids.Own.the-variants.{Id, Nothing}
-use native.Mathlib.Numerals.{add-one, sub-one}
+use native.Mathlib.Numerals.{add-one}
 use Rattle.grammar.specs.Words.{words}
-use Rattle.grammar.specs.Tree.{Label, unlabelled, labelled, ElementHead, Leaf, epsilon, action, predicate, call, token, terminal, Element, leaf, block, AlternativeOf, Block}
-use Rattle.grammar.specs.Encode.{each, labelId, labelName, encodeLeaf, leafKind, encodeElement, encodeAlternative, encodeBlock}
-use Rattle.grammar.specs.Valid.{all, okHead, okLabel, okElement, okAlternative, okBlock, okOption}
-use Rattle.grammar.specs.Read.{isName}
-use Rattle.grammar.specs.Ids.{labelIds, headIds, leafIds, elementIds, alternativeIds, blockIds}
 use Rattle.grammar.specs.Laws.Words.{length-words}
-use Rattle.grammar.specs.Laws.Stands.{stands-length, stands-head, run-stands}
-use Rattle.grammar.specs.Laws.Parse.{left-true, right-true}
 use Rattle.sheet.specs.declared.ids.Own.{Own}
-use Rattle.sheet.specs.declared.ids.Place.{Place}
-use Rattle.sheet.specs.Walk.{ownOf, ownIds, Found, FoundMany, FoundElement, FoundElements, FoundAlternatives, ElementSpans, HeadAt, AlternativeAt, LeafEnd, Collected, CollectedElements, CollectedAlternatives}
-use Rattle.sheet.proofs.Laws.Walk.{HeadWords, Opened, opened-leaf, opened-block, opened, leaf-kind, first-spans, first-found, rest-found, alternative-words}
+use Rattle.sheet.specs.Walk.{ownOf, ownIds}
 
 module _ (ws : List ℕ) (sort at payload : ℕ) {w : ℕ} where
   pub own-element : sort ≡ 3 → w ≡ getD ws at 0 → ownOf (Id w) ≡ ownIds ws sort at payload

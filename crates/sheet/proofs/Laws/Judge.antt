@@ -1,17 +1,16 @@
 -- Tests of all the ids of one sort, and of one sort after the other.
-use Prim.Native.Nat.{ℕ, _+_, _*_, _-_, _<_, _≤_}
-use mathlib.Core.Path.{_≡_, refl, sym, ap, _∙_}
-use mathlib.Core.List.{List, [], _∷_, _++_}
-use mathlib.Core.Bool.{Bool, true, false, _&&_}
+use Prim.Native.Nat.{ℕ, _-_, _≤_}
+use mathlib.Core.Path.{_≡_, sym, ap, _∙_}
+use mathlib.Core.List.{List}
+use mathlib.Core.Bool.{Bool}
 use native.Mathlib.Omega.{arith}
 use lib.ListN.{length, take, replicate, length-append, length-replicate}
 use lib.Seq.{take-append-seam}
 use Rattle.grammar.specs.Tree.{Rule}
-use Rattle.grammar.specs.Valid.{ruleLimit}
-use Rattle.grammar.specs.Ids.{distinct, below, bodyIds, ruleIds, ruleNames, isDistinct, isBelow}
+use Rattle.grammar.specs.Ids.{distinct, below, bodyIds, ruleIds, ruleNames}
 use Rattle.sheet.specs.declared.rules.Rules.{Rules}
 use Rattle.sheet.specs.Walk.{FoundRules, CollectedSort}
-use Rattle.sheet.specs.Rules.{row, RowsOf, FoundRows}
+use Rattle.sheet.specs.Rules.{row, FoundRows}
 use Rattle.sheet.proofs.Laws.Rules.{map-length}
 
 module _ {ws : List ℕ} {end n sort : ℕ} {after : List ℕ} {k : ℕ} (c : CollectedSort ws end n sort after k) {r : Bool} where

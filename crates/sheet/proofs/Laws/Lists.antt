@@ -1,14 +1,14 @@
 -- Tests of a run of words, one word at a time; and no two equal, by places and by the definition.
-use Prim.Native.Nat.{ℕ, zero, suc, _+_, _-_, _*_, _/_, _<_, _≤_, _^_}
+use Prim.Native.Nat.{ℕ, zero, suc, _+_, _-_, _*_, _<_, _≤_, _^_}
 use mathlib.Core.Path.{_≡_, refl, sym, ap, _∙_}
-use mathlib.Core.List.{List, [], _∷_, _++_, append-nil}
-use mathlib.Core.Bool.{Bool, true, false, _&&_, _||_, not}
+use mathlib.Core.List.{List, [], _∷_}
+use mathlib.Core.Bool.{Bool, true, false, _&&_, _||_}
 use native.Mathlib.Omega.{arith}
 use native.Mathlib.Numerals.{add-one}
-use lib.ListN.{length, getD, set, take, drop, replicate, length-take, drop-of-length-le}
-use lib.Seq.{drop-cons, take-suc, take-suc-set, getD-take, length-take-le, take-length}
-use lib.Dec.{ltb, leb, eqb}
-use borrow.Author.Tests.{lt-ltb, le-ltb, eq-eqb, eqb-true, eqb-false}
+use lib.ListN.{length, getD, set, take, drop, length-take, drop-of-length-le}
+use lib.Seq.{drop-cons, take-suc, take-suc-set, getD-take, length-take-le}
+use lib.Dec.{ltb, eqb}
+use borrow.Author.Tests.{lt-ltb, le-ltb, eq-eqb, eqb-true}
 use Rattle.grammar.specs.Words.{words}
 use Rattle.grammar.specs.Valid.{rising}
 use Rattle.grammar.specs.Ids.{below, member, distinct}

@@ -1,19 +1,19 @@
 -- The returns of the functions that test records.
-use Prim.Native.Nat.{ℕ, zero, suc, _+_, _-_, _/_, _%_, _<_, _≤_}
-use mathlib.Core.Path.{_≡_, refl, sym, ap, _∙_}
-use mathlib.Core.List.{List, [], _∷_}
-use mathlib.Core.Bool.{Bool, true, false, _&&_, _||_}
+use Prim.Native.Nat.{ℕ, zero, suc, _+_, _-_, _<_, _≤_}
+use mathlib.Core.Path.{_≡_, refl, sym, _∙_}
+use mathlib.Core.List.{List}
+use mathlib.Core.Bool.{Bool, true, false}
 use native.Mathlib.Omega.{arith}
 use lib.ListN.{getD}
-use lib.Dec.{leb, ltb, eqb}
-use borrow.Author.Tests.{le-leb, lt-leb, eq-eqb, ne-eqb}
-use Rattle.grammar.specs.Tree.{Leaf, action, predicate, ElementHead, leaf, block, Block, bodyDepth}
-use Rattle.grammar.specs.Parse.{Got, got, bad, _then_, given, many}
-use Rattle.grammar.specs.Read.{isName, isLabel, labelOf, isHead, optionAt, referenceAt, bodyAt, callAt, tokenAt, leafAt, headAt, payloadAt, elementAt, alternativeAt, blockAt, ruleAt}
+use lib.Dec.{leb}
+use borrow.Author.Tests.{le-leb, lt-leb}
+use Rattle.grammar.specs.Tree.{action, predicate}
+use Rattle.grammar.specs.Parse.{many}
+use Rattle.grammar.specs.Read.{isName, optionAt, referenceAt, bodyAt, callAt, tokenAt, leafAt}
 use Rattle.sheet.specs.declared.records.Step.{Step}
 use Rattle.sheet.specs.declared.records.Step.the-variants.{Next, Bad}
 use Rattle.sheet.specs.Step.{stepOf}
-use Rattle.sheet.proofs.Laws.Steps.{then-bad, then-next, then-same}
+use Rattle.sheet.proofs.Laws.Steps.{then-same}
 
 -- the fixed words have no room
 module _ (ws : List ℕ) (end at : ℕ) {l : ℕ} (e : l ≡ end - at) where

@@ -1,21 +1,21 @@
 -- The rules read so far, and what is left to read.
-use Prim.Native.Nat.{ℕ, zero, suc, _+_, _-_, _*_, _<_, _≤_}
+use Prim.Native.Nat.{ℕ, zero, suc, _+_, _-_, _<_, _≤_}
 use mathlib.Core.Path.{_≡_, refl, sym, ap, _∙_}
 use mathlib.Core.List.{List, [], _∷_, _++_, map, append-assoc, append-nil}
-use mathlib.Core.Bool.{Bool, true, false}
+use mathlib.Core.Bool.{true, false}
 use native.Mathlib.Omega.{arith}
 use lib.ListN.{length, getD, set, replicate, length-append}
 use lib.Seq.{set-append-seam}
 use borrow.Author.Tests.{eq-eqb, ne-eqb}
-use Rattle.grammar.specs.Stands.{Spans, Stands}
+use Rattle.grammar.specs.Stands.{Stands}
 use Rattle.grammar.specs.Tree.{Rule, bodyDepth}
-use Rattle.grammar.specs.Parse.{Got, got, bad, _then_, given}
-use Rattle.grammar.specs.Encode.{each, encodeRule, encodeRules, encodeBlock}
+use Rattle.grammar.specs.Parse.{Got, got, bad, _then_}
+use Rattle.grammar.specs.Encode.{encodeRule, encodeRules, encodeBlock}
 use Rattle.grammar.specs.Read.{ruleAt, blockAt, rulesAt}
-use Rattle.grammar.specs.Valid.{ruleLimit, okRule, okBlock}
+use Rattle.grammar.specs.Valid.{ruleLimit}
 use Rattle.grammar.specs.Ids.{ruleIds, ruleNames}
 use Rattle.grammar.specs.Laws.Stands.{stands-length, stands-head}
-use Rattle.grammar.specs.Laws.Parse.{Yields, yields-got}
+use Rattle.grammar.specs.Laws.Parse.{yields-got}
 use Rattle.grammar.specs.Laws.Sound.{rule-sound, block-sound}
 use Rattle.sheet.specs.declared.records.Step.{Step}
 use Rattle.sheet.specs.declared.records.Step.the-variants.{Next, Bad}

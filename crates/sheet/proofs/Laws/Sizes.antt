@@ -1,10 +1,10 @@
 -- Counting what stands in a sheet that was read.
-use Prim.Native.Nat.{ℕ, _+_, _-_, _*_, _/_, _<_, _≤_}
+use Prim.Native.Nat.{ℕ, _+_, _*_, _≤_}
 use mathlib.Core.Path.{_≡_, refl, sym, ap, ap₂, subst, _∙_}
-use mathlib.Core.List.{List, [], _∷_, _++_, append-assoc}
+use mathlib.Core.List.{List, _∷_, _++_, append-assoc}
 use mathlib.Core.Bool.{Bool, true, false}
 use native.Mathlib.Omega.{arith}
-use lib.ListN.{length, take, replicate, length-append}
+use lib.ListN.{length, replicate, length-append}
 use lib.Seq.{length-take-le}
 use lib.Dec.{leb}
 use borrow.Author.Tests.{leb-true}
@@ -18,10 +18,8 @@ use Rattle.grammar.specs.Reading.{refused, sheet, isLength, readWords}
 use Rattle.grammar.specs.Laws.Words.{length-words}
 use Rattle.grammar.specs.Laws.Stands.{stands-self, stands-split, stands-length, stands-within}
 use Rattle.grammar.specs.Laws.Parse.{left-true, right-true}
-use Rattle.grammar.specs.Laws.Whole.{IsSheet, words-sound, reads-sheet}
-use Rattle.sheet.specs.declared.rules.Rules.{Rules}
+use Rattle.grammar.specs.Laws.Whole.{words-sound, reads-sheet}
 use Rattle.sheet.specs.declared.answer.Parts.{Parts}
-use Rattle.sheet.specs.declared.answer.Answer.{Answer}
 use Rattle.sheet.specs.declared.answer.Answer.the-variants.{Refused, Sheet}
 use Rattle.sheet.specs.Walk.{FoundRules, RulesSpan, CollectedSort}
 use Rattle.sheet.specs.declared.answer.Reading.{Reading}

@@ -1,11 +1,10 @@
 -- Steps through what the definition reads one after the other.
 use Prim.Native.Nat.{ℕ, zero, suc, _-_}
-use mathlib.Core.Path.{_≡_, refl, sym, ap, _∙_}
-use mathlib.Core.List.{List, [], _∷_}
-use mathlib.Core.Bool.{Bool, true, false}
+use mathlib.Core.Path.{_≡_, refl, sym, _∙_}
+use mathlib.Core.List.{_∷_}
 use native.Mathlib.Omega.{arith}
 use native.Mathlib.Numerals.{sub-one}
-use Rattle.grammar.specs.Parse.{Got, got, bad, _then_, given, many}
+use Rattle.grammar.specs.Parse.{Got, got, bad, _then_, many}
 use Rattle.sheet.specs.declared.records.Step.{Step}
 use Rattle.sheet.specs.declared.records.Step.the-variants.{Next, Bad}
 use Rattle.sheet.specs.Step.{stepOf}

@@ -1,15 +1,15 @@
 -- The returns of the functions that test elements, alternatives, blocks and rules.
 use Prim.Native.Nat.{ℕ, zero, suc, _+_, _-_, _/_, _%_, _<_, _≤_}
-use mathlib.Core.Path.{_≡_, refl, sym, ap, _∙_}
-use mathlib.Core.List.{List, [], _∷_}
-use mathlib.Core.Bool.{Bool, true, false, _&&_, _||_}
+use mathlib.Core.Path.{_≡_, refl, sym, _∙_}
+use mathlib.Core.List.{List}
+use mathlib.Core.Bool.{Bool, true, false, _&&_}
 use native.Mathlib.Omega.{arith}
 use native.Mathlib.Numerals.{sub-one}
 use lib.ListN.{getD}
-use lib.Dec.{leb, ltb, eqb}
-use borrow.Author.Tests.{le-leb, lt-leb, eq-eqb, ne-eqb}
-use Rattle.grammar.specs.Tree.{Leaf, OptionDecl, Element, ElementHead, leaf, block, Block, bodyDepth, AlternativeOf, RuleOf}
-use Rattle.grammar.specs.Parse.{Got, got, bad, _then_, given, many}
+use lib.Dec.{leb}
+use borrow.Author.Tests.{le-leb, lt-leb, ne-eqb}
+use Rattle.grammar.specs.Tree.{Element, ElementHead, leaf, block, AlternativeOf, RuleOf}
+use Rattle.grammar.specs.Parse.{Got, many}
 use Rattle.grammar.specs.Read.{isName, isLabel, labelOf, isHead, optionAt, leafAt, headAt, payloadAt, elementAt, alternativeAt, blockAt, ruleAt}
 use Rattle.sheet.specs.declared.records.Step.{Step}
 use Rattle.sheet.specs.declared.records.Step.the-variants.{Next, Bad}

@@ -1,14 +1,13 @@
 -- What stands where a tree stands: the words of an element's and an alternative's head, and where the parts begin and end.
-use Prim.Native.Nat.{ℕ, zero, suc, _+_, _-_, _*_, _/_, _%_, _<_, _≤_}
-use mathlib.Core.Path.{_≡_, refl, sym, ap, _∙_}
-use mathlib.Core.List.{List, [], _∷_, _++_}
-use mathlib.Core.Bool.{Bool, true, false, _&&_}
+use Prim.Native.Nat.{ℕ, zero, suc, _+_, _-_, _*_, _%_, _<_, _≤_}
+use mathlib.Core.Path.{_≡_, refl, sym, _∙_}
+use mathlib.Core.List.{List, [], _∷_}
+use mathlib.Core.Bool.{Bool, true}
 use native.Mathlib.Omega.{arith}
-use native.Mathlib.Numerals.{sub-one}
 use lib.ListN.{length, getD, length-append}
 use lib.Dec.{leb}
 use Rattle.grammar.specs.Stands.{Spans, Stands}
-use Rattle.grammar.specs.Tree.{OptionDecl, Reference, Label, ElementHead, Leaf, epsilon, action, predicate, call, token, terminal, Element, leaf, block, AlternativeOf, Block}
+use Rattle.grammar.specs.Tree.{OptionDecl, Reference, ElementHead, Leaf, epsilon, action, predicate, call, token, terminal, Element, leaf, block, AlternativeOf, Block}
 use Rattle.grammar.specs.Encode.{each, encodeOption, encodeReference, labelId, labelName, encodeHead, encodeLeaf, leafKind, encodeElement, encodeAlternative, encodeBlock}
 use Rattle.grammar.specs.Valid.{all, okHead, okLeaf, okElement, okAlternative, okBlock, okOption}
 use Rattle.grammar.specs.Laws.Stands.{stands-length, stands-split, stands-head, run-stands}

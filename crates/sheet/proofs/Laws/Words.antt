@@ -1,6 +1,6 @@
 -- Words written and read back.
 use Prim.Native.Nat.{ℕ, _+_, _*_, _/_, _%_, _<_, _≤_, _^_}
-use mathlib.Core.Path.{_≡_, refl, sym, ap, _∙_}
+use mathlib.Core.Path.{_≡_, ap, _∙_}
 use mathlib.Core.List.{List, _++_, append-nil}
 use lib.Seq.{drop-length}
 use borrow.Author.Fill.{fill-more}

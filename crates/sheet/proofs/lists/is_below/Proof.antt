@@ -1,7 +1,6 @@
 -- `sheet::lists::is_below` meets its contract: whether all are below is whether those from `i` on are.
 use borrow.Author.Needs.{needs}
-use Prim.Native.Nat.{_≤_, _-_, _+_}
-use mathlib.Core.Path.{_≡_}
+use Prim.Native.Nat.{_≤_, _-_}
 use Rattle.sheet.proofs.Laws.Lists.{BelowFrom, belows}
 use Rattle.sheet.proofs.lists.is_below.Statement.{statement}
 use Rattle.sheet.proofs.lists.is_below.Tie as tie

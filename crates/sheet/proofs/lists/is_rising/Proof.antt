@@ -1,7 +1,6 @@
 -- `sheet::lists::is_rising` meets its contract: whether all rise is whether those from `i` on rise.
 use borrow.Author.Needs.{needs}
-use Prim.Native.Nat.{_≤_, _-_, _+_}
-use mathlib.Core.Path.{_≡_}
+use Prim.Native.Nat.{_≤_, _-_}
 use Rattle.sheet.proofs.Laws.Lists.{RisingFrom, risings}
 use Rattle.sheet.proofs.lists.is_rising.Statement.{statement}
 use Rattle.sheet.proofs.lists.is_rising.Tie as tie

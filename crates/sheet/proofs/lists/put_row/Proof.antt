@@ -1,7 +1,7 @@
 -- `sheet::lists::put_row` meets its contract: the first `i` words are the first `i` numbers of the row.
 use native.Mathlib.Omega.{arith}
 use borrow.Author.Needs.{needs}
-use Prim.Native.Nat.{_≤_, _-_, _+_}
+use Prim.Native.Nat.{_≤_, _-_}
 use mathlib.Core.Path.{_≡_, refl}
 use lib.ListN.{length, take}
 use Rattle.grammar.specs.Words.{words}
