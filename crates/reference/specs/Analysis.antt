@@ -27,7 +27,7 @@ pub record Grammar : Type 0 where
 unfoldable pub namesOf : {B : Type 0} → List (RuleOf B) → List Name
 namesOf rs = map (λ r. record { name = r .name; id = r .id }) rs
 
-abbrev pub idsOf : {B : Type 0} → List (RuleOf B) → List ℕ
+abbrev pub idsOf : {B : Type 0} → List (RuleOf B) → List ℕ  -- The keys of rules_by_id, l. 1223, unsorted.
 idsOf = map λ r. r .id
 
 -- rules_by_id, l. 1223, looked up.
@@ -39,7 +39,7 @@ unfoldable pub target : Grammar → ℕ → Option ℕ
 target g n = elim (first (λ p. eqb (p .name) n) (g .names)) [ none ↦ none | some p ↦ some (p .id) ]
 
 module _ (g : Grammar) where
-  -- The rule that a leaf calls, if it is known.
+  -- The rule that a leaf calls, if it is known: the arm of collect_calls_in_elements, l. 1212.
   unfoldable pub calls : Leaf → List ℕ
   calls l = elim (sortOf l) [ silent ↦ [] | calling n a ↦ elim (target g n) [ none ↦ [] | some t ↦ t ∷ [] ] | consuming ↦ [] ]
 
@@ -51,7 +51,7 @@ module _ (g : Grammar) where
   unfoldable pub collectCallsInto : (d : ℕ) → Block d → List ℕ
   collectCallsInto = blockGives nothing calls
 
-  unfoldable pub leafNullable : Leaf → Bool
+  unfoldable pub leafNullable : Leaf → Bool  -- The arms of element_nullable for leaves, l. 1269 to 1274.
   leafNullable l = elim (sortOf l) [ silent ↦ true | calling n a ↦ elim (target g n) [ none ↦ false | some t ↦ member t (g .nullable) ] | consuming ↦ false ]
 
   -- element_nullable, l. 1257.
@@ -65,7 +65,7 @@ module _ (g : Grammar) where
   blockIsNullable (suc d) as′ = any (λ a. all (elementNullable (blockIsNullable d)) (a .elements)) as′
 
 module _ (d : ℕ) (rs : List (RuleOf (Block d))) where
-  -- One round: the rules that are nullable if those in a set are.
+  -- One turn of the loop in nullable_rules, l. 1239: the rules that are nullable if those in a set are.
   unfoldable pub nullableRound : List ℕ → List ℕ
   nullableRound found =
       let g : Grammar = record { names = namesOf rs; nullable = found } in
@@ -76,17 +76,19 @@ module _ (d : ℕ) (rs : List (RuleOf (Block d))) where
   unfoldable pub nullableRules : List ℕ
   nullableRules = rounds nullableRound (length rs) []
 
-  unfoldable pub grammarOf : Grammar
+  unfoldable pub grammarOf : Grammar  -- What eliminate_in_unit makes for each turn, l. 143.
   grammarOf = record { names = namesOf rs; nullable = nullableRules }
 
--- Where a reading of left corners stops, even if the leaf can be empty. Only collectLeftCornerCalls asks for the reading.
+-- Where a reading of left corners stops, even if the leaf can be empty; the Rust's collect_left_corner_calls does so
+-- at l. 1167 and 1190. Only collectLeftCornerCalls asks for the reading.
 unfoldable pub isStop : Corners → Grammar → Leaf → Bool
 isStop textbook g l = false
 isStop rust g l = elim (sortOf l) [ silent ↦ false | consuming ↦ true | calling n a ↦ elim (target g n) [ none ↦ true | some t ↦ false ] ]
 
 module _ (c : Corners) (g : Grammar) where
-  -- collect_left_corner_calls, l. 1157.
   module _ {B : Type 0} (blockCorners : B → List ℕ) (blockNullable : B → Bool) where
+    -- collect_left_corner_calls, l. 1157. Where that has a test for skippable in each arm, l. 1170 and 1182, here is
+    -- elementNullable, which is the same.
     unfoldable pub collectLeftCornerCalls : List (Element B) → List ℕ
     collectLeftCornerCalls [] = []
     collectLeftCornerCalls (leaf h l ∷ es) =
@@ -95,53 +97,56 @@ module _ (c : Corners) (g : Grammar) where
     collectLeftCornerCalls (block h b ∷ es) =
         blockCorners b ++ elim (elementNullable g blockNullable (block h b)) [ true ↦ collectLeftCornerCalls es | false ↦ [] ]
 
-  -- The same of the alternatives of a block, or of a rule.
+  -- The same of all alternatives of a block, l. 1179, or of a rule, in left_corner_cycles, l. 1127.
   unfoldable pub blockCorners : (d : ℕ) → Block d → List ℕ
   blockCorners zero b = absurd b
   blockCorners (suc d) as′ = each (λ a. collectLeftCornerCalls (blockCorners d) (blockIsNullable g d) (a .elements)) as′
 
-  unfoldable pub leftCorners : (d : ℕ) → List (Element (Block d)) → List ℕ
+  unfoldable pub leftCorners : (d : ℕ) → List (Element (Block d)) → List ℕ  -- As planned_hub_is_directly_rewritable asks, l. 867.
   leftCorners d = collectLeftCornerCalls (blockCorners d) (blockIsNullable g d)
 
--- A node of the graph: a rule and those that it leads to.
+-- A node of the graph in left_corner_cycles, l. 1119: a rule and those that it leads to. The Rust hands the graph to
+-- tarjan_scc, l. 1137; what stands from here to `component` is in place of that, by closing the graph.
 pub record Row : Type 0 where
   pub id : ℕ
   pub to : List ℕ
 
-abbrev pub rowIds : List Row → List ℕ
+abbrev pub rowIds : List Row → List ℕ  -- The nodes in left_corner_cycles, l. 1120.
 rowIds = map λ r. r .id
 
 module _ (rows : List Row) where
-  -- Where the rules in a set lead.
+  -- Where the rules in a set lead, by the edges in left_corner_cycles, l. 1132.
   unfoldable pub leadFrom : List ℕ → List ℕ
   leadFrom found = each (λ r. elim (member (r .id) found) [ true ↦ r .to | false ↦ [] ]) rows
 
-  -- One round: the set, and where its rules lead.
+  -- One round (for tarjan_scc, l. 1137): the set, and where its rules lead.
   unfoldable pub reachRound : List ℕ → List ℕ
   reachRound found =
       let wider = found ++ leadFrom found in
       keep (λ i. member i wider) (rowIds rows)
 
-  -- All that is reached from a set of rules, the set too.
+  -- All that is reached from a set of rules, the set too (for tarjan_scc, l. 1137).
   unfoldable pub reachFrom : List ℕ → List ℕ
   reachFrom found = rounds reachRound (length rows) (keep (λ i. member i found) (rowIds rows))
 
-  -- Each rule with all that it reaches in one step or more.
+  -- Each rule with all that it reaches in one step or more (for tarjan_scc, l. 1137).
   unfoldable pub reach : List Row
   reach = map (λ r. record { id = r .id; to = reachFrom (r .to) }) rows
 
-  -- Where rows hold all that is reached: rule i itself, and each rule that it reaches and that reaches it.
+  -- A component (for tarjan_scc, l. 1137), where rows hold all that is reached: rule i itself, and each that it
+  -- reaches and that reaches it.
   unfoldable pub component : ℕ → List ℕ
   component i =
       let out = leadFrom (i ∷ []) in
       sorted (rowIds (keep (λ r. eqb (r .id) i || (member (r .id) out && member i (r .to))) rows))
 
--- More than one rule, and i is the least.
+-- More than one rule, as left_corner_cycles asks, l. 1140, and i is the least, so that no component is taken twice.
 unfoldable pub isCycle : ℕ → List ℕ → Bool
 isCycle i [] = false
 isCycle i (x ∷ []) = false
 isCycle i (x ∷ y ∷ ys) = eqb i x
 
+-- The components in left_corner_cycles, l. 1137 to 1149, whose least id is in a list, in its order.
 unfoldable pub cyclesFrom : List Row → List ℕ → List (List ℕ)
 cyclesFrom rows [] = []
 cyclesFrom rows (i ∷ is) =

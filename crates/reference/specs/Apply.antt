@@ -32,25 +32,26 @@ pub record Fresh (A : Type 0) : Type 0 where
   pub counters : Counters
   pub entries : List Entry
 
-abbrev pub unchanged : {A : Type 0} → A → Counters → Fresh A
+abbrev pub unchanged : {A : Type 0} → A → Counters → Fresh A  -- As the last arm of renumber_element, l. 1376.
 unchanged a c = record { node = a; counters = c; entries = [] }
 
--- An entry in front.
+-- An entry in front, as record_clone comes before what is inside, l. 1311.
 abbrev pub recording : {A : Type 0} → Entry → Fresh A → Fresh A
 recording e f = record { node = f .node; counters = f .counters; entries = e ∷ f .entries }
 
 infixl 20 _followedBy_
+-- One after the other; renumber_element, l. 1304, hands `ids` and `provenance` on as &mut.
 abbrev pub _followedBy_ : {A B : Type 0} → Fresh A → (A → Counters → Fresh B) → Fresh B
 f followedBy k =
     let r = k (f .node) (f .counters) in
     record { node = r .node; counters = r .counters; entries = f .entries ++ r .entries }
 
--- Each item in turn.
+-- Each item in turn, as renumber_elements does, l. 1298.
 unfoldable pub freshEach : {A B : Type 0} → (A → Counters → Fresh B) → List A → Counters → Fresh (List B)
 freshEach f [] c = unchanged [] c
 freshEach f (a ∷ as′) c = f a c followedBy λ b c₁. freshEach f as′ c₁ followedBy λ bs c₂. unchanged (b ∷ bs) c₂
 
-abbrev pub moved : Bool → ℕ → ℕ
+abbrev pub moved : Bool → ℕ → ℕ  -- checked_add, model.rs, l. 84, without its panic.
 moved true n = suc n
 moved false n = n
 
@@ -60,18 +61,18 @@ abbrev pub past : ℕ → Counters → Counters
 past k c =
     record { alternative = moved (eqb k 2) (c .alternative); element = moved (eqb k 3) (c .element); label = moved (eqb k 4) (c .label); action = moved (eqb k 5) (c .action); predicate = moved (eqb k 6) (c .predicate) }
 
-unfoldable pub renumberLabel : Label → Counters → Fresh Label
+unfoldable pub renumberLabel : Label → Counters → Fresh Label  -- Of renumber_element, l. 1317 to 1325.
 renumberLabel unlabelled c = unchanged unlabelled c
 renumberLabel (labelled i n) c = recording (clone 4 (c .label) i) (unchanged (labelled (c .label) n) (past 4 c))
 
--- The element's own id, then its label's.
+-- The element's own id, l. 1309 to 1315 of renumber_element, then its label's.
 unfoldable pub renumberHead : ElementHead → Counters → Fresh ElementHead
 renumberHead h c =
     recording (clone 3 (c .element) (h .id))
     (renumberLabel (h .label) (past 3 c) followedBy λ l c₁.
     unchanged (record { id = c .element; carried = h .carried; quantifier = h .quantifier; label = l; options = h .options }) c₁)
 
-unfoldable pub renumberLeaf : Leaf → Counters → Fresh Leaf
+unfoldable pub renumberLeaf : Leaf → Counters → Fresh Leaf  -- The arms of renumber_element from l. 1348 on.
 renumberLeaf epsilon c = unchanged epsilon c
 renumberLeaf (action i rs) c = recording (clone 5 (c .action) i) (unchanged (action (c .action) rs) (past 5 c))
 renumberLeaf (predicate i rs) c = recording (clone 6 (c .predicate) i) (unchanged (predicate (c .predicate) rs) (past 6 c))
@@ -91,19 +92,19 @@ module _ {B : Type 0} (renumberBlock : B → Counters → Fresh B) where
   unfoldable pub renumberElements : List (Element B) → Counters → Fresh (List (Element B))
   renumberElements = freshEach renumberElement
 
-  -- An alternative of a nested block, l. 1332 to 1342: its own id, then what is in it.
+  -- An alternative of a nested block in renumber_element, l. 1332 to 1342: its own id, then what is in it.
   unfoldable pub renumberAlternative : AlternativeOf B → Counters → Fresh (AlternativeOf B)
   renumberAlternative a c =
       recording (clone 2 (c .alternative) (a .id))
       (renumberElements (a .elements) (past 2 c) followedBy λ es c₁.
       unchanged (record { id = c .alternative; carried = a .carried; flag = a .flag; options = a .options; elements = es }) c₁)
 
-unfoldable pub renumberBlock : (d : ℕ) → Block d → Counters → Fresh (Block d)
+unfoldable pub renumberBlock : (d : ℕ) → Block d → Counters → Fresh (Block d)  -- The arm of renumber_element for a block, l. 1328.
 renumberBlock zero b c = absurd b
 renumberBlock (suc d) as′ c = freshEach (renumberAlternative (renumberBlock d)) as′ c
 
 module _ (d : ℕ) where
-  -- One alternative of the hub's new body, l. 922 to 961. An untouched one stays as it is.
+  -- One alternative of the hub's new body in apply_plan, l. 922 to 961. An untouched one stays as it is.
   unfoldable pub applyAlternative : Planned d → Counters → Fresh (AlternativeOf (Block d))
   applyAlternative p c =
       elim (p .verbatim) [
@@ -114,7 +115,7 @@ module _ (d : ℕ) where
             unchanged (record { id = c .alternative; carried = p .carried; flag = p .flag; options = p .options; elements = es }) c₁)
       ]
 
-  -- The rule with another body, if it is the hub.
+  -- The rule with another body, if it is the hub: apply_plan, l. 964 to 970.
   unfoldable pub withBody : ℕ → Block (suc d) → RuleOf (Block (suc d)) → RuleOf (Block (suc d))
   withBody hub b r = elim (eqb (r .id) hub) [ true ↦ record { id = r .id; name = r .name; flags = r .flags; body = b } | false ↦ r ]
 
@@ -125,12 +126,12 @@ module _ (d : ℕ) where
       recording (boundary 1 (plan .hub) (plan .hub))
       (unchanged (keep (λ r. not (member (r .id) (plan .removable))) (map (withBody (plan .hub) as′) rs)) c₁)
 
--- A node of the model: a kind and an id, numbered as in the trail.
+-- ModelNodeId, l. 129 of model.rs: a kind and an id, numbered as in the trail.
 pub record Node : Type 0 where
   pub kind : ℕ
   pub id : ℕ
 
--- Origin::Synthetic, l. 64; this pass records no other.
+-- Origin::Synthetic, l. 64 of provenance.rs, as are the lines below; this pass records no other.
 pub record Origin : Type 0 where
   pub reason : ℕ
   pub owner : Node
@@ -140,10 +141,10 @@ pub record Origins : Type 0 where
   pub node : Node
   pub list : List Origin
 
-abbrev pub sameNode : Node → Node → Bool
+abbrev pub sameNode : Node → Node → Bool  -- The derived == of model.rs, l. 128.
 sameNode m n = eqb (m .kind) (n .kind) && eqb (m .id) (n .id)
 
-abbrev pub sameOrigin : Origin → Origin → Bool
+abbrev pub sameOrigin : Origin → Origin → Bool  -- The derived ==, l. 37.
 sameOrigin o p = eqb (o .reason) (p .reason) && sameNode (o .owner) (p .owner)
 
 -- ProvenanceIndex::origins, l. 137.
@@ -151,7 +152,7 @@ unfoldable pub origins : List Origins → Node → List Origin
 origins [] n = []
 origins (e ∷ es) n = elim (sameNode (e .node) n) [ true ↦ e .list | false ↦ origins es n ]
 
--- The origins that a list does not have yet, added one at a time.
+-- The loop of record_model, l. 93: the origins that a list does not have yet, added one at a time.
 unfoldable pub addOrigins : List Origin → List Origin → List Origin
 addOrigins have [] = have
 addOrigins have (o ∷ os) =
@@ -170,12 +171,13 @@ recordModel (e ∷ es) n os =
 unfoldable pub recordClone : List Origins → Node → Origin → List Origins
 recordClone index n o = recordModel index n (origins index (o .owner) ++ (o ∷ []))
 
--- One recording.
+-- One recording: record_clone for reason 2, else what apply_plan records itself, l. 938 and 971 of mutual_recursion.rs.
 unfoldable pub recorded : List Origins → Entry → List Origins
 recorded index e =
     let n : Node = record { kind = e .kind; id = e .id } in
     let o : Origin = record { reason = e .reason; owner = record { kind = e .kind; id = e .owner } } in
     elim (eqb (e .reason) 2) [ true ↦ recordClone index n o | false ↦ recordModel index n (o ∷ []) ]
 
+-- The ProvenanceIndex, l. 78, that the recordings of a trail make of an empty one. Of its five maps this pass writes one.
 unfoldable pub provenance : List Entry → List Origins
 provenance = foldl recorded []

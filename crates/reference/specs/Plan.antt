@@ -33,7 +33,7 @@ module _ (g : Grammar) (cycle : List ℕ) where
     unfoldable pub externallyReferenced : List ℕ
     externallyReferenced = each (λ r. collectCallsInto g (suc d) (r .body)) (keep (λ r. not (member (r .id) cycle)) rs)
 
-    -- A member with an alternative whose corner is settled outside the cycle.
+    -- A member with an alternative whose corner is settled outside the cycle: the filter in choose_hub, l. 1019.
     unfoldable pub isCandidate : ℕ → Bool
     isCandidate i = elim (ruleWithId rs i) [ none ↦ false | some r ↦ any (λ a. not (cornerEntersCycle (a .elements))) (r .body) ]
 
@@ -44,7 +44,8 @@ module _ (g : Grammar) (cycle : List ℕ) where
         let candidates = keep isCandidate cycle in
         elim (first (λ i. member i external) candidates) [ some i ↦ some i | none ↦ first (λ i. true) candidates ]
 
--- satellite_has_embedded_semantics, l. 790: a body in which an action or a predicate has an id.
+-- satellite_has_embedded_semantics, l. 790, with elements_have_semantics, l. 791: a body in which an action or a
+-- predicate has an id; that walk is there for refusals 5 and 6.
 unfoldable pub hasEmbeddedSemantics : (d : ℕ) → Block d → Bool
 hasEmbeddedSemantics d b = not (isEmpty (blockIds 5 d b ++ blockIds 6 d b))
 
@@ -68,24 +69,24 @@ module _ (g : Grammar) (hub : ℕ) where
   unfoldable pub isHubCall : {B : Type 0} → Element B → Bool
   isHubCall e = elim (hubCall e) [ none ↦ false | some a ↦ true ]
 
-  unfoldable pub givesHubArguments : {B : Type 0} → Element B → Bool
+  unfoldable pub givesHubArguments : {B : Type 0} → Element B → Bool  -- A test of planned_hub_is_directly_rewritable, l. 830.
   givesHubArguments e = elim (hubCall e) [ none ↦ false | some a ↦ not (eqb a 0) ]
 
-  unfoldable pub startsWithHubCall : {B : Type 0} → List (Element B) → Bool
+  unfoldable pub startsWithHubCall : {B : Type 0} → List (Element B) → Bool  -- The first element, in l. 839 of the same.
   startsWithHubCall [] = false
   startsWithHubCall (e ∷ es) = isHubCall e
 
-  -- Binary or suffix, l. 839 to 860. The test for nothing significant behind the hub's call (l. 846) is part of the test
-  -- for a nullable tail: what is epsilon only is nullable.
+  -- Binary or suffix in planned_hub_is_directly_rewritable, l. 839 to 860. The test for nothing significant behind the
+  -- hub's call (l. 846) is part of the test for a nullable tail: what is epsilon only is nullable.
   unfoldable pub isRecursive : (d : ℕ) → Elements d → Bool
   isRecursive d es = startsWithHubCall es && not (all (elementNullable g (blockIsNullable g d)) (drop 1 es))
 
 module _ (c : Corners) (g : Grammar) (cycle : List ℕ) (hub : ℕ) (d : ℕ) where
-  -- Primary or prefix, l. 861 to 872: no left corner in the cycle.
+  -- Primary or prefix in planned_hub_is_directly_rewritable, l. 861 to 872: no left corner in the cycle.
   unfoldable pub isPrimary : Elements d → Bool
   isPrimary es = not (startsWithHubCall g hub es || meet (leftCorners c g d es) cycle)
 
-  -- No call of the hub has arguments, and something is significant.
+  -- No call of the hub has arguments, l. 829, something is significant, l. 834, and it is of one of the two sorts.
   unfoldable pub isFit : Elements d → Bool
   isFit es = not (any (givesHubArguments g hub) es || all isEpsilonOnly es) && (isPrimary es || isRecursive g hub d es)
 
@@ -96,13 +97,14 @@ module _ (c : Corners) (g : Grammar) (cycle : List ℕ) (hub : ℕ) (d : ℕ) wh
       && (any (λ p. isPrimary (p .elements)) ps && any (λ p. isRecursive g hub d (p .elements)) ps)
 
 module _ (g : Grammar) (d : ℕ) (rs : List (RuleOf (Block (suc d)))) (hub : ℕ) (ps : List (Planned d)) where
-  -- The calls that stay if a set of rules is removed: those of the planned hub and of the other rules kept.
+  -- The calls that stay if a set of rules is removed: those of the planned hub and of the other rules kept, as in
+  -- removable_satellites, l. 1084 to 1092. Calls of rules not in the set are not sifted out: nobody asks for them.
   unfoldable pub callsKept : List ℕ → List ℕ
   callsKept removable =
       each (λ p. collectCallsInElements g d (p .elements)) ps
       ++ each (λ r. collectCallsInto g (suc d) (r .body)) (keep (λ r. not (member (r .id) removable || eqb (r .id) hub)) rs)
 
-  -- One round: a rule that is still called is not removable.
+  -- One turn of the loop in removable_satellites, l. 1076: a rule that is still called is not removable.
   unfoldable pub removableRound : List ℕ → List ℕ
   removableRound removable =
       let called = callsKept removable in
@@ -120,7 +122,7 @@ pub record CyclePlan (d : ℕ) : Type 0 where
   pub removable : List ℕ
   pub steps : ℕ
 
--- The hub's alternatives before any step, l. 349 to 360.
+-- The hub's alternatives before any step of plan_cycle, l. 349 to 360.
 unfoldable pub asTheyAre : {B : Type 0} → List (AlternativeOf B) → List (PlannedAlternative B)
 asTheyAre as′ =
     map

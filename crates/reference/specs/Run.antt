@@ -15,7 +15,7 @@ use Rattle.reference.specs.Substitute.{decided, declined, overfull, Limi
 use Rattle.reference.specs.Plan.{CyclePlan, planCycle}
 use Rattle.reference.specs.Apply.{Fresh, applyPlan, Entry}
 
--- The depth left in an outermost alternative.
+-- The depth left in an outermost alternative: document 01's limit. The Rust has none.
 abbrev pub innerDepth : ℕ
 innerDepth = 8
 
@@ -38,12 +38,12 @@ pub data Run : Type 0 where
   ended : List Stage → Run
   stopped : (number : ℕ) → Run
 
-abbrev pub preceded : Stage → Run → Run
+abbrev pub preceded : Stage → Run → Run  -- The turns of eliminate_in_unit, l. 140, one after the other.
 preceded s (ended ss) = ended (s ∷ ss)
 preceded s (stopped n) = stopped n
 
 module _ (limits : Limits) (corners : Corners) (preserved : List ℕ) where
-  -- The first cycle with a plan; a limit passed on the way ends the search.
+  -- find_map in eliminate_in_unit, l. 147: the first cycle with a plan. A limit passed on the way ends the search.
   unfoldable pub searchCycles : Grammar → List Rule → List (List ℕ) → Search
   searchCycles g rs [] = noPlan
   searchCycles g rs (cycle ∷ more) =
@@ -59,28 +59,28 @@ module _ (limits : Limits) (corners : Corners) (preserved : List ℕ) where
       let g = grammarOf bodyDepth rs in
       searchCycles g rs (leftCornerCycles corners g bodyDepth rs)
 
-abbrev pub isWord : ℕ → Bool
+abbrev pub isWord : ℕ → Bool  -- The range of a counter, a u32 in model.rs, l. 43.
 isWord n = ltb n (2 ^ 32)
 
--- Refusal 8 excludes a counter above 4,294,967,295.
+-- Document 01's refusal 8 excludes a counter above 4,294,967,295; in the Rust it is a panic, model.rs, l. 78.
 unfoldable pub areWords : Counters → Bool
 areWords c = isWord (c .alternative) && (isWord (c .element) && (isWord (c .label) && (isWord (c .action) && isWord (c .predicate))))
 
 module _ (kind : ℕ) (preserved : List ℕ) where
-  abbrev pub sheetWith : Fresh (List Rule) → Sheet
+  abbrev pub sheetWith : Fresh (List Rule) → Sheet  -- The unit that apply_plan leaves, l. 978, as a sheet.
   sheetWith after = record { kind = kind; rules = after .node; preserved = preserved; counters = after .counters }
 
-  -- Refusal 9 excludes a longer sheet (in words) or trail (in entries, `recorded` of them by earlier plans).
+  -- Document 01's refusal 9 excludes a longer sheet (in words) or trail (in entries, `recorded` of them by earlier plans).
   unfoldable pub isShort : Fresh (List Rule) → ℕ → Bool
   isShort after recorded = leb (length (encode (sheetWith after))) 8192 && leb (recorded + length (after .entries)) 4096
 
-  -- The refusal that applying a plan meets, or 0.
+  -- The refusal of document 01 that applying a plan meets, or 0. The Rust has no such limits, or panics.
   unfoldable pub refusalOf : Fresh (List Rule) → ℕ → ℕ
   refusalOf after recorded =
       elim (areWords (after .counters)) [ false ↦ 8 | true ↦ elim (isShort after recorded) [ false ↦ 9 | true ↦ 0 ] ]
 
 module _ (limits : Limits) (corners : Corners) (kind : ℕ) (preserved : List ℕ) where
-  -- eliminate_in_unit, l. 127, with the turns that are left.
+  -- eliminate_in_unit, l. 127, with the turns that are left: the Rust's loop has no bound, a definition needs one.
   unfoldable pub eliminateInUnit : ℕ → List Rule → Counters → ℕ → Run
   eliminateInUnit zero rs c recorded = ended []
   eliminateInUnit (suc turns) rs c recorded =
@@ -97,7 +97,8 @@ module _ (limits : Limits) (corners : Corners) (kind : ℕ) (preserved : List �
             ]
       ]
 
--- eliminate_mutual_left_recursion_with_action_reference_parser, l. 83, for one unit: only a parser unit has plans.
+-- eliminate_mutual_left_recursion_with_action_reference_parser, l. 83, for one unit: only a parser unit has plans. (The
+-- wrapper eliminate_mutual_left_recursion, l. 68, names the parser of action.rs, whose answers are in the sheet.)
 -- Plans never outnumber rules, so the loop has one turn more than there are rules.
 unfoldable pub eliminateMutualLeftRecursion : Limits → Corners → Sheet → Run
 eliminateMutualLeftRecursion limits corners s =
@@ -106,19 +107,18 @@ eliminateMutualLeftRecursion limits corners s =
       | false ↦ ended []
     ]
 
--- The sheet that stages leave: rules and counters are the last stage's.
+-- The sheet that stages leave: rules and counters are the last's. In place in eliminate_in_unit, l. 158.
 unfoldable pub sheetAfter : Sheet → List Stage → Sheet
 sheetAfter s [] = s
-sheetAfter s (t ∷ ts) =
-    sheetAfter (record { kind = s .kind; rules = t .after .node; preserved = s .preserved; counters = t .after .counters }) ts
+sheetAfter s (t ∷ ts) = sheetAfter (sheetWith (s .kind) (s .preserved) (t .after)) ts
 
-unfoldable pub stepsOf : List Stage → ℕ
+unfoldable pub stepsOf : List Stage → ℕ  -- The steps of plan_cycle, l. 363, of applied plans only, as document 01 asks.
 stepsOf ss = total (map (λ s. s .plan .steps) ss)
 
-unfoldable pub encodeEntry : Entry → List ℕ
+unfoldable pub encodeEntry : Entry → List ℕ  -- An entry of document 01's trail. The Rust has no trail.
 encodeEntry e = e .kind ∷ e .id ∷ e .reason ∷ e .owner ∷ []
 
--- What the stages recorded, in order.
+-- Document 01's trail: what the stages recorded, in order.
 unfoldable pub entriesOf : List Stage → List Entry
 entriesOf [] = []
 entriesOf (s ∷ ss) = s .after .entries ++ entriesOf ss
@@ -128,16 +128,16 @@ pub data Answer : Type 0 where
   refusal : (number : ℕ) → Answer
   answer : (plans steps : ℕ) (result trail : List ℕ) → Answer
 
-unfoldable pub answerRun : Sheet → Run → Answer
+unfoldable pub answerRun : Sheet → Run → Answer  -- Document 01's table: 0 and 7 to 9.
 answerRun s (stopped n) = refusal n
 answerRun s (ended ss) = answer (length ss) (stepsOf ss) (encode (sheetAfter s ss)) (each encodeEntry (entriesOf ss))
 
 module _ (limits : Limits) (corners : Corners) where
-  unfoldable pub answerReading : Reading → Answer
+  unfoldable pub answerReading : Reading → Answer  -- The same, and document 01's 1 and 3 to 6.
   answerReading (refused n) = refusal n
   answerReading (sheet s) = answerRun s (eliminateMutualLeftRecursion limits corners s)
 
-  unfoldable pub answerTo : List ℕ → Answer
+  unfoldable pub answerTo : List ℕ → Answer  -- The same of the bytes that document 01 calls a sheet.
   answerTo bs = answerReading (read bs)
 
 -- The lengths are in bytes; result, trail and work are what stands in the buffers at exit, in bytes.
@@ -151,27 +151,27 @@ pub record Outcome : Type 0 where
   pub trail : List ℕ
   pub work : List ℕ
 
--- Bytes from the front of a buffer, zeros behind them.
+-- Bytes from the front of a buffer, zeros behind them, as document 01's table has it.
 unfoldable pub filled : List ℕ → List ℕ → List ℕ
 filled bs buffer = bs ++ replicate (length buffer - length bs) 0
 
--- Refusal 2 excludes every shorter buffer.
+-- Document 01's refusal 2 excludes every shorter buffer.
 unfoldable pub areLent : List ℕ → List ℕ → List ℕ → Bool
 areLent result trail work = leb 32768 (length result) && (leb 65536 (length trail) && leb 65536 (length work))
 
 module _ (result trail work : List ℕ) where
-  -- Refusals 1 and 2 touch nothing.
+  -- Document 01's refusals 1 and 2 touch nothing.
   unfoldable pub untouched : ℕ → Outcome
   untouched n =
       record { number = n; plans = 0; steps = 0; resultLength = 0; trailLength = 0; result = result; trail = trail; work = work }
 
-  unfoldable pub delivered : Answer → Outcome
+  unfoldable pub delivered : Answer → Outcome  -- Document 01's table for the rest.
   delivered (refusal n) =
       record { number = n; plans = 0; steps = 0; resultLength = 0; trailLength = 0; result = filled [] result; trail = filled [] trail; work = filled [] work }
   delivered (answer plans steps ws ts) =
       record { number = 0; plans = plans; steps = steps; resultLength = 4 * length ws; trailLength = 4 * length ts; result = filled (bytes ws) result; trail = filled (bytes ts) trail; work = filled [] work }
 
--- The whole outcome of a call: of the sheet's bytes and of what stands in the three buffers at entry.
+-- The whole outcome that document 01 asks for, of the sheet's bytes and what stands in the three buffers at entry.
 unfoldable pub outcome : Limits → Corners → (bs result trail work : List ℕ) → Outcome
 outcome limits corners bs result trail work =
     elim (isLength (length bs)) [

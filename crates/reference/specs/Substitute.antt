@@ -24,23 +24,23 @@ pub data Decided (A : Type 0) : Type 0 where
   overfull : Decided A
 
 infixl 20 _andThen_
--- What follows a decision.
+-- What follows a decision: the ? and the early returns of plan_cycle, l. 313, with the clause kept.
 abbrev pub _andThen_ : {A B : Type 0} → Decided A → (A → Decided B) → Decided B
 (decided a) andThen f = f a
 (declined c) andThen f = declined c
 overfull andThen f = overfull
 
--- The rest, where a test holds; else a decline.
+-- The rest, where a test holds; else a decline, as in plan_cycle, l. 335.
 abbrev pub require : {A : Type 0} → Clause → Bool → (Unit {0} → Decided A) → Decided A
 require c true f = f tt
 require c false f = declined c
 
--- What was found; else a decline.
+-- What was found; else a decline, as in plan_cycle, l. 325.
 abbrev pub found : {A : Type 0} → Clause → Option A → Decided A
 found c none = declined c
 found c (some a) = decided a
 
--- A decision for each item.
+-- A decision for each item; the first decline ends it, as in the loop of splice_satellite, l. 598.
 unfoldable pub decideEach : {A B : Type 0} → (A → Decided B) → List A → Decided (List B)
 decideEach f [] = decided []
 decideEach f (a ∷ as′) = f a andThen λ b. decideEach f as′ andThen λ bs. decided (b ∷ bs)
@@ -52,11 +52,12 @@ pub record Limits : Type 0 where
   pub elements : ℕ
   pub options : ℕ
 
-abbrev pub standard : Limits
+abbrev pub standard : Limits  -- 64 is substitution_budget's, l. 1111; the others are document 01's refusal 7.
 standard = record { budgetFloor = 64; alternatives = 1024; elements = 8192; options = 2048 }
 
 -- PlannedAlternative, l. 180. In place of label_from stand the carried number and the flag of the hub's alternative in
--- whose slot it is; the Rust looks them up by that id when the plan is applied.
+-- whose slot it is. The Rust looks them up by that id when the plan is applied, in an index of all alternatives
+-- (collect_alternative_attributes, l. 983, and collect_block_alternatives, l. 991); here they are at hand already.
 pub record PlannedAlternative (B : Type 0) : Type 0 where
   pub carried : ℕ
   pub flag : ℕ
@@ -65,7 +66,7 @@ pub record PlannedAlternative (B : Type 0) : Type 0 where
   pub elements : List (Element B)
   pub verbatim : Bool
 
--- A new alternative in the slot of another.
+-- A new alternative in the slot of another, as in split_optional, l. 557, and splice_satellite, l. 634.
 abbrev pub inSlotOf : {B : Type 0} → PlannedAlternative B → List OptionDecl → ℕ → List (Element B) → PlannedAlternative B
 inSlotOf p os i es = record { carried = p .carried; flag = p .flag; options = os; origin = i; elements = es; verbatim = false }
 
@@ -74,14 +75,14 @@ pub data PlannedCorner : Type 0 where
   optional satellite : (index target : ℕ) → PlannedCorner
   blocked settled : PlannedCorner
 
--- The same corner with one more element in front.
+-- The same corner with one more element in front; planned_corner counts along, l. 453.
 unfoldable pub further : PlannedCorner → PlannedCorner
 further (optional i t) = optional (suc i) t
 further (satellite i t) = satellite (suc i) t
 further blocked = blocked
 further settled = settled
 
--- A call of a member of the cycle, l. 471 to 486.
+-- A call of a member of the cycle in planned_corner, l. 471 to 486.
 unfoldable pub memberCorner : (hub : ℕ) → ElementHead → ℕ → ℕ → PlannedCorner
 memberCorner hub h a t =
     elim (eqb (h .quantifier) 1 && bareReference h a) [
@@ -109,18 +110,18 @@ module _ (g : Grammar) (cycle : List ℕ) (hub : ℕ) where
       ]
   plannedCorner (block h b ∷ es) = settled
 
--- The elements with the one at an index taken out.
+-- The elements without the one at an index, as in split_optional, l. 555, and splice_satellite, l. 595.
 abbrev pub without : {A : Type 0} → ℕ → List A → List A
 without i es = take i es ++ drop (suc i) es
 
-abbrev pub plainHead : ElementHead → ElementHead
+abbrev pub plainHead : ElementHead → ElementHead  -- Quantifier::One in split_optional, l. 552.
 plainHead h = record { id = h .id; carried = h .carried; quantifier = 0; label = h .label; options = h .options }
 
-unfoldable pub plain : {B : Type 0} → Element B → Element B
+unfoldable pub plain : {B : Type 0} → Element B → Element B  -- The element in split_optional, l. 551.
 plain (leaf h l) = leaf (plainHead h) l
 plain (block h b) = block (plainHead h) b
 
--- The elements with the one at an index made plain.
+-- The elements with the one at an index made plain: `present` in split_optional, l. 550.
 abbrev pub withPlain : {B : Type 0} → ℕ → List (Element B) → List (Element B)
 withPlain i es = take i es ++ (map plain (take 1 (drop i es)) ++ drop (suc i) es)
 
@@ -128,7 +129,7 @@ withPlain i es = take i es ++ (map plain (take 1 (drop i es)) ++ drop (suc i) es
 unfoldable pub splitOptional : {B : Type 0} → PlannedAlternative B → ℕ → List (PlannedAlternative B)
 splitOptional p i = map (inSlotOf p (p .options) (p .origin)) (withPlain i (p .elements) ∷ without i (p .elements) ∷ [])
 
--- One option more; none where the first of its name has another value.
+-- One option more, as in splice_satellite, l. 621; none where the first of its name has another value.
 unfoldable pub addOption : List OptionDecl → OptionDecl → Option (List OptionDecl)
 addOption os o =
     elim (first (λ p. eqb (p .name) (o .name)) os) [
@@ -142,10 +143,10 @@ unionOptions os [] = some os
 unionOptions os (o ∷ more) = elim (addOption os o) [ none ↦ none | some wider ↦ unionOptions wider more ]
 
 module _ (d : ℕ) where
-  abbrev pub Elements : Type 0
+  abbrev pub Elements : Type 0  -- What the Rust hands on as &[Element], as labels_collide, l. 646.
   Elements = List (Element (Block d))
 
-  abbrev pub Planned : Type 0
+  abbrev pub Planned : Type 0  -- PlannedAlternative, l. 180, at one depth.
   Planned = PlannedAlternative (Block d)
 
   -- remaining_actions_reference, l. 497, with element_actions_reference, l. 511: references of every kind count.
@@ -189,7 +190,7 @@ module _ (d : ℕ) where
       require danglingReference (not (remainingActionsReference (p .elements) i (r .name))) λ _.
       decideEach (spliceAlternative p i) (r .body)
 
-  -- Refusal 7 excludes every other list after a step.
+  -- Document 01's refusal 7 excludes every other list after a step; plan_cycle's loop, l. 364, has no such limit.
   unfoldable pub isWithin : Limits → List Planned → Bool
   isWithin limits ps =
       leb (length ps) (limits .alternatives)
@@ -207,7 +208,7 @@ module _ (d : ℕ) where
     pub alternatives : List Planned
     pub steps : ℕ
 
-  -- What takes the place of an alternative, l. 375 to 400; none where it is settled. A target is always a rule's.
+  -- What takes the place of an alternative in plan_cycle, l. 375 to 400; none where it is settled. A target is always a rule's.
   unfoldable pub replacement : List (RuleOf (Block (suc d))) → Planned → PlannedCorner → Option (Decided (List Planned))
   replacement rs p (optional i t) =
       elim (ruleWithId rs t) [

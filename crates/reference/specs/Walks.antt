@@ -8,12 +8,13 @@ use Rattle.grammar.specs.Tree.{Reference, Label, unlabelled, labelled, ElementH
 use Rattle.grammar.specs.Encode.{each}
 use Rattle.grammar.specs.Lists.{isEmpty}
 
--- The arms of most matches: actions, predicates and epsilon; calls; tokens and kind 5. Blocks are apart already.
+-- The arms of most matches, as of classify_corner, l. 259: actions, predicates and epsilon; calls; tokens and
+-- kind 5. Blocks are apart already.
 pub data Sort : Type 0 where
   silent consuming : Sort
   calling : (name arguments : ℕ) → Sort
 
-unfoldable pub sortOf : Leaf → Sort
+unfoldable pub sortOf : Leaf → Sort  -- That match, in classify_corner, l. 259.
 sortOf epsilon = silent
 sortOf (action i rs) = silent
 sortOf (predicate i rs) = silent
@@ -26,14 +27,14 @@ unfoldable pub isEpsilonOnly : {B : Type 0} → Element B → Bool
 isEpsilonOnly (leaf h l) = elim (sortOf l) [ silent ↦ true | consuming ↦ false | calling n a ↦ false ]
 isEpsilonOnly (block h b) = false
 
--- Optional or zero or more, greedy or not.
+-- The first test of element_nullable, l. 1262: optional or zero or more, greedy or not.
 abbrev pub isOptional : ElementHead → Bool
 isOptional h = leb 1 (h .quantifier) && leb (h .quantifier) 4
 
-abbrev pub isOne : ElementHead → Bool
+abbrev pub isOne : ElementHead → Bool  -- Quantifier::One, as planned_corner asks for it, l. 480.
 isOne h = eqb (h .quantifier) 0
 
-abbrev pub isUnlabelled : Label → Bool
+abbrev pub isUnlabelled : Label → Bool  -- The first test of bare_reference, l. 309.
 isUnlabelled unlabelled = true
 isUnlabelled (labelled i n) = false
 
@@ -41,28 +42,29 @@ isUnlabelled (labelled i n) = false
 unfoldable pub bareReference : ElementHead → ℕ → Bool
 bareReference h a = isUnlabelled (h .label) && (eqb a 0 && isEmpty (h .options))
 
--- One walk serves where the Rust has five (collect_calls_in_elements, element_actions_reference, collect_labels,
--- action_reference_names, bindable_names): all numbers that labels and leaves give, nested ones too.
+-- One walk serves where the Rust has five, since they differ in what they take only: element_actions_reference, l. 511,
+-- collect_labels, l. 658, action_reference_names, l. 700, bindable_names, l. 738, and collect_calls_in_elements, l. 1205.
+-- It gives all numbers that labels and leaves give, nested ones too.
 module _ (ofLabel : Label → List ℕ) (ofLeaf : Leaf → List ℕ) where
-  unfoldable pub elementGives : {B : Type 0} → (B → List ℕ) → Element B → List ℕ
+  unfoldable pub elementGives : {B : Type 0} → (B → List ℕ) → Element B → List ℕ  -- As bindable_names, l. 740 to 756.
   elementGives ofBlock (leaf h l) = ofLabel (h .label) ++ ofLeaf l
   elementGives ofBlock (block h b) = ofLabel (h .label) ++ ofBlock b
 
-  unfoldable pub blockGives : (d : ℕ) → Block d → List ℕ
+  unfoldable pub blockGives : (d : ℕ) → Block d → List ℕ  -- Its arm for a block, as bindable_names, l. 750.
   blockGives zero b = absurd b
   blockGives (suc d) as′ = each (λ a. each (elementGives (blockGives d)) (a .elements)) as′
 
-  unfoldable pub elementsGive : (d : ℕ) → List (Element (Block d)) → List ℕ
+  unfoldable pub elementsGive : (d : ℕ) → List (Element (Block d)) → List ℕ  -- Its loop, as bindable_names, l. 739.
   elementsGive d es = each (elementGives (blockGives d)) es
 
-abbrev pub nothing : {A : Type 0} → A → List ℕ
+abbrev pub nothing : {A : Type 0} → A → List ℕ  -- What a walk passes over, as collect_labels the leaves, l. 663.
 nothing a = []
 
-abbrev pub labelNames : Label → List ℕ
+abbrev pub labelNames : Label → List ℕ  -- Of collect_labels, l. 660, and bindable_names, l. 740.
 labelNames unlabelled = []
 labelNames (labelled i n) = n ∷ []
 
--- The names of calls and tokens.
+-- The names of calls and tokens, of bindable_names, l. 744 to 749.
 unfoldable pub leafNames : Leaf → List ℕ
 leafNames epsilon = []
 leafNames (action i rs) = []
@@ -71,7 +73,8 @@ leafNames (call n a) = n ∷ []
 leafNames (token n) = n ∷ []
 leafNames terminal = []
 
--- What the bodies of actions and predicates refer to.
+-- What the bodies of actions and predicates refer to. The Rust asks action_reference_parser, l. 535 and 723; here the
+-- sheet brings its answers.
 unfoldable pub references : Leaf → List Reference
 references epsilon = []
 references (action i rs) = rs
