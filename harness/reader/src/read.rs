@@ -1,20 +1,47 @@
-//! A second reader of sheets, written from the format's description alone.
+//! A second reader of sheets, written from document 01 alone.
 //!
 //! It answers the lowest refusal that holds (1, 3, 4, 5 or 6), or the sheet's parts. Refusal 2 is
 //! about lent buffers, and this reader is lent none.
 
-const TRAILER: usize = 8;
-const LONGEST: usize = 32_768;
-const MOST_RULES: usize = 128;
-const DEEPEST: u32 = 8;
-const LAST_NAME: u32 = 65_535;
+use std::ops::RangeInclusive;
 
-/// The sorts of node whose ids have a counter, in the trailer's order.
-const ALTERNATIVE: usize = 0;
-const ELEMENT: usize = 1;
-const LABEL: usize = 2;
-const ACTION: usize = 3;
-const PREDICATE: usize = 4;
+const BAD_LENGTH: u32 = 1;
+const BAD_TRAILER: u32 = 3;
+const BAD_RECORD: u32 = 4;
+const SHARED: u32 = 5;
+const NOT_BELOW_COUNTER: u32 = 6;
+
+const WORD_BYTES: usize = 4;
+const TRAILER_WORDS: usize = 8;
+const SHEET_BYTES: RangeInclusive<usize> = TRAILER_WORDS * WORD_BYTES..=32_768;
+const MAX_RULES: usize = 128;
+const MAX_DEPTH: u32 = 8;
+
+const UNIT_KINDS: RangeInclusive<u32> = 1..=3;
+const NAMES: RangeInclusive<u32> = 1..=65_535;
+const RULE_FLAGS: RangeInclusive<u32> = 0..=3;
+const ALTERNATIVE_FLAGS: RangeInclusive<u32> = 0..=1;
+const QUANTIFIERS: RangeInclusive<u32> = 0..=6;
+const REFERENCE_KINDS: RangeInclusive<u32> = 0..=2;
+
+/// An element's third word is its kind plus this many times its quantifier.
+const QUANTIFIER_STEP: u32 = 256;
+
+const EPSILON: u32 = 0;
+const ACTION: u32 = 1;
+const PREDICATE: u32 = 2;
+const CALL: u32 = 3;
+const TOKEN: u32 = 4;
+const OTHER_TERMINAL: u32 = 5;
+const BLOCK: u32 = 6;
+
+// The five sorts of counted ids, in the order of the trailer's counters.
+const ALTERNATIVES: usize = 0;
+const ELEMENTS: usize = 1;
+const LABELS: usize = 2;
+const ACTIONS: usize = 3;
+const PREDICATES: usize = 4;
+const SORTS: usize = 5;
 
 /// A rule as it was met: `place` is the index of its first word.
 #[derive(Clone, Debug, PartialEq, Eq)]
@@ -27,253 +54,206 @@ pub struct Rule {
 /// What a sheet that is not refused holds. Nested alternatives and elements are counted too.
 #[derive(Clone, Debug, PartialEq, Eq)]
 pub struct Parts {
-    pub kind: u32,
-    pub preserved_at: u32,
-    pub preserved: u32,
-    pub counters: [u32; 5],
-    pub rules: Vec<Rule>,
-    pub alternatives: u32,
-    pub elements: u32,
+    pub kind: u32,          // unit kind
+    pub preserved_at: u32,  // word index at which the preserved list starts
+    pub preserved: u32,     // how many preserved ids
+    pub counters: [u32; 5], // next free alternative, element, label, action, predicate id
+    pub rules: Vec<Rule>,   // in the sheet's order
+    pub alternatives: u32,  // all of them, nested ones too
+    pub elements: u32,      // all of them, nested ones too
 }
 
 /// The sheet's parts, or the number of its refusal.
 pub fn read(bytes: &[u8]) -> Result<Parts, u32> {
-    let words = words(bytes)?;
-    let trailer = Trailer::of(&words)?;
-    let (body, preserved) = trailer.split(&words);
-    let met = Met::of(body)?;
-    rising(preserved)?;
-    met.distinct()?;
-    met.below(&trailer.counters)?;
+    // The checks run from the lowest refusal to the highest, so the first one met is the answer.
+    let words = words_of(bytes)?;
+    let Some((body, trailer)) = words.split_last_chunk::<TRAILER_WORDS>() else {
+        return Err(BAD_LENGTH);
+    };
+    let [kind, first, second, counters @ ..] = *trailer;
+    refuse_unless(UNIT_KINDS.contains(&kind), BAD_TRAILER)?;
+    refuse_unless(first as usize == body.len(), BAD_TRAILER)?;
+    refuse_unless(second <= first, BAD_TRAILER)?;
+
+    let (records, preserved) = body.split_at(body.len() - second as usize);
+    let mut walk = Walk {
+        words: records,
+        ..Walk::default()
+    };
+    walk.read_rules()?;
+    refuse_unless(is_rising(preserved), BAD_RECORD)?;
+
+    refuse_unless(walk.shares_nothing(), SHARED)?;
+    refuse_unless(walk.is_below(&counters), NOT_BELOW_COUNTER)?;
     Ok(Parts {
-        kind: trailer.kind,
-        preserved_at: body.len() as u32,
-        preserved: preserved.len() as u32,
-        counters: trailer.counters,
-        alternatives: met.ids[ALTERNATIVE].len() as u32,
-        elements: met.ids[ELEMENT].len() as u32,
-        rules: met.rules,
+        kind,
+        preserved_at: first - second,
+        preserved: second,
+        counters,
+        alternatives: walk.ids[ALTERNATIVES].len() as u32,
+        elements: walk.ids[ELEMENTS].len() as u32,
+        rules: walk.rules,
     })
 }
 
-/// Refusal 1, or the words, low byte first.
-fn words(bytes: &[u8]) -> Result<Vec<u32>, u32> {
-    let n = bytes.len();
-    if !(4 * TRAILER..=LONGEST).contains(&n) || !n.is_multiple_of(4) {
-        return Err(1);
-    }
+fn refuse_unless(good: bool, refusal: u32) -> Result<(), u32> {
+    good.then_some(()).ok_or(refusal)
+}
+
+fn words_of(bytes: &[u8]) -> Result<Vec<u32>, u32> {
+    let words = bytes.chunks_exact(WORD_BYTES);
+    refuse_unless(SHEET_BYTES.contains(&bytes.len()), BAD_LENGTH)?;
+    refuse_unless(words.remainder().is_empty(), BAD_LENGTH)?;
     let word = |b: &[u8]| u32::from_le_bytes([b[0], b[1], b[2], b[3]]);
-    Ok(bytes.chunks_exact(4).map(word).collect())
+    Ok(words.map(word).collect())
 }
 
-struct Trailer {
-    kind: u32,
-    first: usize,
-    list: usize,
-    counters: [u32; 5],
+/// Whether each value is above the one before it.
+fn is_rising(values: &[u32]) -> bool {
+    values.windows(2).all(|pair| pair[0] < pair[1])
 }
 
-impl Trailer {
-    /// Refusal 3, or the last 8 words as they are meant.
-    fn of(words: &[u32]) -> Result<Trailer, u32> {
-        let before = words.len() - TRAILER;
-        let t = &words[before..];
-        let (kind, first, list) = (t[0], t[1], t[2]);
-        if !(1..=3).contains(&kind) || first as usize != before || list > first {
-            return Err(3);
-        }
-        Ok(Trailer {
-            kind,
-            first: before,
-            list: list as usize,
-            counters: [t[3], t[4], t[5], t[6], t[7]],
-        })
-    }
-
-    /// The words of the rules, and the preserved ids.
-    fn split<'a>(&self, words: &'a [u32]) -> (&'a [u32], &'a [u32]) {
-        words[..self.first].split_at(self.first - self.list)
-    }
+/// Once sorted, values are all different exactly where they rise.
+fn are_distinct(values: impl Iterator<Item = u32>) -> bool {
+    let mut sorted: Vec<u32> = values.collect();
+    sorted.sort_unstable();
+    is_rising(&sorted)
 }
 
-fn rising(ids: &[u32]) -> Result<(), u32> {
-    match ids.windows(2).all(|two| two[0] < two[1]) {
-        true => Ok(()),
-        false => Err(4),
-    }
-}
-
-/// The rules and the ids of each sort, in the order in which they were met.
+/// Reads the records in order and keeps what refusals 5 and 6 need.
+///
+/// The words end where the preserved list starts, so a record that runs into the list is cut short.
+/// Every turn of every loop takes a word or refuses, so a huge count ends with the words.
 #[derive(Default)]
-struct Met {
-    rules: Vec<Rule>,
-    ids: [Vec<u32>; 5],
-}
-
-impl Met {
-    fn of(body: &[u32]) -> Result<Met, u32> {
-        let mut walk = Walk {
-            body,
-            at: 0,
-            met: Met::default(),
-        };
-        while walk.at < body.len() {
-            walk.rule()?;
-        }
-        Ok(walk.met)
-    }
-
-    /// Refusal 5.
-    fn distinct(&self) -> Result<(), u32> {
-        let ids = self.rules.iter().map(|r| r.id).collect::<Vec<_>>();
-        let names = self.rules.iter().map(|r| r.name).collect::<Vec<_>>();
-        if repeats(&ids) || repeats(&names) || self.ids.iter().any(|sort| repeats(sort)) {
-            return Err(5);
-        }
-        Ok(())
-    }
-
-    /// Refusal 6.
-    fn below(&self, counters: &[u32; 5]) -> Result<(), u32> {
-        for (ids, counter) in self.ids.iter().zip(counters) {
-            if ids.iter().any(|id| id >= counter) {
-                return Err(6);
-            }
-        }
-        Ok(())
-    }
-}
-
-fn repeats(ids: &[u32]) -> bool {
-    let mut seen = std::collections::HashSet::new();
-    ids.iter().any(|id| !seen.insert(id))
-}
-
-/// A place in the words of the rules. Whatever does not fit there is refusal 4.
 struct Walk<'a> {
-    body: &'a [u32],
+    words: &'a [u32],
     at: usize,
-    met: Met,
+    rules: Vec<Rule>,
+    ids: [Vec<u32>; SORTS],
 }
 
 impl Walk<'_> {
-    fn take(&mut self) -> Result<u32, u32> {
-        let word = *self.body.get(self.at).ok_or(4u32)?;
+    fn word(&mut self) -> Result<u32, u32> {
+        let word = *self.words.get(self.at).ok_or(BAD_RECORD)?;
         self.at += 1;
         Ok(word)
     }
 
-    fn up_to(&mut self, last: u32) -> Result<u32, u32> {
-        let word = self.take()?;
-        if word > last {
-            return Err(4);
-        }
+    fn word_in(&mut self, list: RangeInclusive<u32>) -> Result<u32, u32> {
+        let word = self.word()?;
+        refuse_unless(list.contains(&word), BAD_RECORD)?;
         Ok(word)
     }
 
-    fn name(&mut self) -> Result<u32, u32> {
-        let name = self.up_to(LAST_NAME)?;
-        if name == 0 {
-            return Err(4);
-        }
-        Ok(name)
+    fn keep_id(&mut self, sort: usize) -> Result<(), u32> {
+        self.word().map(|id| self.ids[sort].push(id))
     }
 
-    fn id(&mut self, sort: usize) -> Result<(), u32> {
-        let id = self.take()?;
-        self.met.ids[sort].push(id);
+    /// The sheet has no rule count: rules follow one another until the words end.
+    fn read_rules(&mut self) -> Result<(), u32> {
+        while self.at < self.words.len() {
+            refuse_unless(self.rules.len() < MAX_RULES, BAD_RECORD)?;
+            let place = self.at as u32;
+            let id = self.word()?;
+            let name = self.word_in(NAMES)?;
+            self.rules.push(Rule { id, name, place });
+            self.word_in(RULE_FLAGS)?;
+            self.read_alternatives(0)?;
+        }
         Ok(())
     }
 
-    fn rule(&mut self) -> Result<(), u32> {
-        if self.met.rules.len() == MOST_RULES {
-            return Err(4);
-        }
-        let place = self.at as u32;
-        let id = self.take()?;
-        let name = self.name()?;
-        self.met.rules.push(Rule { id, name, place });
-        self.up_to(3)?;
-        self.alternatives(0)
-    }
-
-    /// A count and that many alternatives, with `depth` blocks around them.
-    fn alternatives(&mut self, depth: u32) -> Result<(), u32> {
-        let count = self.take()?;
+    /// A count and its alternatives; `depth` is the number of blocks around them.
+    fn read_alternatives(&mut self, depth: u32) -> Result<(), u32> {
+        let count = self.word()?;
         for _ in 0..count {
-            self.alternative(depth)?;
+            self.read_alternative(depth)?;
         }
         Ok(())
     }
 
-    fn alternative(&mut self, depth: u32) -> Result<(), u32> {
-        self.id(ALTERNATIVE)?;
-        self.take()?;
-        self.up_to(1)?;
-        let options = self.take()?;
-        let elements = self.take()?;
-        self.options(options)?;
+    fn read_alternative(&mut self, depth: u32) -> Result<(), u32> {
+        self.keep_id(ALTERNATIVES)?;
+        let _carried = self.word()?;
+        self.word_in(ALTERNATIVE_FLAGS)?;
+        let options = self.word()?;
+        let elements = self.word()?;
+        self.read_options(options)?;
         for _ in 0..elements {
-            self.element(depth)?;
+            self.read_element(depth)?;
         }
         Ok(())
     }
 
-    fn options(&mut self, count: u32) -> Result<(), u32> {
+    fn read_options(&mut self, count: u32) -> Result<(), u32> {
         for _ in 0..count {
-            self.name()?;
-            self.take()?;
+            self.word_in(NAMES)?;
+            let _value = self.word()?;
         }
         Ok(())
     }
 
-    fn element(&mut self, depth: u32) -> Result<(), u32> {
-        self.id(ELEMENT)?;
-        self.take()?;
-        let packed = self.up_to(6 * 256 + 6)?;
-        let kind = packed % 256;
-        self.label()?;
-        let options = self.take()?;
-        self.options(options)?;
+    fn read_element(&mut self, depth: u32) -> Result<(), u32> {
+        self.keep_id(ELEMENTS)?;
+        let _carried = self.word()?;
+        let form = self.word()?;
+        refuse_unless(QUANTIFIERS.contains(&(form / QUANTIFIER_STEP)), BAD_RECORD)?;
+        self.read_label()?;
+        let options = self.word()?;
+        self.read_options(options)?;
+        self.read_payload(form % QUANTIFIER_STEP, depth)
+    }
+
+    /// The name tells whether there is a label: a label's id may be 0, its name may not.
+    fn read_label(&mut self) -> Result<(), u32> {
+        let id = self.word()?;
+        let name = self.word()?;
+        if name == 0 {
+            return refuse_unless(id == 0, BAD_RECORD);
+        }
+        refuse_unless(NAMES.contains(&name), BAD_RECORD)?;
+        self.ids[LABELS].push(id);
+        Ok(())
+    }
+
+    fn read_payload(&mut self, kind: u32, depth: u32) -> Result<(), u32> {
         match kind {
-            0 | 5 => Ok(()),
-            1 => self.body_of(ACTION),
-            2 => self.body_of(PREDICATE),
-            3 => self.call(),
-            4 => self.name().map(|_| ()),
-            6 if depth < DEEPEST => self.alternatives(depth + 1),
-            _ => Err(4),
+            EPSILON | OTHER_TERMINAL => Ok(()),
+            ACTION => self.read_code(ACTIONS),
+            PREDICATE => self.read_code(PREDICATES),
+            CALL => self.read_call(),
+            TOKEN => self.word_in(NAMES).map(|_name| ()),
+            BLOCK if depth < MAX_DEPTH => self.read_alternatives(depth + 1),
+            // A block too deep, or a kind outside the list.
+            _ => Err(BAD_RECORD),
         }
     }
 
-    /// Both words 0, or a label: any id, and a name.
-    fn label(&mut self) -> Result<(), u32> {
-        let id = self.take()?;
-        let name = self.up_to(LAST_NAME)?;
-        if name != 0 {
-            self.met.ids[LABEL].push(id);
-            return Ok(());
-        }
-        match id {
-            0 => Ok(()),
-            _ => Err(4),
-        }
+    fn read_call(&mut self) -> Result<(), u32> {
+        self.word_in(NAMES)?;
+        self.word().map(|_arguments| ())
     }
 
-    /// An action or a predicate: its own id and its references.
-    fn body_of(&mut self, sort: usize) -> Result<(), u32> {
-        self.id(sort)?;
-        let count = self.take()?;
-        for _ in 0..count {
-            self.up_to(2)?;
-            self.name()?;
+    /// An action or a predicate: its own id, then its references.
+    fn read_code(&mut self, sort: usize) -> Result<(), u32> {
+        self.keep_id(sort)?;
+        let references = self.word()?;
+        for _ in 0..references {
+            self.word_in(REFERENCE_KINDS)?;
+            self.word_in(NAMES)?;
         }
         Ok(())
     }
 
-    fn call(&mut self) -> Result<(), u32> {
-        self.name()?;
-        self.take()?;
-        Ok(())
+    fn shares_nothing(&self) -> bool {
+        are_distinct(self.rules.iter().map(|rule| rule.id))
+            && are_distinct(self.rules.iter().map(|rule| rule.name))
+            && self.ids.iter().all(|ids| are_distinct(ids.iter().copied()))
+    }
+
+    /// Whether each id is below its counter. Rule ids have none.
+    fn is_below(&self, counters: &[u32; SORTS]) -> bool {
+        let mut sorts = self.ids.iter().zip(counters);
+        sorts.all(|(ids, counter)| ids.iter().all(|id| id < counter))
     }
 }
