@@ -10,5 +10,6 @@ pub mod Stands
 pub mod Shape
 pub mod Derive
 pub mod Corners
+pub mod Cycles
 pub mod Lists
 pub mod Laws

@@ -1,26 +1,27 @@
--- What is promised of the definition: nullability, left corners, cycles; demand 3 and the bound on plans; origins, other
--- units, validity. The quoted sentences are document 01's; the proofs are in Proved.
+-- What is promised of the definition: properties first, numbered 1 to 11, and two sheets on which more cannot be had; at the
+-- end `Theorems`, which says of what each property holds. The quoted sentences are document 01's. The proof is in Proved.
 use Prim.Native.Nat.{ℕ, suc, _^_, _≤_, _<_, zero, _+_}
 use mathlib.Core.Path.{_≡_}
 use mathlib.Core.Logic.{_↔_, _⊎_}
 use mathlib.Core.List.{List, [], _∷_, _++_, map, List·Memᴰ}
 use mathlib.Core.Option.{some, none}
 use mathlib.Core.Bool.{true, false}
-use lib.ListN.{length}
+use lib.ListN.{length, getD}
 use Rattle.grammar.specs.Lists.{AllOf}
-use Rattle.grammar.specs.Tree.{ElementHead, Element, leaf, block, call, AlternativeOf, Block, RuleOf, Sheet, Leaf, token, terminal, Alternative, Rule, bodyDepth}
+use Rattle.grammar.specs.Tree.{unlabelled, ElementHead, Element, leaf, block, call, AlternativeOf, Block, RuleOf, Sheet, Leaf, token, terminal, Alternative, Rule, bodyDepth}
 use Rattle.grammar.specs.Words.{words, bytes}
-use Rattle.grammar.specs.Encode.{encode}
+use Rattle.grammar.specs.Encode.{encode, each}
 use Rattle.grammar.specs.Ids.{member, distinct}
 use Rattle.grammar.specs.Valid.{all, rising, valid, fits}
 use Rattle.grammar.specs.Reading.{sheet, read}
-use Rattle.grammar.specs.Shape.{Shape, eraseElement, eraseElements, eraseBlock, Shapes, eraseRules, find, Word, EachCall}
+use Rattle.grammar.specs.Shape.{eraseElement, eraseElements, eraseBlock, Shapes, eraseRules, find, Word, EachCall}
 use Rattle.grammar.specs.Derive.{CanBeEmpty, RuleDerives, isKept, isRemoved}
-use Rattle.grammar.specs.Corners.{Corners, textbook, Corner, Reaches}
-use Rattle.reference.specs.Analysis.{elementNullable, blockIsNullable, nullableRules, grammarOf, leftCorners, blockCorners, leftCornerCycles, Grammar, idsOf}
-use Rattle.reference.specs.Substitute.{Limits, Planned, Substituted, decided, declined, budget, step, substitute}
+use Rattle.grammar.specs.Corners.{Corners, rust, textbook, Corner}
+use Rattle.grammar.specs.Cycles.{LeftCorner, CornerRule, RuleReaches, IsLargest}
+use Rattle.reference.specs.Analysis.{elementNullable, blockIsNullable, nullableRules, grammarOf, leftCorners, blockCorners, leftCornerCycles, Grammar}
+use Rattle.reference.specs.Substitute.{Limits, standard, Planned, Substituted, decided, declined, budget, step, substitute}
 use Rattle.reference.specs.Apply.{Entry, Node, Origin, Origins, origins, provenance}
-use Rattle.reference.specs.Run.{answerTo, answer, areLent, filled, outcome, innerDepth, Stage, noPlan, findPlan, eliminateInUnit, eliminateMutualLeftRecursion, sheetAfter}
+use Rattle.reference.specs.Run.{innerDepth, Stage, ended, noPlan, findPlan, sheetWith, eliminateInUnit, eliminateMutualLeftRecursion, sheetAfter, stepsOf, encodeEntry, entriesOf, answer, answerTo, filled, areLent, outcome}
 use Rattle.reference.specs.Walks.{isOptional}
 
 -- 1. "What derives the empty string can be empty." The definition's tests, in the grammar of some rules, are this.
@@ -32,52 +33,17 @@ pub record EmptyDerivation (d : ℕ) (rs : List (RuleOf (Block d))) : Type 0 whe
       → (all (elementNullable (grammarOf d rs) (blockIsNullable (grammarOf d rs) k)) es ≡ true) ↔ CanBeEmpty (eraseRules d rs) (eraseElements (eraseBlock k) es)
   pub ofBlock : (k : ℕ) (b : Block k) → (blockIsNullable (grammarOf d rs) k b ≡ true) ↔ CanBeEmpty (eraseRules d rs) (eraseBlock k b)
 
--- 2. The rule with an id is a left corner of a shape, by a reading.
-pub record CornerRule (c : Corners) (d : ℕ) (rs : List (RuleOf (Block d))) (s : Shape) (i : ℕ) : Type 0 where
-  pub rule : RuleOf (Block d)
-  pub there : List·Memᴰ rule rs
-  pub id : rule .id ≡ i
-  pub corner : Corner c (eraseRules d rs) s (rule .name)
-
--- collectLeftCornerCalls lists the left corners and nothing else, in each reading.
+-- 2. collectLeftCornerCalls lists the left corners and nothing else, in each reading.
 pub record LeftCornersListed (c : Corners) (d : ℕ) (rs : List (RuleOf (Block d))) : Type 0 where
   pub ofAlternative : (k : ℕ) (es : List (Element (Block k))) (i : ℕ)
       → (member i (leftCorners c (grammarOf d rs) k es) ≡ true) ↔ CornerRule c d rs (eraseElements (eraseBlock k) es) i
   pub ofBlock : (k : ℕ) (b : Block k) (i : ℕ) → (member i (blockCorners c (grammarOf d rs) k b) ≡ true) ↔ CornerRule c d rs (eraseBlock k b) i
 
--- "Its left corners are found where every element in front can be empty: the rule called there, or a left corner of an
--- alternative of the block there."
-pub data LeftCorner (G : Shapes) : (d : ℕ) → List (Element (Block d)) → ℕ → Type 0 where
-  called : {d : ℕ} {es : List (Element (Block d))} (front rest : List (Element (Block d))) (h : ElementHead) {n : ℕ} (a : ℕ) {b : Shape}
-      → front ++ (leaf h (call n a) ∷ rest) ≡ es → AllOf (λ e. CanBeEmpty G (eraseElement (eraseBlock d) e)) front → find G n ≡ some b
-      → LeftCorner G d es n
-  inside : {d : ℕ} {es : List (Element (Block (suc d)))} (front rest : List (Element (Block (suc d)))) (h : ElementHead) (b : Block (suc d))
-      {a : AlternativeOf (Block d)} {n : ℕ}
-      → front ++ (block h b ∷ rest) ≡ es → AllOf (λ e. CanBeEmpty G (eraseElement (eraseBlock (suc d)) e)) front → List·Memᴰ a b
-      → LeftCorner G d (a .elements) n → LeftCorner G (suc d) es n
-
--- The textbook reading is this, word for word.
+-- The textbook reading is document 01's, word for word: `LeftCorner` in grammar.
 abbrev pub TextbookCorners : Shapes → Type 0
 TextbookCorners G = (d : ℕ) (es : List (Element (Block d))) (n : ℕ) → Corner textbook G (eraseElements (eraseBlock d) es) n ↔ LeftCorner G d es n
 
--- 3. The rule with one id reaches the rule with another by a path of left corners.
-pub record RuleReaches (c : Corners) (d : ℕ) (rs : List (RuleOf (Block d))) (i j : ℕ) : Type 0 where
-  pub source : RuleOf (Block d)
-  pub source-there : List·Memᴰ source rs
-  pub source-id : source .id ≡ i
-  pub goal : RuleOf (Block d)
-  pub goal-there : List·Memᴰ goal rs
-  pub goal-id : goal .id ≡ j
-  pub path : Reaches c (eraseRules d rs) (source .name) (goal .name)
-
--- "More than one rule, each reaching each", its ids rising; and with a rule all that reach it and are reached.
-pub record IsLargest (c : Corners) (d : ℕ) (rs : List (RuleOf (Block d))) (cycle : List ℕ) : Type 0 where
-  pub several : 2 ≤ length cycle
-  pub rises : rising cycle ≡ true
-  pub joined : (i j : ℕ) → member i cycle ≡ true → member j cycle ≡ true → RuleReaches c d rs i j
-  pub largest : (i j : ℕ) → member i cycle ≡ true → RuleReaches c d rs i j → RuleReaches c d rs j i → member j cycle ≡ true
-
--- The least id of a cycle is its first.
+-- 3. The least id of a cycle is its first.
 abbrev pub least : List ℕ → ℕ
 least [] = 0
 least (x ∷ xs) = x
@@ -94,11 +60,6 @@ pub record CyclesListed (c : Corners) (d : ℕ) (rs : List (RuleOf (Block d))) :
 
 abbrev pub Elements : Type 0
 Elements = List (Element (Block innerDepth))
-
--- Rules are told apart by their ids and by their names. Nothing more is asked of a sheet here, and a valid one has it.
-pub record Told {B : Type 0} (rs : List (RuleOf B)) : Type 0 where
-  pub ids : distinct (idsOf rs) ≡ true
-  pub names : distinct (map (λ r. r .name) rs) ≡ true
 
 -- 4. "A rule handed in is kept if a rule of the result has its id": every kept rule derives the same token strings before
 -- and after.
@@ -278,3 +239,136 @@ pub record GoodAnswer (result trail : List ℕ) : Type 0 where
   pub readsBack : ReadsBack tree
   pub short : length trail ≤ 16384
   pub areWords : (w : ℕ) → List·Memᴰ w trail → w < 2 ^ 32
+
+-- The run behind an answer that is no refusal, with demand 3 and the bound.
+pub record Answered (limits : Limits) (corners : Corners) (bs : List ℕ) (plans steps : ℕ) (result trail : List ℕ) : Type 0 where
+  pub handedIn : Sheet
+  pub reads : read bs ≡ sheet handedIn
+  pub stages : List Stage
+  pub run : eliminateMutualLeftRecursion limits corners handedIn ≡ ended stages
+  pub plansAre : length stages ≡ plans
+  pub stepsAre : stepsOf stages ≡ steps
+  pub resultIs : encode (sheetAfter handedIn stages) ≡ result
+  pub trailIs : each encodeEntry (entriesOf stages) ≡ trail
+  pub demand : Demand3 handedIn corners (NoCorner corners) stages
+  pub plansFew : Bound handedIn limits corners stages
+
+-- Two sheets, of elements, alternatives and rules with nothing beside what is written here.
+abbrev pub element : (id quantifier : ℕ) → Leaf → Element (Block innerDepth)
+element i q l = leaf (record { id = i; carried = 0; quantifier = q; label = unlabelled; options = [] }) l
+
+abbrev pub alternative : (id : ℕ) → Elements → Alternative
+alternative i es = record { id = i; carried = 0; flag = 0; options = []; elements = es }
+
+abbrev pub rule : (id name : ℕ) → List Alternative → Rule
+rule i n as′ = record { id = i; name = n; flags = 0; body = as′ }
+
+abbrev pub unit : (nextAlternative nextElement : ℕ) → List Rule → Sheet
+unit a e rs = record { kind = 2; rules = rs; preserved = []; counters = record { alternative = a; element = e; label = 0; action = 0; predicate = 0 } }
+
+-- e: a | INT; a: e PLUS | NAME? e MINUS; where e is 1, a 2, INT 3, PLUS 4, NAME 5, MINUS 6.
+abbrev pub parting : Sheet
+parting =
+    unit 14 27
+    (rule 1 1 (alternative 10 (element 20 0 (call 2 0) ∷ []) ∷ alternative 11 (element 21 0 (token 3) ∷ []) ∷ [])
+    ∷ rule 2 2
+    (alternative 12 (element 22 0 (call 1 0) ∷ element 23 0 (token 4) ∷ [])
+    ∷ alternative 13 (element 24 1 (token 5) ∷ element 25 0 (call 1 0) ∷ element 26 0 (token 6) ∷ [])
+    ∷ [])
+    ∷ [])
+
+-- NAME? e MINUS
+abbrev pub behindName : Elements
+behindName = element 29 1 (token 5) ∷ element 30 0 (call 1 0) ∷ element 31 0 (token 6) ∷ []
+
+-- e: e PLUS | NAME? e MINUS | INT;
+abbrev pub parted : List Rule
+parted =
+    rule 1 1
+    (alternative 14 (element 27 0 (call 1 0) ∷ element 28 0 (token 4) ∷ []) ∷ alternative 15 behindName ∷ alternative 11 (element 21 0 (token 3) ∷ []) ∷ [])
+    ∷ []
+
+-- For the Rust's reading no more can be had than `OnlyPastSymbols`: its answer to the first sheet has the left corner e,
+-- which is in the cycle replaced, so it has not demand 3 by the textbook's left corners. By these, the cycle has no plan.
+pub record NoMoreOfRust : Type 0 where
+  pub isValid : valid parting ≡ true
+  pub stages : List Stage
+  pub run : eliminateMutualLeftRecursion standard rust parting ≡ ended stages
+  pub answer : rulesOf parting stages ≡ parted
+  pub corner : LeftCorner (eraseRules bodyDepth parted) innerDepth behindName 1
+  pub notWhole : Demand3 parting rust NoLeftCorner stages → ⊥
+  pub byTextbook : eliminateMutualLeftRecursion standard textbook parting ≡ ended []
+
+-- e: a | .?; a: e a; with 61 words the smallest on which a nullable hub stands in a later cycle. A hub has an alternative
+-- that is settled outside the cycle and one that is not, and its satellite one; hub and satellite call each other. The
+-- first has something significant, so it has no less than `.?`. The hub comes into a later cycle only by a call behind its
+-- own in front, which is a third call.
+abbrev pub returning : Sheet
+returning =
+    unit 13 24
+    (rule 1 1 (alternative 10 (element 20 0 (call 2 0) ∷ []) ∷ alternative 11 (element 21 1 terminal ∷ []) ∷ [])
+    ∷ rule 2 2 (alternative 12 (element 22 0 (call 1 0) ∷ element 23 0 (call 2 0) ∷ []) ∷ [])
+    ∷ [])
+
+-- e: e a | .?; a: e a;
+abbrev pub returned : List Rule
+returned =
+    rule 1 1
+    (alternative 13 (element 24 0 (call 1 0) ∷ element 25 0 (call 2 0) ∷ []) ∷ alternative 11 (element 21 1 terminal ∷ []) ∷ [])
+    ∷ rule 2 2 (alternative 12 (element 22 0 (call 1 0) ∷ element 23 0 (call 2 0) ∷ []) ∷ [])
+    ∷ []
+
+-- There e is joined, can be empty, and stands in a cycle of what its plan leaves, in either reading: the condition of
+-- `NoLaterCycle` is needed.
+pub record NullableHubReturns (corners : Corners) : Type 0 where
+  pub isValid : valid returning ≡ true
+  pub stages : List Stage
+  pub run : eliminateMutualLeftRecursion standard corners returning ≡ ended stages
+  pub answer : rulesOf returning stages ≡ returned
+  pub hub : map (λ t. t .plan .hub) stages ≡ 1 ∷ []
+  pub empty : RuleDerives bodyDepth returned 1 []
+  pub cycle : leftCornerCycles corners (grammarOf bodyDepth returned) bodyDepth returned ≡ (1 ∷ 2 ∷ []) ∷ []
+  pub needed : ((t : Stage) → List·Memᴰ t stages → (cycle : List ℕ)
+      → List·Memᴰ cycle (leftCornerCycles corners (grammarOf bodyDepth (t .after .node)) bodyDepth (t .after .node)) → member (t .plan .hub) cycle ≡ false)
+      → ⊥
+
+abbrev pub AreBytes : List ℕ → Type 0
+AreBytes bs = (i : ℕ) → getD bs i 0 < 256
+
+-- A sheet that is not refused, and its run.
+abbrev pub Ends : Limits → Corners → Sheet → List Stage → Type 0
+Ends limits c s stages = (valid s ≡ true) × (eliminateMutualLeftRecursion limits c s ≡ ended stages)
+
+-- The theorems. A sheet that the reader accepts is valid and fits (grammar, Laws/Codec), and so is what a plan leaves (11).
+pub record Theorems : Type 0 where
+  -- 1 to 3, of every sheet that the reader accepts.
+  pub emptyDerivation : (s : Sheet) → valid s ≡ true → EmptyDerivation bodyDepth (s .rules)
+  pub leftCornersListed : (c : Corners) (s : Sheet) → valid s ≡ true → LeftCornersListed c bodyDepth (s .rules)
+  pub textbookCorners : (G : Shapes) → TextbookCorners G
+  pub cyclesListed : (c : Corners) (s : Sheet) → valid s ≡ true → CyclesListed c bodyDepth (s .rules)
+  -- 4 to 7, of every sheet that is not refused, with left corners and cycles by either reading.
+  pub demand3 : (limits : Limits) (c : Corners) (s : Sheet) (stages : List Stage) → Ends limits c s stages → Demand3 s c (NoCorner c) stages
+  -- For the textbook reading whole, in document 01's words; for the Rust's what is left, and that no more can be had.
+  pub demand3Textbook : (limits : Limits) (s : Sheet) (stages : List Stage) → Ends limits textbook s stages → Demand3 s textbook NoLeftCorner stages
+  pub demand3Rust : (limits : Limits) (s : Sheet) (stages : List Stage) → Ends limits rust s stages → Demand3 s rust OnlyPastSymbols stages
+  pub noMoreOfRust : NoMoreOfRust
+  -- Where no symbol has quantifier 1 to 4, both readings give the same outcome.
+  pub sameOutcome : (limits : Limits) (bs result trail work : List ℕ) → AreBytes bs → ((s : Sheet) → read bs ≡ sheet s → NoOptionalSymbol (s .rules))
+      → outcome limits rust bs result trail work ≡ outcome limits textbook bs result trail work
+  -- Why 7 asks that the rule joined cannot be empty.
+  pub nullableHubReturns : (c : Corners) → NullableHubReturns c
+  -- 8, of every sheet that is not refused, and of every substitution.
+  pub bound : (limits : Limits) (c : Corners) (s : Sheet) (stages : List Stage) → Ends limits c s stages → Bound s limits c stages
+  pub enoughTurns : (limits : Limits) (c : Corners) (s : Sheet) → valid s ≡ true → EnoughTurns s limits c
+  pub fuelIsBudget : (d : ℕ) (rs : List (RuleOf (Block (suc d)))) (g : Grammar) (cycle : List ℕ) (hub : ℕ) → FuelIsBudget d rs g cycle hub
+  -- 9, of every sheet that is not refused.
+  pub originsTold : (limits : Limits) (c : Corners) (s : Sheet) (stages : List Stage) → fits s ≡ true → Ends limits c s stages → OriginsTold (entriesOf stages)
+  -- 10, of all bytes that hold another unit than a parser's.
+  pub comesBack : (limits : Limits) (c : Corners) (bs : List ℕ) → AreBytes bs → (s : Sheet) → read bs ≡ sheet s → (s .kind ≡ 2 → ⊥) → ComesBack limits c bs
+  -- 11, of the result and of every grammar on the way.
+  pub resultReadsBack : (limits : Limits) (c : Corners) (s : Sheet) (stages : List Stage) → fits s ≡ true → Ends limits c s stages → ReadsBack (sheetAfter s stages)
+  pub stageReadsBack : (limits : Limits) (c : Corners) (s : Sheet) (stages : List Stage) → fits s ≡ true → Ends limits c s stages → (t : Stage) → List·Memᴰ t stages
+      → ReadsBack (sheetWith (s .kind) (s .preserved) (t .after))
+  -- The same from the bytes of a sheet: every answer that is no refusal.
+  pub answered : (limits : Limits) (c : Corners) (bs : List ℕ) → AreBytes bs → (plans steps : ℕ) (result trail : List ℕ)
+      → answerTo limits c bs ≡ answer plans steps result trail → Answered limits c bs plans steps result trail × GoodAnswer result trail

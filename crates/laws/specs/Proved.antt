@@ -3,3 +3,4 @@ pub mod Analysis
 pub mod Demand3
 pub mod Answered
 pub mod OtherUnits
+pub mod All

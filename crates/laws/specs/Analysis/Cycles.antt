@@ -16,11 +16,12 @@ use Rattle.grammar.specs.Shape.{Shape, Shapes, find, eraseBlock, eraseRules}
 use Rattle.grammar.specs.Corners.{Corners, Corner, Leads, Reaches, r-last, r-more}
 use Rattle.grammar.specs.Laws.Parse.{either}
 use Rattle.grammar.specs.Laws.Derive.Rules.{in-member, in-map, rule-found, found-rule}
+use Rattle.grammar.specs.Cycles.{CornerRule, RuleReaches, IsLargest}
 use Rattle.reference.specs.Analysis.{Row, rowIds, idsOf, grammarOf, blockCorners, reach, component, isCycle, cyclesFrom, leftCornerCycles}
-pub use Rattle.laws.specs.Demands.{RuleReaches, IsLargest, least}
+use Rattle.laws.specs.Demands.{least}
 use Rattle.laws.specs.Lists.Members.{member-in, one-with, in-push, push-tail}
 use Rattle.laws.specs.Lists.Order.{Rising, distinct-of, part-rising, rising-true, true-rising, sorted-in, sorted-rising, rising-same}
-use Rattle.laws.specs.Analysis.LeftCorners.{CornerRule, block-corners}
+use Rattle.laws.specs.Analysis.LeftCorners.{block-corners}
 use Rattle.laws.specs.Analysis.Reach.{Edge, Way, Closed, way-way, way-row, edge-way, way-edge, in-component, component-in, component-rising, reach-ids}
 
 module _ (rows : List Row) where

@@ -14,7 +14,7 @@ use Rattle.grammar.specs.Laws.Derive.Empty.{emptyIf}
 use Rattle.grammar.specs.Laws.Derive.Corner.{cornersOf, corners-exact}
 use Rattle.grammar.specs.Laws.Derive.Rules.{in-member, rule-found}
 use Rattle.reference.specs.Analysis.{target, nullableRules, grammarOf, leftCorners, blockCorners}
-pub use Rattle.laws.specs.Demands.{CornerRule}
+use Rattle.grammar.specs.Cycles.{CornerRule}
 use Rattle.laws.specs.Lists.Members.{member-in, in-each, each-in}
 use Rattle.laws.specs.Analysis.Names.{isUnknown, looked, looked-alike, by-id, by-name}
 use Rattle.laws.specs.Analysis.Nullable.{named}

@@ -8,7 +8,7 @@ use Rattle.grammar.specs.Tree.{ElementHead, Leaf, epsilon, action, predicate, c
 use Rattle.grammar.specs.Shape.{Shape, alts, callOf, eraseLeaf, eraseElement, eraseElements, eraseBlock, Shapes}
 use Rattle.grammar.specs.Derive.{CanBeEmpty}
 use Rattle.grammar.specs.Corners.{textbook, stops, Corner, c-call, c-first, c-later, c-left, c-right}
-pub use Rattle.laws.specs.Demands.{LeftCorner, called, inside}
+use Rattle.grammar.specs.Cycles.{LeftCorner, called, inside}
 use Rattle.grammar.specs.Laws.Derive.Corner.{corner-quantified}
 
 module _ {G : Shapes} where

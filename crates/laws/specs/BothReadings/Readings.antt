@@ -16,9 +16,10 @@ use Rattle.grammar.specs.Laws.Derive.Corner.{corner-quantified, symbol-quantifi
 use Rattle.reference.specs.Walks.{isOptional}
 use Rattle.reference.specs.Substitute.{Limits}
 use Rattle.reference.specs.Run.{innerDepth, Stage, ended, eliminateMutualLeftRecursion}
-use Rattle.laws.specs.Demands.{LeftCorner, called, inside}
+use Rattle.grammar.specs.Cycles.{LeftCorner, called, inside}
 use Rattle.laws.specs.Analysis.Textbook.{textbook-corner}
-use Rattle.laws.specs.Demands.{Told, Elements, NoCorner, IsSymbol, is-token, is-terminal, is-unknown, PastSymbol, behind-symbol, within-block, NoLeftCorner, OnlyPastSymbols, JoinedShape, Demand3}
+use Rattle.laws.specs.Demands.{Elements, NoCorner, IsSymbol, is-token, is-terminal, is-unknown, PastSymbol, behind-symbol, within-block, NoLeftCorner, OnlyPastSymbols, JoinedShape, Demand3}
+use Rattle.laws.specs.Running.Leaves.{Told}
 use Rattle.laws.specs.Planning.Turns.{Items}
 use Rattle.laws.specs.Planning.Substituted.{shapeOf}
 use Rattle.laws.specs.Proved.Demand3.{demand3}

@@ -22,7 +22,8 @@ use Rattle.reference.specs.Substitute.{noHub, hubWithArguments, satelliteNotInl
 use Rattle.reference.specs.Plan.{CyclePlan, chooseHub, satelliteIsInlinable, givesHubArguments, startsWithHubCall, isRecursive, isPrimary, isFit, plannedHubIsDirectlyRewritable, removableSatellites, asTheyAre, planCycle}
 use Rattle.reference.specs.Apply.{applyPlan}
 use Rattle.reference.specs.Run.{innerDepth, Stage, Search, noPlan, planned, tooLarge, Run, ended, preceded, searchCycles, findPlan, refusalOf, eliminateInUnit, eliminateMutualLeftRecursion, answerRun, answerReading, answerTo, areLent, Outcome, untouched, delivered, outcome}
-use Rattle.laws.specs.Demands.{Told, is-token, is-terminal, is-unknown, OnBlock, NotOptional, NoOptionalSymbol}
+use Rattle.laws.specs.Demands.{is-token, is-terminal, is-unknown, OnBlock, NotOptional, NoOptionalSymbol}
+use Rattle.laws.specs.Running.Leaves.{Told}
 use Rattle.laws.specs.Analysis.Names.{isUnknown, looked, looked-alike}
 use Rattle.laws.specs.Lists.Lookup.{rule-with-id}
 use Rattle.laws.specs.Planning.Turns.{found-decided, itemsOf, steps-move, substituted}

@@ -16,7 +16,8 @@ use Rattle.grammar.specs.Laws.Derive.Rules.{in-member}
 use Rattle.reference.specs.Analysis.{grammarOf, leftCornerCycles}
 use Rattle.reference.specs.Substitute.{Limits}
 use Rattle.reference.specs.Run.{Stage, ended, sheetWith, eliminateMutualLeftRecursion, sheetAfter, entriesOf, answerTo, answer}
-use Rattle.laws.specs.Demands.{EmptyDerivation, LeftCornersListed, TextbookCorners, RuleReaches, least, CyclesListed, OriginsTold, ComesBack, ReadsBack, GoodAnswer}
+use Rattle.grammar.specs.Cycles.{RuleReaches}
+use Rattle.laws.specs.Demands.{EmptyDerivation, LeftCornersListed, TextbookCorners, least, CyclesListed, OriginsTold, ComesBack, ReadsBack, GoodAnswer}
 use Rattle.laws.specs.Analysis.Empty.{rule-empty, element-empty, elements-empty, block-empty}
 use Rattle.laws.specs.Analysis.LeftCorners.{left-corners, block-corners}
 use Rattle.laws.specs.Analysis.Textbook.{textbook-corner}

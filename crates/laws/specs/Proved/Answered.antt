@@ -3,30 +3,16 @@ use Prim.Native.Nat.{ℕ, _<_}
 use mathlib.Core.Path.{_≡_, refl}
 use mathlib.Core.List.{List}
 use native.Mathlib.Omega.{arith}
-use lib.ListN.{length, getD}
+use lib.ListN.{getD}
 use Rattle.grammar.specs.Tree.{Sheet}
-use Rattle.grammar.specs.Encode.{encode, each}
 use Rattle.grammar.specs.Reading.{Reading, refused, sheet, read}
 use Rattle.grammar.specs.Corners.{Corners}
 use Rattle.grammar.specs.Laws.Codec.{accepted-valid}
 use Rattle.reference.specs.Substitute.{Limits}
-use Rattle.reference.specs.Run.{Stage, Run, ended, stopped, eliminateMutualLeftRecursion, sheetAfter, stepsOf, encodeEntry, entriesOf, answer, answerRun, answerReading, answerTo}
-use Rattle.laws.specs.Demands.{NoCorner, Demand3, Bound}
+use Rattle.reference.specs.Run.{Run, ended, stopped, eliminateMutualLeftRecursion, answer, answerRun, answerReading, answerTo}
+use Rattle.laws.specs.Demands.{Answered}
 use Rattle.laws.specs.Running.Stages.{valid-told}
 use Rattle.laws.specs.Proved.Demand3.{demand3, bound}
-
--- The run behind an answer that is no refusal.
-pub record Answered (limits : Limits) (corners : Corners) (bs : List ℕ) (plans steps : ℕ) (result trail : List ℕ) : Type 0 where
-  pub handedIn : Sheet
-  pub reads : read bs ≡ sheet handedIn
-  pub stages : List Stage
-  pub run : eliminateMutualLeftRecursion limits corners handedIn ≡ ended stages
-  pub plansAre : length stages ≡ plans
-  pub stepsAre : stepsOf stages ≡ steps
-  pub resultIs : encode (sheetAfter handedIn stages) ≡ result
-  pub trailIs : each encodeEntry (entriesOf stages) ≡ trail
-  pub demand : Demand3 handedIn corners (NoCorner corners) stages
-  pub plansFew : Bound handedIn limits corners stages
 
 module _ (limits : Limits) (corners : Corners) (bs : List ℕ) (b : (i : ℕ) → getD bs i 0 < 256) where
   pub answered : (plans steps : ℕ) (result trail : List ℕ) → answerTo limits corners bs ≡ answer plans steps result trail → Answered limits corners bs plans steps result trail

@@ -14,9 +14,9 @@ use Rattle.grammar.specs.Laws.Parse.{right-true}
 use Rattle.reference.specs.Substitute.{Limits}
 use Rattle.reference.specs.Apply.{applyPlan}
 use Rattle.reference.specs.Run.{innerDepth, Stage, ended, Search, noPlan, planned, tooLarge, preceded, findPlan, refusalOf, eliminateInUnit, eliminateMutualLeftRecursion}
-use Rattle.laws.specs.Demands.{Told, SameStrings, Closed, NoCorner, NoLaterCycle, Joins, rulesOf, Demand3, Bound, EnoughTurns}
+use Rattle.laws.specs.Demands.{SameStrings, Closed, NoCorner, NoLaterCycle, Joins, rulesOf, Demand3, Bound, EnoughTurns}
 use Rattle.laws.specs.Lists.Few.{no-more}
-use Rattle.laws.specs.Running.Leaves.{Leaves, leaves-derives}
+use Rattle.laws.specs.Running.Leaves.{Told, Leaves, leaves-derives}
 use Rattle.laws.specs.Running.Stages.{rulesAfter, sheet-after, rules-append, stage-cycle, Happened, Chain, next, chain-leaves, chain-front, chain-behind, Rest, applying, turn, turns-once, run-ends, sheet-ends}
 use Rattle.laws.specs.Running.OneStage.{stage-shape}
 use Rattle.laws.specs.Running.Later.{hub-in-cycle, no-later}

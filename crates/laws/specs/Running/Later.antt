@@ -22,13 +22,13 @@ use Rattle.grammar.specs.Laws.Derive.Rules.{in-member, found-rule, rule-derives
 use Rattle.reference.specs.Analysis.{grammarOf, leftCornerCycles}
 use Rattle.reference.specs.Substitute.{Limits}
 use Rattle.reference.specs.Run.{innerDepth, Stage}
-use Rattle.laws.specs.Demands.{Told, NoCorner, JoinedShape, NoLaterCycle}
+use Rattle.laws.specs.Demands.{NoCorner, JoinedShape, NoLaterCycle}
 use Rattle.laws.specs.Lists.Members.{one-with}
 use Rattle.laws.specs.Analysis.Cycles.{cycles-exact}
 use Rattle.laws.specs.Planning.Turns.{Items}
 use Rattle.laws.specs.Planning.Substituted.{shapeOf, call-plain}
 use Rattle.laws.specs.Running.Shrinks.{corner-one}
-use Rattle.laws.specs.Running.Leaves.{Leaves}
+use Rattle.laws.specs.Running.Leaves.{Told, Leaves}
 use Rattle.laws.specs.Running.Stages.{Happened, Chain, last, next, rulesAfter, stage-cycle, stage-made, stage-leaves, chain-leaves}
 use Rattle.laws.specs.Running.OneStage.{stage-shape, stage-reaches}
 

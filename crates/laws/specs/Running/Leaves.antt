@@ -2,10 +2,10 @@
 use Prim.Native.Nat.{ℕ, suc}
 use mathlib.Core.Path.{_≡_, refl, sym, ap, _∙_, subst, subst₂}
 use mathlib.Core.Logic.{⊎-elim, _↔_}
-use mathlib.Core.List.{List, List·Memᴰ, Memᴰ·of-map}
+use mathlib.Core.List.{List, map, List·Memᴰ, Memᴰ·of-map}
 use mathlib.Core.Bool.{true, false, true≢false}
 use Rattle.grammar.specs.Tree.{Block, RuleOf, Counters}
-use Rattle.grammar.specs.Ids.{member}
+use Rattle.grammar.specs.Ids.{member, distinct}
 use Rattle.grammar.specs.Corners.{Corners}
 use Rattle.grammar.specs.Shape.{Word, callOf, eraseBlock, eraseRules, EachCall}
 use Rattle.grammar.specs.Derive.{Der, RuleDerives}
@@ -22,7 +22,11 @@ use Rattle.laws.specs.Planning.Calls.{each-call-map, moves-calls}
 use Rattle.laws.specs.Planning.Renumber.{applied-shape}
 use Rattle.laws.specs.Planning.Plans.{Made}
 use Rattle.laws.specs.Planning.OnePlan.{as-they-are, goneIds, gone, rulesLeft, applied-rules, left-ids, left-names, left-stems, left-stays, left-closed, left-same, gone-name, left-in}
-use Rattle.laws.specs.Demands.{Told}
+
+-- Rules are told apart by their ids and by their names: all that is asked of a sheet here, and a valid one has it.
+pub record Told {B : Type 0} (rs : List (RuleOf B)) : Type 0 where
+  pub ids : distinct (idsOf rs) ≡ true
+  pub names : distinct (map (λ r. r .name) rs) ≡ true
 
 module _ (d : ℕ) where
   abbrev pub Rules : Type 0

@@ -17,14 +17,14 @@ use Rattle.reference.specs.Walks.{sortOf, isEpsilonOnly}
 use Rattle.reference.specs.Analysis.{Grammar, idsOf, target, grammarOf}
 use Rattle.reference.specs.Substitute.{Limits}
 use Rattle.reference.specs.Run.{innerDepth, Stage}
-use Rattle.laws.specs.Demands.{Told, Continues, NoCorner, JoinedShape}
+use Rattle.laws.specs.Demands.{Continues, NoCorner, JoinedShape}
 use Rattle.laws.specs.Lists.Members.{member-in, one-with}
 use Rattle.laws.specs.Lists.Lookup.{target-rule, rule-target}
 use Rattle.laws.specs.Analysis.Cycles.{cycles-exact}
 use Rattle.laws.specs.Planning.Turns.{CornerAt, Items, as-they-were, Turn, split, splice, Moved, here, later, Moves, still, onward}
 use Rattle.laws.specs.Planning.Substituted.{shapeOf}
 use Rattle.laws.specs.Running.Shrinks.{at-corner}
-use Rattle.laws.specs.Running.Leaves.{Leaves, leaves-refl, leaves-trans}
+use Rattle.laws.specs.Running.Leaves.{Told, Leaves, leaves-refl, leaves-trans}
 use Rattle.laws.specs.Running.Stages.{known, Happened, Chain, last, next, rulesAfter, stage-cycle, stage-made, stage-leaves}
 use Rattle.laws.specs.Running.OneStage.{stage-shape, stage-reaches, stage-stands}
 use Rattle.laws.specs.Running.Later.{back-in-cycle}

@@ -9,7 +9,8 @@ use Rattle.grammar.specs.Corners.{Corners, Reaches}
 use Rattle.reference.specs.Analysis.{grammarOf}
 use Rattle.reference.specs.Substitute.{Limits}
 use Rattle.reference.specs.Run.{innerDepth, Stage}
-use Rattle.laws.specs.Demands.{Told, Continues, NoCorner, JoinedShape}
+use Rattle.laws.specs.Demands.{Continues, NoCorner, JoinedShape}
+use Rattle.laws.specs.Running.Leaves.{Told}
 use Rattle.laws.specs.Planning.Substituted.{Known}
 use Rattle.laws.specs.Planning.Plans.{Made}
 use Rattle.laws.specs.Planning.OnePlan.{newBody, rulesLeft, applied-rules, hubAfter, hub-id, hub-name, hub-body, hub-in, left-stems}

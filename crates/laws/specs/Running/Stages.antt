@@ -18,10 +18,9 @@ use Rattle.reference.specs.Substitute.{Limits, Decided, decided, declined, over
 use Rattle.reference.specs.Plan.{CyclePlan, planCycle}
 use Rattle.reference.specs.Apply.{applyPlan}
 use Rattle.reference.specs.Run.{innerDepth, Stage, Search, noPlan, planned, tooLarge, Run, ended, stopped, preceded, searchCycles, findPlan, refusalOf, eliminateInUnit, eliminateMutualLeftRecursion, sheetAfter}
-use Rattle.laws.specs.Demands.{Told}
 use Rattle.laws.specs.Planning.Substituted.{Known}
 use Rattle.laws.specs.Planning.Plans.{Made, plan-made}
-use Rattle.laws.specs.Running.Leaves.{Leaves, leaves-refl, leaves-trans, plan-leaves}
+use Rattle.laws.specs.Running.Leaves.{Told, Leaves, leaves-refl, leaves-trans, plan-leaves}
 
 -- The rules that stages leave.
 abbrev pub rulesAfter : List Rule → List Stage → List Rule
