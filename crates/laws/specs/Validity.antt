@@ -3,5 +3,4 @@ pub mod Kept
 pub mod Wordy
 pub mod Fits
 pub mod Sound
-pub mod Runs
 pub mod Result

@@ -11,7 +11,6 @@ use Rattle.grammar.specs.Valid.{valid, fits}
 use Rattle.grammar.specs.Reading.{sheet, read}
 use Rattle.grammar.specs.Shape.{Shapes}
 use Rattle.grammar.specs.Corners.{Corners}
-use Rattle.grammar.specs.Laws.Whole.{valid-parts}
 use Rattle.grammar.specs.Laws.Derive.Rules.{in-member}
 use Rattle.reference.specs.Analysis.{grammarOf, leftCornerCycles}
 use Rattle.reference.specs.Substitute.{Limits}
@@ -22,9 +21,10 @@ use Rattle.laws.specs.Analysis.Empty.{rule-empty, element-empty, element
 use Rattle.laws.specs.Analysis.LeftCorners.{left-corners, block-corners}
 use Rattle.laws.specs.Analysis.Textbook.{textbook-corner}
 use Rattle.laws.specs.Analysis.Cycles.{cycles-exact, cycles-sorted, least-in}
+use Rattle.laws.specs.Running.Stages.{valid-told}
 use Rattle.laws.specs.Provenance.Origins.{trail-traced, untraced}
 use Rattle.laws.specs.Proved.OtherUnits.{other-answer, other-outcome}
-use Rattle.laws.specs.Validity.Result.{rules-distinct, good-of, run-good, run-each, run-trail, answer-good, good-reads}
+use Rattle.laws.specs.Validity.Result.{good-of, run-good, run-each, run-trail, answer-good, good-reads}
 
 module _ (d : ℕ) (rs : List (RuleOf (Block d))) (ids : distinct (map (λ r. r .id) rs) ≡ true) (names : distinct (map (λ r. r .name) rs) ≡ true) where
   pub empty-derivation : EmptyDerivation d rs
@@ -52,13 +52,13 @@ textbook-corners G = textbook-corner G
 -- Of a sheet that the reader accepts.
 module _ (s : Sheet) (v : valid s ≡ true) where
   pub sheet-empty : EmptyDerivation bodyDepth (s .rules)
-  sheet-empty = let x = rules-distinct (s .rules) (valid-parts s v .distinct) in empty-derivation bodyDepth (s .rules) (x .0) (x .1)
+  sheet-empty = let t = valid-told s v in empty-derivation bodyDepth (s .rules) (t .ids) (t .names)
 
   pub sheet-corners : (c : Corners) → LeftCornersListed c bodyDepth (s .rules)
-  sheet-corners = let x = rules-distinct (s .rules) (valid-parts s v .distinct) in left-corners-listed bodyDepth (s .rules) (x .0) (x .1)
+  sheet-corners = let t = valid-told s v in left-corners-listed bodyDepth (s .rules) (t .ids) (t .names)
 
   pub sheet-cycles : (c : Corners) → CyclesListed c bodyDepth (s .rules)
-  sheet-cycles = let x = rules-distinct (s .rules) (valid-parts s v .distinct) in cycles-listed bodyDepth (s .rules) (x .0) (x .1)
+  sheet-cycles = let t = valid-told s v in cycles-listed bodyDepth (s .rules) (t .ids) (t .names)
 
   -- Of a run that is not refused.
   module _ (f : fits s ≡ true) (limits : Limits) (c : Corners) (ss : List Stage) (run : eliminateMutualLeftRecursion limits c s ≡ ended ss) where

@@ -17,7 +17,7 @@ use Rattle.reference.specs.Run.{innerDepth, Stage, ended, Search, noPlan, plann
 use Rattle.laws.specs.Demands.{SameStrings, Closed, NoCorner, NoLaterCycle, Joins, rulesOf, Demand3, Bound, EnoughTurns}
 use Rattle.laws.specs.Lists.Few.{no-more}
 use Rattle.laws.specs.Running.Leaves.{Told, Leaves, leaves-derives}
-use Rattle.laws.specs.Running.Stages.{rulesAfter, sheet-after, rules-append, stage-cycle, Happened, Chain, next, chain-leaves, chain-front, chain-behind, Rest, applying, turn, turns-once, run-ends, sheet-ends}
+use Rattle.laws.specs.Running.Stages.{rulesAfter, sheet-after, rules-append, stage-cycle, Happened, Chain, next, chain-leaves, chain-front, chain-behind, Rest, applying, turn, turns-once, stages-chain, run-ends, sheet-ends}
 use Rattle.laws.specs.Running.OneStage.{stage-shape}
 use Rattle.laws.specs.Running.Later.{hub-in-cycle, no-later}
 use Rattle.laws.specs.Running.Once.{follows-all, follows-here, hubs-distinct, hubs-rules}
@@ -65,7 +65,7 @@ module _ (limits : Limits) (corners : Corners) (kind : ℕ) (preserved : List �
   turns-more (suc more) rs k c recorded =
       ap (λ n. eliminateInUnit limits corners kind preserved n rs c recorded) (suc-add more (suc (length rs)))
       ∙ turn-more (more + suc (length rs)) rs c recorded
-      (λ ts e l. let few = chain-few limits corners preserved k (run-ends limits corners kind preserved (more + suc (length rs)) rs c recorded ts e .chain) in omega arith)
+      (λ ts e l. let few = chain-few limits corners preserved k (stages-chain limits corners kind preserved (run-ends limits corners kind preserved (more + suc (length rs)) rs c recorded ts e .stages)) in omega arith)
       ∙ turns-more more rs k c recorded
 
 pub enough-turns : (limits : Limits) (corners : Corners) (s : Sheet) → Told (s .rules) → EnoughTurns s limits corners
@@ -75,7 +75,7 @@ enough-turns limits corners s k =
 
 module _ (limits : Limits) (corners : Corners) (s : Sheet) (told : Told (s .rules)) (ts : List Stage) (run : eliminateMutualLeftRecursion limits corners s ≡ ended ts) where
   chain : Chain limits corners (s .preserved) (s .rules) ts
-  chain = sheet-ends limits corners s ts run .0
+  chain = stages-chain limits corners (s .kind) (s .preserved) (sheet-ends limits corners s ts run .0)
 
   module _ (front middle rest : List Stage) (w : front ++ (middle ++ rest) ≡ ts) where
     abbrev first : List Rule
@@ -168,6 +168,6 @@ module _ (limits : Limits) (corners : Corners) (s : Sheet) (told : Told (s .rule
         once = hubs-distinct limits corners (s .preserved) told chain;
         few = chain-few limits corners (s .preserved) told chain;
         ended = λ k.
-            let e = sheet-ends limits corners s ts run .1 k in
-            ⊎-elim (λ p. ap (findPlan limits corners (s .preserved)) (sheet-after s ts) ∙ p) (λ l. absurd (let h = chain-few limits corners (s .preserved) told chain in omega arith)) (e .why);
+            ⊎-elim (λ p. ap (findPlan limits corners (s .preserved)) (sheet-after s ts) ∙ p) (λ l. absurd (let h = chain-few limits corners (s .preserved) told chain in omega arith))
+            (sheet-ends limits corners s ts run .1 k);
       }

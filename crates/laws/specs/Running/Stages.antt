@@ -3,21 +3,22 @@ use Prim.Native.Nat.{ℕ, zero, suc, _+_}
 use mathlib.Core.Path.{_≡_, refl, sym, ap, _∙_, subst}
 use mathlib.Core.Logic.{_⊎_, inl, inr, ⊎-map}
 use mathlib.Core.List.{List, [], _∷_, _++_, List·Memᴰ, List·Memᴰ·head, List·Memᴰ·tail}
-use mathlib.Core.Bool.{true, _&&_}
+use mathlib.Core.Bool.{true}
 use native.Mathlib.Omega.{arith}
 use lib.ListN.{length}
 use lib.Dec.{eqb}
 use borrow.Author.Tests.{eqb-false}
 use Rattle.grammar.specs.Tree.{Rule, bodyDepth, Counters, Sheet}
-use Rattle.grammar.specs.Ids.{distinct, ruleIds, ruleNames, isDistinct, isBelow}
-use Rattle.grammar.specs.Valid.{valid, isKind, okRules, rising}
+use Rattle.grammar.specs.Ids.{distinct, ruleIds, ruleNames, isDistinct}
+use Rattle.grammar.specs.Valid.{valid}
 use Rattle.grammar.specs.Corners.{Corners}
 use Rattle.grammar.specs.Laws.Parse.{left-true, right-true, either}
+use Rattle.grammar.specs.Laws.Whole.{valid-parts}
 use Rattle.reference.specs.Analysis.{Grammar, grammarOf, leftCornerCycles}
 use Rattle.reference.specs.Substitute.{Limits, Decided, decided, declined, overfull}
 use Rattle.reference.specs.Plan.{CyclePlan, planCycle}
 use Rattle.reference.specs.Apply.{applyPlan}
-use Rattle.reference.specs.Run.{innerDepth, Stage, Search, noPlan, planned, tooLarge, Run, ended, stopped, preceded, searchCycles, findPlan, refusalOf, eliminateInUnit, eliminateMutualLeftRecursion, sheetAfter}
+use Rattle.reference.specs.Run.{innerDepth, Stage, Search, noPlan, planned, tooLarge, Run, ended, stopped, preceded, searchCycles, findPlan, sheetWith, refusalOf, eliminateInUnit, eliminateMutualLeftRecursion, sheetAfter}
 use Rattle.laws.specs.Planning.Substituted.{Known}
 use Rattle.laws.specs.Planning.Plans.{Made, plan-made}
 use Rattle.laws.specs.Running.Leaves.{Told, Leaves, leaves-refl, leaves-trans, plan-leaves}
@@ -30,23 +31,23 @@ rulesAfter rs (t ∷ ts) = rulesAfter (t .after .node) ts
 pub sheet-after : (s : Sheet) (ts : List Stage) → sheetAfter s ts .rules ≡ rulesAfter (s .rules) ts
 unfolding sheetAfter
 sheet-after s [] = refl
-sheet-after s (t ∷ ts) = sheet-after (record { kind = s .kind; rules = t .after .node; preserved = s .preserved; counters = t .after .counters }) ts
+sheet-after s (t ∷ ts) = sheet-after (sheetWith (s .kind) (s .preserved) (t .after)) ts
 
 pub rules-append : (rs : List Rule) (ts us : List Stage) → rulesAfter rs (ts ++ us) ≡ rulesAfter (rulesAfter rs ts) us
 rules-append rs [] us = refl
 rules-append rs (t ∷ ts) us = rules-append (t .after .node) ts us
 
 -- What a valid sheet is asked for here: its rules share no id and no name.
-pub valid-told : (s : Sheet) → valid s ≡ true → Told (s .rules)
-unfolding valid isDistinct
-valid-told s v =
-    let a = right-true (isKind (s .kind)) _ v in
-    let b = right-true (okRules (s .rules) && rising (s .preserved)) _ a in
-    let c = left-true (isDistinct (s .rules)) (isBelow (s .counters) (s .rules)) b in
+pub distinct-told : (rs : List Rule) → isDistinct rs ≡ true → Told rs
+unfolding isDistinct
+distinct-told rs t =
     record {
-      ids = left-true (distinct (ruleIds (s .rules))) _ c;
-      names = left-true (distinct (ruleNames (s .rules))) _ (right-true (distinct (ruleIds (s .rules))) _ c);
+      ids = left-true (distinct (ruleIds rs)) _ t;
+      names = left-true (distinct (ruleNames rs)) _ (right-true (distinct (ruleIds rs)) _ t);
     }
+
+pub valid-told : (s : Sheet) → valid s ≡ true → Told (s .rules)
+valid-told s v = distinct-told (s .rules) (valid-parts s v .distinct)
 
 -- A grammar with its names and nullable rules.
 pub known : (rs : List Rule) → Told rs → Known bodyDepth rs (grammarOf bodyDepth rs)
@@ -112,10 +113,23 @@ module _ (limits : Limits) (corners : Corners) (preserved : List ℕ) where
   chain-behind [] us c = c
   chain-behind (t ∷ ts) us (next e h c) = chain-behind ts us c
 
--- How a run that is not refused ends.
+-- A run that is not refused.
 module _ (limits : Limits) (corners : Corners) (kind : ℕ) (preserved : List ℕ) where
-  pub record Ends (turns : ℕ) (rs : List Rule) (ts : List Stage) : Type 0 where
-    pub chain : Chain limits corners preserved rs ts
+  -- Its stages, one after the other: each plan was found in the grammar at hand, applied, and met no refusal.
+  pub data Stages : List Rule → Counters → ℕ → List Stage → Type 0 where
+    s-end : {rs : List Rule} {c : Counters} {n : ℕ} → Stages rs c n []
+    s-plan : {rs : List Rule} {c : Counters} {n : ℕ} {cycle : List ℕ} {plan : CyclePlan innerDepth} {ts : List Stage}
+        → findPlan limits corners preserved rs ≡ planned cycle plan → refusalOf kind preserved (applyPlan innerDepth rs plan c) n ≡ 0
+        → Stages (applyPlan innerDepth rs plan c .node) (applyPlan innerDepth rs plan c .counters) (n + length (applyPlan innerDepth rs plan c .entries)) ts
+        → Stages rs c n (record { before = rs; cycle = cycle; plan = plan; after = applyPlan innerDepth rs plan c } ∷ ts)
+
+  pub stages-chain : {rs : List Rule} {c : Counters} {n : ℕ} {ts : List Stage} → Stages rs c n ts → Chain limits corners preserved rs ts
+  stages-chain s-end = last
+  stages-chain (s-plan {c = c} f r x) = next refl (record { counters = c; found = f; left = refl }) (stages-chain x)
+
+  -- How it ends.
+  pub record Ends (turns : ℕ) (rs : List Rule) (c : Counters) (recorded : ℕ) (ts : List Stage) : Type 0 where
+    pub stages : Stages rs c recorded ts
     pub why : (findPlan limits corners preserved (rulesAfter rs ts) ≡ noPlan) ⊎ (length ts ≡ turns)
 
   ended-same : {ts us : List Stage} → ended ts ≡ ended us → ts ≡ us
@@ -152,39 +166,41 @@ module _ (limits : Limits) (corners : Corners) (kind : ℕ) (preserved : List �
   turns-once turns rs c recorded = refl
 
   applied-ended : (rest : Rest) (t : Stage) (recorded n : ℕ) {ts : List Stage} → applying rest t recorded n ≡ ended ts
-      → (us : List Stage) × (rest (t .after .node) (t .after .counters) (recorded + length (t .after .entries)) ≡ ended us) × (t ∷ us ≡ ts)
-  applied-ended rest t recorded zero e = preceded-ended t (rest (t .after .node) (t .after .counters) (recorded + length (t .after .entries))) e
+      → (us : List Stage) × (n ≡ 0) × (rest (t .after .node) (t .after .counters) (recorded + length (t .after .entries)) ≡ ended us) × (t ∷ us ≡ ts)
+  applied-ended rest t recorded zero e =
+      let (us, g, w) = preceded-ended t (rest (t .after .node) (t .after .counters) (recorded + length (t .after .entries))) e in
+      (us, refl, g, w)
   applied-ended rest t recorded (suc n) e = absurd (let z : _≡_ {A = ℕ} 0 1 = cc in omega arith)
 
   pub run-ends : (turns : ℕ) (rs : List Rule) (c : Counters) (recorded : ℕ) (ts : List Stage) → eliminateInUnit limits corners kind preserved turns rs c recorded ≡ ended ts
-      → Ends turns rs ts
+      → Ends turns rs c recorded ts
   unfolding eliminateInUnit
-  run-ends zero rs c recorded ts e = subst (Ends zero rs) (ended-same e) (record { chain = last; why = inr refl })
+  run-ends zero rs c recorded ts e = subst (Ends zero rs c recorded) (ended-same e) (record { stages = s-end; why = inr refl })
   run-ends (suc turns) rs c recorded ts e = go (findPlan limits corners preserved rs) refl (sym (turns-once turns rs c recorded) ∙ e) (run-ends turns)
     where
       go : (o : Search) → findPlan limits corners preserved rs ≡ o → turn (eliminateInUnit limits corners kind preserved turns) rs c recorded o ≡ ended ts
-          → ((ks : List Rule) (c : Counters) (n : ℕ) (us : List Stage) → eliminateInUnit limits corners kind preserved turns ks c n ≡ ended us → Ends turns ks us)
-          → Ends (suc turns) rs ts
-      go noPlan k f ih = subst (Ends (suc turns) rs) (ended-same f) (record { chain = last; why = inl k })
+          → ((ks : List Rule) (c : Counters) (n : ℕ) (us : List Stage) → eliminateInUnit limits corners kind preserved turns ks c n ≡ ended us → Ends turns ks c n us)
+          → Ends (suc turns) rs c recorded ts
+      go noPlan k f ih = subst (Ends (suc turns) rs c recorded) (ended-same f) (record { stages = s-end; why = inl k })
       go (planned cycle plan) k f ih =
           let after = applyPlan innerDepth rs plan c in
           let t : Stage = record { before = rs; cycle = cycle; plan = plan; after = after } in
-          let (us, g, w) = applied-ended (eliminateInUnit limits corners kind preserved turns) t recorded (refusalOf kind preserved after recorded) f in
+          let (us, r, g, w) = applied-ended (eliminateInUnit limits corners kind preserved turns) t recorded (refusalOf kind preserved after recorded) f in
           let y = ih (after .node) (after .counters) (recorded + length (after .entries)) us g in
-          subst (Ends (suc turns) rs) w
-          (record { chain = next refl (record { counters = c; found = k; left = refl }) (y .chain); why = ⊎-map (λ p. p) (ap suc) (y .why) })
+          subst (Ends (suc turns) rs c recorded) w (record { stages = s-plan k r (y .stages); why = ⊎-map (λ p. p) (ap suc) (y .why) })
       go tooLarge k f ih = absurd (let z : _≡_ {A = ℕ} 0 1 = cc in omega arith)
 
 -- Of a whole sheet: only a parser unit has stages.
 module _ (limits : Limits) (corners : Corners) (s : Sheet) where
   pub sheet-ends : (ts : List Stage) → eliminateMutualLeftRecursion limits corners s ≡ ended ts
-      → Chain limits corners (s .preserved) (s .rules) ts × (s .kind ≡ 2 → Ends limits corners (s .kind) (s .preserved) (suc (length (s .rules))) (s .rules) ts)
+      → Stages limits corners (s .kind) (s .preserved) (s .rules) (s .counters) 0 ts
+      × (s .kind ≡ 2 → (findPlan limits corners (s .preserved) (rulesAfter (s .rules) ts) ≡ noPlan) ⊎ (length ts ≡ suc (length (s .rules))))
   unfolding eliminateMutualLeftRecursion
   sheet-ends ts e =
       either (eqb (s .kind) 2)
       (λ t.
       let x = run-ends limits corners (s .kind) (s .preserved) (suc (length (s .rules))) (s .rules) (s .counters) 0 ts (rw (t, eliminateMutualLeftRecursion) at e) in
-      (x .chain, λ k. x))
+      (x .stages, λ k. x .why))
       (λ f.
       let none : [] ≡ ts = ended-same limits corners (s .kind) (s .preserved) (rw (f, eliminateMutualLeftRecursion) at e) in
-      (subst (Chain limits corners (s .preserved) (s .rules)) none last, λ k. absurd (eqb-false (s .kind) 2 f k)))
+      (subst (Stages limits corners (s .kind) (s .preserved) (s .rules) (s .counters) 0) none s-end, λ k. absurd (eqb-false (s .kind) 2 f k)))

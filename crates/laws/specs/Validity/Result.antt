@@ -24,17 +24,13 @@ use Rattle.laws.specs.Lists.Lookup.{all-in}
 use Rattle.laws.specs.Demands.{ReadsBack, GoodAnswer}
 use Rattle.laws.specs.Lists.Count.{distinct-count, count-distinct, below-count, count-below}
 use Rattle.laws.specs.Provenance.Trail.{Sort, ofAlternative, ofElement, ofLabel, ofAction, ofPredicate, number, counterAt, Trail, t-end, trail-append, trail-words}
-use Rattle.laws.specs.Validity.Runs.{Stages, s-end, s-plan, sheet-stages, plan-found}
+use Rattle.laws.specs.Planning.Chain.{FromHub, from-hub}
+use Rattle.laws.specs.Running.Stages.{distinct-told, stage-made, Stages, s-end, s-plan, sheet-ends}
 use Rattle.laws.specs.Validity.Fits.{Carries, fits-carries, ids-under, carries-fits}
 use Rattle.laws.specs.Validity.Sound.{Sound, applied-sound, applied-trace}
 
 -- A sheet's validity, sort by sort.
 module _ (rs : List Rule) (t : isDistinct rs ≡ true) where
-  pub rules-distinct : (distinct (ruleIds rs) ≡ true) × (distinct (ruleNames rs) ≡ true)
-  unfolding isDistinct
-  rules-distinct =
-      (left-true (distinct (ruleIds rs)) _ t, left-true (distinct (ruleNames rs)) _ (right-true (distinct (ruleIds rs)) _ t))
-
   ids-distinct : (s : Sort) → distinct (bodyIds (number s) rs) ≡ true
   unfolding isDistinct
   ids-distinct = go
@@ -62,8 +58,8 @@ pub parts-sound : (s : Sheet) → Parts s → Carries s → Sound bodyDepth (s .
 parts-sound s v c =
     record {
       few = leb-true (length (s .rules)) ruleLimit (v .few);
-      ids = rules-distinct (s .rules) (v .distinct) .0;
-      names = rules-distinct (s .rules) (v .distinct) .1;
+      ids = distinct-told (s .rules) (v .distinct) .ids;
+      names = distinct-told (s .rules) (v .distinct) .names;
       rules = v .rules;
       once = λ k. distinct-count (bodyIds (number k) (s .rules)) (ids-distinct (s .rules) (v .distinct) k);
       under = λ k. below-count (counterAt k (s .counters)) (bodyIds (number k) (s .rules)) (ids-under (s .counters) (s .rules) (v .below) k);
@@ -133,6 +129,12 @@ counters-fit s t k = ltb-true (counterAt k (s .counters)) (2 ^ 32) (all-in (λ w
     there ofPredicate = List·Memᴰ·tail (List·Memᴰ·tail (List·Memᴰ·tail (List·Memᴰ·tail (List·Memᴰ·tail (List·Memᴰ·tail (List·Memᴰ·tail (List·Memᴰ·head refl)))))))
 
 module _ (limits : Limits) (corners : Corners) where
+  -- A plan that was found starts from its hub's alternatives.
+  plan-found : (preserved : List ℕ) (rs : List Rule) (c : Counters) {cycle : List ℕ} {plan : CyclePlan innerDepth} → findPlan limits corners preserved rs ≡ planned cycle plan → FromHub innerDepth rs plan
+  plan-found preserved rs c {cycle} {plan} e =
+      let t : Stage = record { before = rs; cycle = cycle; plan = plan; after = applyPlan innerDepth rs plan c } in
+      from-hub innerDepth rs (stage-made limits corners preserved {t = t} (record { counters = c; found = e; left = refl }))
+
   -- Each stage leaves a sheet that is valid and fits.
   stage-good : (s : Sheet) {cycle : List ℕ} {plan : CyclePlan innerDepth} (n : ℕ)
       → findPlan limits corners (s .preserved) (s .rules) ≡ planned cycle plan
@@ -140,7 +142,7 @@ module _ (limits : Limits) (corners : Corners) where
       → Good (sheetWith (s .kind) (s .preserved) (applyPlan innerDepth (s .rules) plan (s .counters)))
   stage-good s {cycle} {plan} n f r g =
       let after = applyPlan innerDepth (s .rules) plan (s .counters) in
-      let h : Sound bodyDepth (after .counters) (after .node) = applied-sound innerDepth (s .counters) (s .rules) (good-sound g) plan (plan-found limits corners (s .preserved) (s .rules) (s .counters) f) in
+      let h : Sound bodyDepth (after .counters) (after .node) = applied-sound innerDepth (s .counters) (s .rules) (good-sound g) plan (plan-found (s .preserved) (s .rules) (s .counters) f) in
       let t = sheetWith (s .kind) (s .preserved) after in
       let p = sound-parts t (g .parts .kind) (g .parts .preserved) h in
       let (w, l, j) = not-refused (s .kind) (s .preserved) after n r in
@@ -170,7 +172,7 @@ module _ (limits : Limits) (corners : Corners) where
     unfolding sheetAfter entriesOf
     stages-trail s-end g = t-end
     stages-trail (s-plan {rs = rs} {c = c} {n = n} {plan = plan} f r x) g =
-        trail-append (applied-trace innerDepth c rs (good-sound g) plan (plan-found limits corners preserved rs c f)) (stages-trail x (stage-good (sheetBy rs c) n f r g))
+        trail-append (applied-trace innerDepth c rs (good-sound g) plan (plan-found preserved rs c f)) (stages-trail x (stage-good (sheetBy rs c) n f r g))
 
     stages-short : {rs : List Rule} {c : Counters} {n : ℕ} {ss : List Stage} → Stages limits corners kind preserved rs c n ss → n ≤ 4096 → n + length (entriesOf ss) ≤ 4096
     unfolding entriesOf
@@ -183,19 +185,19 @@ module _ (limits : Limits) (corners : Corners) where
         omega arith
 
   pub run-good : (s : Sheet) {ss : List Stage} → eliminateMutualLeftRecursion limits corners s ≡ ended ss → Good s → Good (sheetAfter s ss)
-  run-good s e g = stages-good (s .kind) (s .preserved) (sheet-stages limits corners s e) g
+  run-good s {ss} e g = stages-good (s .kind) (s .preserved) (sheet-ends limits corners s ss e .0) g
 
   pub run-each : (s : Sheet) {ss : List Stage} → eliminateMutualLeftRecursion limits corners s ≡ ended ss → Good s → {t : Stage} → List·Memᴰ t ss → Good (sheetWith (s .kind) (s .preserved) (t .after))
-  run-each s e g m = stages-each (s .kind) (s .preserved) (sheet-stages limits corners s e) g m
+  run-each s {ss} e g m = stages-each (s .kind) (s .preserved) (sheet-ends limits corners s ss e .0) g m
 
   pub run-trail : (s : Sheet) {ss : List Stage} → eliminateMutualLeftRecursion limits corners s ≡ ended ss → Good s → Trail (s .counters) (entriesOf ss) (sheetAfter s ss .counters)
-  run-trail s e g = stages-trail (s .kind) (s .preserved) (sheet-stages limits corners s e) g
+  run-trail s {ss} e g = stages-trail (s .kind) (s .preserved) (sheet-ends limits corners s ss e .0) g
 
   -- The trail of a run: at most 4,096 entries, and words alone.
   pub run-room : (s : Sheet) {ss : List Stage} → eliminateMutualLeftRecursion limits corners s ≡ ended ss → Good s
       → (length (entriesOf ss) ≤ 4096) × ((w : ℕ) → List·Memᴰ w (each encodeEntry (entriesOf ss)) → w < 2 ^ 32)
   run-room s {ss} e g =
-      let l = stages-short (s .kind) (s .preserved) (sheet-stages limits corners s e) (omega arith) in
+      let l = stages-short (s .kind) (s .preserved) (sheet-ends limits corners s ss e .0) (omega arith) in
       (omega arith, λ w m. trail-words (run-trail s e g) (counters-fit (sheetAfter s ss) (run-good s e g .fitting)) m)
 
   entries-length : (es : List Entry) → length (each encodeEntry es) ≡ 4 * length es
