@@ -1,9 +1,9 @@
 -- The two sheets of Demands, by computation: one where the Rust's reading of left corners and the textbook's part, and one
 -- where a nullable hub stands in a later cycle.
 use Prim.Native.Nat.{ℕ}
-use mathlib.Core.Path.{_≡_, refl, sym, subst}
+use mathlib.Core.Path.{_≡_, refl, sym, _∙_, subst}
 use mathlib.Core.Logic.{⊎-elim}
-use mathlib.Core.List.{List, [], _∷_, List·Memᴰ, List·Memᴰ·head, List·Memᴰ·tail, List·Memᴰ·eq-of-singleton}
+use mathlib.Core.List.{List, [], _∷_, map, List·Memᴰ, List·Memᴰ·head, List·Memᴰ·tail, List·Memᴰ·eq-of-singleton}
 use mathlib.Core.Bool.{true, true≢false}
 use native.Mathlib.Omega.{arith}
 use Rattle.grammar.specs.Encode
@@ -21,9 +21,10 @@ use Rattle.reference.specs.Substitute
 use Rattle.reference.specs.Plan
 use Rattle.reference.specs.Apply
 use Rattle.reference.specs.Run
+use Rattle.reference.specs.Analysis.{grammarOf, leftCornerCycles}
 use Rattle.reference.specs.Substitute.{standard}
 use Rattle.reference.specs.Run.{innerDepth, Stage, Run, ended, stopped, eliminateMutualLeftRecursion}
-use Rattle.laws.specs.Demands.{Continues, NoLeftCorner, JoinedShape, element, alternative, rule, parting, behindName, parted, NoMoreOfRust, returning, returned, NullableHubReturns}
+use Rattle.laws.specs.Demands.{Continues, NoLeftCorner, JoinedShape, rulesOf, element, alternative, rule, parting, behindName, parted, NoMoreOfRust, returning, returned, NullableHubReturns}
 
 abbrev pub stagesOf : Run → List Stage
 stagesOf (ended ts) = ts
@@ -91,27 +92,19 @@ returned-empty : RuleDerives bodyDepth returned 1 []
 unfolding eraseElement eraseLeaf quantified find eraseBlock
 returned-empty = record { body = _; found = refl; tree = d-right (d-left (d-seq refl d-absent d-eps)) }
 
+abbrev cyclesOf : Corners → List Rule → List (List ℕ)
+cyclesOf corners rules = leftCornerCycles corners (grammarOf bodyDepth rules) bodyDepth rules
+
+-- What is to be computed, for each reading: the run, its answer, its hub and the cycle behind it.
+module _ (corners : Corners) (ts : List Stage) where
+  returned-by : eliminateMutualLeftRecursion standard corners returning ≡ ended ts → rulesOf returning ts ≡ returned → map (λ t. t .plan .hub) ts ≡ 1 ∷ []
+      → cyclesOf corners returned ≡ (1 ∷ 2 ∷ []) ∷ []
+      → (t : Stage) × List·Memᴰ t ts × List·Memᴰ (1 ∷ 2 ∷ []) (cyclesOf corners (t .after .node)) × (Ids.member (t .plan .hub) (1 ∷ 2 ∷ []) ≡ true)
+      → NullableHubReturns corners
+  returned-by run answer hub cycle (t, m, k, i) =
+      record { isValid = sheets-valid .1; stages = ts; run = run; answer = answer; hub = hub; empty = returned-empty; cycle = cycle; needed = λ h. true≢false (sym i ∙ h t m (1 ∷ 2 ∷ []) k) }
+
 pub nullable-hub-returns : (corners : Corners) → NullableHubReturns corners
 unfolding ran
-nullable-hub-returns rust =
-    record {
-      isValid = sheets-valid .1;
-      stages = stagesOf (ran rust returning);
-      run = refl;
-      answer = refl;
-      hub = refl;
-      empty = returned-empty;
-      cycle = refl;
-      needed = λ h. true≢false (h _ (List·Memᴰ·head refl) (1 ∷ 2 ∷ []) (List·Memᴰ·head refl));
-    }
-nullable-hub-returns textbook =
-    record {
-      isValid = sheets-valid .1;
-      stages = stagesOf (ran textbook returning);
-      run = refl;
-      answer = refl;
-      hub = refl;
-      empty = returned-empty;
-      cycle = refl;
-      needed = λ h. true≢false (h _ (List·Memᴰ·head refl) (1 ∷ 2 ∷ []) (List·Memᴰ·head refl));
-    }
+nullable-hub-returns rust = returned-by rust (stagesOf (ran rust returning)) refl refl refl refl (_, List·Memᴰ·head refl, List·Memᴰ·head refl, refl)
+nullable-hub-returns textbook = returned-by textbook (stagesOf (ran textbook returning)) refl refl refl refl (_, List·Memᴰ·head refl, List·Memᴰ·head refl, refl)
