@@ -240,7 +240,7 @@ pub record GoodAnswer (result trail : List ℕ) : Type 0 where
   pub short : length trail ≤ 16384
   pub areWords : (w : ℕ) → List·Memᴰ w trail → w < 2 ^ 32
 
--- The run behind an answer that is no refusal, with demand 3 and the bound.
+-- The run behind an answer that is no refusal, with demand 3, the bound, the origins and validity.
 pub record Answered (limits : Limits) (corners : Corners) (bs : List ℕ) (plans steps : ℕ) (result trail : List ℕ) : Type 0 where
   pub handedIn : Sheet
   pub reads : read bs ≡ sheet handedIn
@@ -252,6 +252,8 @@ pub record Answered (limits : Limits) (corners : Corners) (bs : List ℕ) (plans
   pub trailIs : each encodeEntry (entriesOf stages) ≡ trail
   pub demand : Demand3 handedIn corners (NoCorner corners) stages
   pub plansFew : Bound handedIn limits corners stages
+  pub originsTold : OriginsTold (entriesOf stages)
+  pub good : GoodAnswer result trail
 
 -- Two sheets, of elements, alternatives and rules with nothing beside what is written here.
 abbrev pub element : (id quantifier : ℕ) → Leaf → Element (Block innerDepth)
@@ -371,4 +373,4 @@ pub record Theorems : Type 0 where
       → ReadsBack (sheetWith (s .kind) (s .preserved) (t .after))
   -- The same from the bytes of a sheet: every answer that is no refusal.
   pub answered : (limits : Limits) (c : Corners) (bs : List ℕ) → AreBytes bs → (plans steps : ℕ) (result trail : List ℕ)
-      → answerTo limits c bs ≡ answer plans steps result trail → Answered limits c bs plans steps result trail × GoodAnswer result trail
+      → answerTo limits c bs ≡ answer plans steps result trail → Answered limits c bs plans steps result trail

@@ -5,7 +5,7 @@ use Rattle.laws.specs.Planning.Budget.{fuel-is-budget}
 use Rattle.laws.specs.BothReadings.Readings.{demand3-textbook, demand3-rust}
 use Rattle.laws.specs.BothReadings.SameRun.{outcome-same}
 use Rattle.laws.specs.BothReadings.Sheets.{no-more-of-rust, nullable-hub-returns}
-use Rattle.laws.specs.Proved.Analysis.{sheet-empty, sheet-corners, textbook-corners, sheet-cycles, origins-told, result-reads-back, stage-reads-back, other-units, good-answer}
+use Rattle.laws.specs.Proved.Analysis.{sheet-empty, sheet-corners, textbook-corners, sheet-cycles, origins-told, result-reads-back, stage-reads-back, other-units}
 use Rattle.laws.specs.Proved.Demand3.{enough-turns, demand3, bound}
 use Rattle.laws.specs.Proved.Answered.{answered}
 
@@ -29,5 +29,5 @@ theorems =
       comesBack = other-units;
       resultReadsBack = λ limits c s ts f r. result-reads-back s (r .0) f limits c ts (r .1);
       stageReadsBack = λ limits c s ts f r. stage-reads-back s (r .0) f limits c ts (r .1);
-      answered = λ limits c bs b plans steps result trail e. (answered limits c bs b plans steps result trail e, good-answer limits c bs b e);
+      answered = answered;
     }

@@ -14,9 +14,9 @@ use Rattle.grammar.specs.Corners.{Corners}
 use Rattle.grammar.specs.Laws.Derive.Rules.{in-member}
 use Rattle.reference.specs.Analysis.{grammarOf, leftCornerCycles}
 use Rattle.reference.specs.Substitute.{Limits}
-use Rattle.reference.specs.Run.{Stage, ended, sheetWith, eliminateMutualLeftRecursion, sheetAfter, entriesOf, answerTo, answer}
+use Rattle.reference.specs.Run.{Stage, ended, sheetWith, eliminateMutualLeftRecursion, sheetAfter, entriesOf}
 use Rattle.grammar.specs.Cycles.{RuleReaches}
-use Rattle.laws.specs.Demands.{EmptyDerivation, LeftCornersListed, TextbookCorners, least, CyclesListed, OriginsTold, ComesBack, ReadsBack, GoodAnswer}
+use Rattle.laws.specs.Demands.{EmptyDerivation, LeftCornersListed, TextbookCorners, least, CyclesListed, OriginsTold, ComesBack, ReadsBack}
 use Rattle.laws.specs.Analysis.Empty.{rule-empty, element-empty, elements-empty, block-empty}
 use Rattle.laws.specs.Analysis.LeftCorners.{left-corners, block-corners}
 use Rattle.laws.specs.Analysis.Textbook.{textbook-corner}
@@ -24,7 +24,7 @@ use Rattle.laws.specs.Analysis.Cycles.{cycles-exact, cycles-sorted, leas
 use Rattle.laws.specs.Running.Stages.{valid-told}
 use Rattle.laws.specs.Provenance.Origins.{trail-traced, untraced}
 use Rattle.laws.specs.Proved.OtherUnits.{other-answer, other-outcome}
-use Rattle.laws.specs.Validity.Result.{good-of, run-good, run-each, run-trail, answer-good, good-reads}
+use Rattle.laws.specs.Validity.Result.{good-of, run-good, run-each, run-trail, good-reads}
 
 module _ (d : ℕ) (rs : List (RuleOf (Block d))) (ids : distinct (map (λ r. r .id) rs) ≡ true) (names : distinct (map (λ r. r .name) rs) ≡ true) where
   pub empty-derivation : EmptyDerivation d rs
@@ -76,6 +76,3 @@ module _ (s : Sheet) (v : valid s ≡ true) where
 module _ (limits : Limits) (c : Corners) (bs : List ℕ) (b : (i : ℕ) → getD bs i 0 < 256) where
   pub other-units : (s : Sheet) → read bs ≡ sheet s → (s .kind ≡ 2 → ⊥) → ComesBack limits c bs
   other-units s e n = record { answered = other-answer limits c bs s e n; whole = λ result trail work l. other-outcome limits c bs result trail work b s e n l }
-
-  pub good-answer : {plans steps : ℕ} {ws ts : List ℕ} → answerTo limits c bs ≡ answer plans steps ws ts → GoodAnswer ws ts
-  good-answer e = answer-good limits c bs b e

@@ -1,17 +1,20 @@
--- From the bytes of a sheet: what is answered stands for a run that has demand 3 and keeps the bound.
+-- From the bytes of a sheet: what is answered stands for a run with all that is promised of one.
 use Prim.Native.Nat.{ℕ, _<_}
-use mathlib.Core.Path.{_≡_, refl}
+use mathlib.Core.Path.{_≡_, refl, subst₂}
 use mathlib.Core.List.{List}
 use native.Mathlib.Omega.{arith}
 use lib.ListN.{getD}
 use Rattle.grammar.specs.Tree.{Sheet}
+use Rattle.grammar.specs.Encode.{encode, each}
 use Rattle.grammar.specs.Reading.{Reading, refused, sheet, read}
 use Rattle.grammar.specs.Corners.{Corners}
 use Rattle.grammar.specs.Laws.Codec.{accepted-valid}
 use Rattle.reference.specs.Substitute.{Limits}
-use Rattle.reference.specs.Run.{Run, ended, stopped, eliminateMutualLeftRecursion, answer, answerRun, answerReading, answerTo}
-use Rattle.laws.specs.Demands.{Answered}
+use Rattle.reference.specs.Run.{Run, ended, stopped, eliminateMutualLeftRecursion, sheetAfter, encodeEntry, entriesOf, answer, answerRun, answerReading, answerTo}
+use Rattle.laws.specs.Demands.{GoodAnswer, Answered}
 use Rattle.laws.specs.Running.Stages.{valid-told}
+use Rattle.laws.specs.Validity.Result.{good-of, run-answer}
+use Rattle.laws.specs.Proved.Analysis.{origins-told}
 use Rattle.laws.specs.Proved.Demand3.{demand3, bound}
 
 module _ (limits : Limits) (corners : Corners) (bs : List ℕ) (b : (i : ℕ) → getD bs i 0 < 256) where
@@ -23,7 +26,10 @@ module _ (limits : Limits) (corners : Corners) (bs : List ℕ) (b : (i : ℕ) �
           → Answered limits corners bs plans steps result trail
       running s k (stopped n) u f = absurd (let z : _≡_ {A = ℕ} 0 1 = cc in omega arith)
       running s k (ended ts) u f =
-          let told = valid-told s (accepted-valid bs b s k .0) in
+          let (v, fit) = accepted-valid bs b s k in
+          let told = valid-told s v in
+          let result-is : encode (sheetAfter s ts) ≡ result = cc in
+          let trail-is : each encodeEntry (entriesOf ts) ≡ trail = cc in
           record {
             handedIn = s;
             reads = k;
@@ -31,10 +37,12 @@ module _ (limits : Limits) (corners : Corners) (bs : List ℕ) (b : (i : ℕ) �
             run = u;
             plansAre = cc;
             stepsAre = cc;
-            resultIs = cc;
-            trailIs = cc;
+            resultIs = result-is;
+            trailIs = trail-is;
             demand = demand3 limits corners s told ts u;
             plansFew = bound limits corners s told ts u;
+            originsTold = origins-told s v fit limits corners ts u;
+            good = subst₂ GoodAnswer result-is trail-is (run-answer limits corners s (good-of s v fit) u);
           }
 
       reading : (r : Reading) → read bs ≡ r → answerReading limits corners r ≡ answer plans steps result trail → Answered limits corners bs plans steps result trail

@@ -1,25 +1,24 @@
 -- The run: every grammar on the way is valid, the result fits, and all entries are one trail.
 use Prim.Native.Nat.{ℕ, _≤_, _<_, _+_, _^_, _*_}
-use mathlib.Core.Path.{_≡_, refl, sym, subst, subst₂}
+use mathlib.Core.Path.{_≡_, refl, sym, subst}
 use mathlib.Core.List.{List, List·Memᴰ, List·Memᴰ·head, List·Memᴰ·tail, List·Memᴰ·not-nil, [], _∷_, _++_, Memᴰ·append-right}
 use mathlib.Core.Bool.{Bool, true, false, _&&_}
 use native.Mathlib.Omega.{arith}
-use lib.ListN.{length, getD, length-append}
+use lib.ListN.{length, length-append}
 use lib.Dec.{leb, ltb}
 use borrow.Author.Tests.{leb-true, le-leb, ltb-true}
 use Rattle.grammar.specs.Tree.{Rule, Counters, Sheet, bodyDepth}
 use Rattle.grammar.specs.Encode.{encode, each, encodeRules, encodeCounters}
 use Rattle.grammar.specs.Ids.{distinct, ruleIds, ruleNames, bodyIds, isDistinct, below, isBelow}
 use Rattle.grammar.specs.Valid.{rising, isKind, ruleLimit, valid, fits}
-use Rattle.grammar.specs.Reading.{Reading, refused, sheet, read}
 use Rattle.grammar.specs.Corners.{Corners}
 use Rattle.grammar.specs.Laws.Parse.{both-true, left-true, right-true}
 use Rattle.grammar.specs.Laws.Whole.{Parts, parts-valid, valid-parts}
-use Rattle.grammar.specs.Laws.Codec.{reads-back, accepted-valid}
+use Rattle.grammar.specs.Laws.Codec.{reads-back}
 use Rattle.reference.specs.Substitute.{Limits}
 use Rattle.reference.specs.Plan.{CyclePlan}
 use Rattle.reference.specs.Apply.{Fresh, applyPlan, Entry}
-use Rattle.reference.specs.Run.{innerDepth, Stage, planned, findPlan, Run, ended, stopped, areWords, sheetWith, isShort, refusalOf, eliminateMutualLeftRecursion, sheetAfter, entriesOf, answer, answerRun, answerReading, answerTo, encodeEntry}
+use Rattle.reference.specs.Run.{innerDepth, Stage, planned, findPlan, ended, areWords, sheetWith, isShort, refusalOf, eliminateMutualLeftRecursion, sheetAfter, entriesOf, encodeEntry}
 use Rattle.laws.specs.Lists.Lookup.{all-in}
 use Rattle.laws.specs.Demands.{ReadsBack, GoodAnswer}
 use Rattle.laws.specs.Lists.Count.{distinct-count, count-distinct, below-count, count-below}
@@ -205,26 +204,10 @@ module _ (limits : Limits) (corners : Corners) where
   entries-length [] = refl
   entries-length (e ∷ es) = let h = entries-length es in omega arith
 
-  run-answer : (s : Sheet) → Good s → {ss : List Stage} → eliminateMutualLeftRecursion limits corners s ≡ ended ss → GoodAnswer (encode (sheetAfter s ss)) (each encodeEntry (entriesOf ss))
+  -- The words of its answer.
+  pub run-answer : (s : Sheet) → Good s → {ss : List Stage} → eliminateMutualLeftRecursion limits corners s ≡ ended ss → GoodAnswer (encode (sheetAfter s ss)) (each encodeEntry (entriesOf ss))
   run-answer s g {ss} k =
       let r = run-room s k g in
       let l = entries-length (entriesOf ss) in
       let n = r .0 in
       record { tree = sheetAfter s ss; isEncoding = refl; readsBack = good-reads (run-good s k g); short = omega arith; areWords = r .1 }
-
-  pub answer-good : (bs : List ℕ) → ((i : ℕ) → getD bs i 0 < 256) → {plans steps : ℕ} {ws ts : List ℕ} → answerTo limits corners bs ≡ answer plans steps ws ts → GoodAnswer ws ts
-  unfolding answerTo answerReading answerRun
-  answer-good bs b {plans} {steps} {ws} {ts} e = go (read bs) refl e
-    where
-      ran : (s : Sheet) → Good s → (r : Run) → eliminateMutualLeftRecursion limits corners s ≡ r → answerRun s r ≡ answer plans steps ws ts → GoodAnswer ws ts
-      ran s g (stopped n) k f = absurd (let z : _≡_ {A = ℕ} 0 1 = cc in omega arith)
-      ran s g (ended ss) k f =
-          let same : encode (sheetAfter s ss) ≡ ws = cc in
-          let trail : each encodeEntry (entriesOf ss) ≡ ts = cc in
-          subst₂ GoodAnswer same trail (run-answer s g k)
-
-      go : (r : Reading) → read bs ≡ r → answerReading limits corners r ≡ answer plans steps ws ts → GoodAnswer ws ts
-      go (refused n) k f = absurd (let z : _≡_ {A = ℕ} 0 1 = cc in omega arith)
-      go (sheet s) k f =
-          let (v, w) = accepted-valid bs b s k in
-          ran s (good-of s v w) (eliminateMutualLeftRecursion limits corners s) refl f
