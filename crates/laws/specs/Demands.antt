@@ -1,14 +1,14 @@
 -- What is promised of the definition: properties first, numbered 1 to 11, and two sheets on which more cannot be had; at the
 -- end `Theorems`, which says of what each property holds. The quoted sentences are document 01's. The proof is in Proved.
-use Prim.Native.Nat.{ℕ, suc, _^_, _≤_, _<_, zero, _+_}
+use Prim.Native.Nat.{ℕ, suc, _^_, _≤_, _<_, zero, _+_, _*_, max}
 use mathlib.Core.Path.{_≡_}
 use mathlib.Core.Logic.{_↔_, _⊎_}
 use mathlib.Core.List.{List, [], _∷_, _++_, map, List·Memᴰ}
 use mathlib.Core.Option.{some, none}
 use mathlib.Core.Bool.{true, false}
 use lib.ListN.{length, getD}
-use Rattle.grammar.specs.Lists.{AllOf}
-use Rattle.grammar.specs.Tree.{unlabelled, ElementHead, Element, leaf, block, call, AlternativeOf, Block, RuleOf, Sheet, Leaf, token, terminal, Alternative, Rule, bodyDepth}
+use Rattle.grammar.specs.Lists.{keep, total, AllOf, AnyOf}
+use Rattle.grammar.specs.Tree.{unlabelled, ElementHead, Element, leaf, block, call, Block, RuleOf, Sheet, Leaf, token, terminal, Alternative, Rule, bodyDepth}
 use Rattle.grammar.specs.Words.{words, bytes}
 use Rattle.grammar.specs.Encode.{encode, each}
 use Rattle.grammar.specs.Ids.{member, distinct}
@@ -17,11 +17,12 @@ use Rattle.grammar.specs.Reading.{sheet, read}
 use Rattle.grammar.specs.Shape.{eraseElement, eraseElements, eraseBlock, Shapes, eraseRules, find, Word, EachCall}
 use Rattle.grammar.specs.Derive.{CanBeEmpty, RuleDerives, isKept, isRemoved}
 use Rattle.grammar.specs.Corners.{Corners, rust, textbook, Corner}
-use Rattle.grammar.specs.Cycles.{LeftCorner, CornerRule, RuleReaches, IsLargest}
+use Rattle.grammar.specs.Cycles.{LeftCorner, called, inside, CornerRule, RuleReaches, IsLargest}
 use Rattle.reference.specs.Analysis.{elementNullable, blockIsNullable, nullableRules, grammarOf, leftCorners, blockCorners, leftCornerCycles, Grammar}
-use Rattle.reference.specs.Substitute.{Limits, standard, Planned, Substituted, decided, declined, budget, step, substitute}
+use Rattle.reference.specs.Substitute.{Clause, Limits, standard, Planned, decided, declined, budget, step}
 use Rattle.reference.specs.Apply.{Entry, Node, Origin, Origins, origins, provenance}
-use Rattle.reference.specs.Run.{innerDepth, Stage, ended, noPlan, findPlan, sheetWith, eliminateInUnit, eliminateMutualLeftRecursion, sheetAfter, stepsOf, encodeEntry, entriesOf, answer, answerTo, filled, areLent, outcome}
+use Rattle.reference.specs.Plan.{chooseHub, CyclePlan, asTheyAre, planCycle}
+use Rattle.reference.specs.Run.{innerDepth, Stage, ended, sheetWith, eliminateInUnit, eliminateMutualLeftRecursion, sheetAfter, stepsOf, encodeEntry, entriesOf, answer, answerTo, filled, areLent, outcome}
 use Rattle.reference.specs.Walks.{isOptional}
 
 -- 1. "What derives the empty string can be empty." The definition's tests, in the grammar of some rules, are this.
@@ -109,15 +110,15 @@ NotOptional G h l = IsSymbol G l → isOptional h ≡ false
 pub record NoOptionalSymbol (rules : List Rule) : Type 0 where
   pub everywhere : (r : Rule) → List·Memᴰ r rules → OnBlock (NotOptional (eraseRules bodyDepth rules)) bodyDepth (r .body)
 
--- A left corner as document 01 reads them, with a symbol of quantifier 1 to 4 in front of it.
-pub data PastSymbol (G : Shapes) : (d : ℕ) → List (Element (Block d)) → ℕ → Type 0 where
-  behind-symbol : {d : ℕ} {es : List (Element (Block d))} (front rest : List (Element (Block d))) (h : ElementHead) (l : Leaf) {n : ℕ}
-      → front ++ (leaf h l ∷ rest) ≡ es → AllOf (λ e. CanBeEmpty G (eraseElement (eraseBlock d) e)) front → IsSymbol G l → isOptional h ≡ true
-      → LeftCorner G d rest n → PastSymbol G d es n
-  within-block : {d : ℕ} {es : List (Element (Block (suc d)))} (front rest : List (Element (Block (suc d)))) (h : ElementHead) (b : Block (suc d))
-      {a : AlternativeOf (Block d)} {n : ℕ}
-      → front ++ (block h b ∷ rest) ≡ es → AllOf (λ e. CanBeEmpty G (eraseElement (eraseBlock (suc d)) e)) front → List·Memᴰ a b
-      → PastSymbol G d (a .elements) n → PastSymbol G (suc d) es n
+-- An element is such a symbol.
+abbrev pub IsOptionalSymbol : {B : Type 0} → Shapes → Element B → Type 0
+IsOptionalSymbol G (leaf h l) = IsSymbol G l × (isOptional h ≡ true)
+IsOptionalSymbol G (block h b) = ⊥
+
+-- A left corner, where document 01 finds it, has such a symbol in front of it.
+unfoldable pub PastSymbol : {G : Shapes} {d : ℕ} {es : List (Element (Block d))} {n : ℕ} → LeftCorner G d es n → Type 0
+PastSymbol {G} (called front rest h a w s f) = AnyOf (IsOptionalSymbol G) front
+PastSymbol {G} (inside front rest h b w s m k) = AnyOf (IsOptionalSymbol G) front ⊎ PastSymbol k
 
 -- By the textbook's left corners, of an alternative of the second sort: none is in the cycle replaced.
 pub record NoLeftCorner (rules : List Rule) (cycle : List ℕ) (es : Elements) : Type 0 where
@@ -125,8 +126,7 @@ pub record NoLeftCorner (rules : List Rule) (cycle : List ℕ) (es : Elements) :
 
 -- By the textbook's left corners, but for the Rust's run: none is, or a symbol with quantifier 1 to 4 stands in front of it.
 pub record OnlyPastSymbols (rules : List Rule) (cycle : List ℕ) (es : Elements) : Type 0 where
-  pub past : (q : Rule) → List·Memᴰ q rules → member (q .id) cycle ≡ true → LeftCorner (eraseRules bodyDepth rules) innerDepth es (q .name)
-      → PastSymbol (eraseRules bodyDepth rules) innerDepth es (q .name)
+  pub past : (q : Rule) → List·Memᴰ q rules → member (q .id) cycle ≡ true → (k : LeftCorner (eraseRules bodyDepth rules) innerDepth es (q .name)) → PastSymbol k
 
 -- A rule joined, as its plan leaves it: every alternative goes on after the rule's plain call, or is of the second sort,
 -- which is handed in, since the readings of left corners part there. Both sorts occur.
@@ -149,6 +149,12 @@ pub record Joins (corners : Corners) (before : List Rule) (t : Stage) : Type 0 w
   pub starts : t .before ≡ before
   pub isCycle : List·Memᴰ (t .cycle) (leftCornerCycles corners (grammarOf bodyDepth before) bodyDepth before)
   pub inCycle : member (t .plan .hub) (t .cycle) ≡ true
+
+-- "A declined cycle is no refusal": of some rules, no cycle has a plan; each is declined for some clause.
+abbrev pub EveryCycleDeclined : Limits → Corners → (preserved : List ℕ) → List Rule → Type 0
+EveryCycleDeclined limits corners preserved rules =
+    (cycle : List ℕ) → List·Memᴰ cycle (leftCornerCycles corners (grammarOf bodyDepth rules) bodyDepth rules)
+    → (c : Clause) × (planCycle limits corners (grammarOf bodyDepth rules) innerDepth rules preserved cycle ≡ declined c)
 
 module _ (s : Sheet) where
   -- The rules that the first stages of a run leave.
@@ -175,27 +181,48 @@ module _ (s : Sheet) where
   pub record Bound (limits : Limits) (corners : Corners) (stages : List Stage) : Type 0 where
     pub once : distinct (map (λ t. t .plan .hub) stages) ≡ true
     pub few : length stages ≤ length (s .rules)
-    pub ended : s .kind ≡ 2 → findPlan limits corners (s .preserved) (rulesOf stages) ≡ noPlan
+    pub ended : s .kind ≡ 2 → EveryCycleDeclined limits corners (s .preserved) (rulesOf stages)
 
   -- The loop's turns are enough: any more give the same.
   pub record EnoughTurns (limits : Limits) (corners : Corners) : Type 0 where
     pub more : s .kind ≡ 2 → (turns : ℕ)
         → eliminateInUnit limits corners (s .kind) (s .preserved) (turns + suc (length (s .rules))) (s .rules) (s .counters) 0 ≡ eliminateMutualLeftRecursion limits corners s
 
--- A substitution's fuel is its budget.
+-- Steps of a substitution, one after the other.
 module _ (d : ℕ) (rs : List (RuleOf (Block (suc d)))) (g : Grammar) (cycle : List ℕ) (hub : ℕ) where
-  -- A number of steps, one after the other.
   pub data Steps : ℕ → List (Planned d) → List (Planned d) → Type 0 where
     none-left : {ps : List (Planned d)} → Steps 0 ps ps
     one-more : {n : ℕ} {ps qs ks : List (Planned d)} → step d rs g cycle hub ps ≡ some (decided qs) → Steps n qs ks → Steps (suc n) ps ks
 
-  -- It ends because no work is left. "The step beyond the budget declines": it declines so after exactly as many steps as
-  -- the budget has, with work left.
+-- Its fuel is the budget, of every cycle in every grammar.
+module _ (limits : Limits) (c : Corners) (d : ℕ) (rs : List (RuleOf (Block (suc d)))) (g : Grammar) (preserved cycle : List ℕ) where
+  -- "The budget is the larger of 64 and the square of the cycle's outermost alternative count."
+  abbrev pub budgetOf : ℕ
+  budgetOf = let count = total (map (λ r. length (r .body)) (keep (λ r. member (r .id) cycle) rs)) in max (count * count) (limits .budgetFloor)
+
+  -- A plan's substitution starts from the hub's alternatives and ends because no work is left, after one step at least and
+  -- within the budget: "a plan of no steps declines".
+  pub record Finished (plan : CyclePlan d) : Type 0 where
+    pub hub : RuleOf (Block (suc d))
+    pub isRule : List·Memᴰ hub rs
+    pub isHub : hub .id ≡ plan .hub
+    pub path : Steps d rs g cycle (hub .id) (plan .steps) (asTheyAre (hub .body)) (plan .alternatives)
+    pub settled : step d rs g cycle (hub .id) (plan .alternatives) ≡ none
+    pub someSteps : plan .steps ≡ 0 → ⊥
+    pub within : plan .steps ≤ budgetOf
+
+  -- "The step beyond the budget declines": after exactly as many steps as the budget has, with work left.
+  pub record Spent : Type 0 where
+    pub hub : RuleOf (Block (suc d))
+    pub isRule : List·Memᴰ hub rs
+    pub isHub : chooseHub g cycle d rs preserved ≡ some (hub .id)
+    pub left : List (Planned d)
+    pub path : Steps d rs g cycle (hub .id) budgetOf (asTheyAre (hub .body)) left
+    pub unsettled : step d rs g cycle (hub .id) left ≡ none → ⊥
+
   pub record FuelIsBudget : Type 0 where
-    pub finished : (limits : Limits) (left made : ℕ) (ps : List (Planned d)) (m : Substituted d) → substitute d rs g cycle hub limits left made ps ≡ decided m
-        → (n : ℕ) × Steps n ps (m .alternatives) × (step d rs g cycle hub (m .alternatives) ≡ none) × (made + n ≡ m .steps) × (n ≤ left)
-    pub spent : (limits : Limits) (left made : ℕ) (ps : List (Planned d)) → substitute d rs g cycle hub limits left made ps ≡ declined budget
-        → (qs : List (Planned d)) × Steps left ps qs × (step d rs g cycle hub qs ≡ none → ⊥)
+    pub finished : (plan : CyclePlan d) → planCycle limits c g d rs preserved cycle ≡ decided plan → Finished plan
+    pub spent : planCycle limits c g d rs preserved cycle ≡ declined budget → Spent
 
 -- 9. The node that an entry of the trail is about, its owner, and the origin that it records.
 abbrev pub nodeOf : Entry → Node
@@ -359,10 +386,11 @@ pub record Theorems : Type 0 where
       → outcome limits rust bs result trail work ≡ outcome limits textbook bs result trail work
   -- Why 7 asks that the rule joined cannot be empty.
   pub nullableHubReturns : (c : Corners) → NullableHubReturns c
-  -- 8, of every sheet that is not refused, and of every substitution.
+  -- 8, of every sheet that is not refused, and of every plan.
   pub bound : (limits : Limits) (c : Corners) (s : Sheet) (stages : List Stage) → Ends limits c s stages → Bound s limits c stages
   pub enoughTurns : (limits : Limits) (c : Corners) (s : Sheet) → valid s ≡ true → EnoughTurns s limits c
-  pub fuelIsBudget : (d : ℕ) (rs : List (RuleOf (Block (suc d)))) (g : Grammar) (cycle : List ℕ) (hub : ℕ) → FuelIsBudget d rs g cycle hub
+  pub fuelIsBudget : (limits : Limits) (c : Corners) (d : ℕ) (rs : List (RuleOf (Block (suc d)))) (g : Grammar) (preserved cycle : List ℕ)
+      → FuelIsBudget limits c d rs g preserved cycle
   -- 9, of every sheet that is not refused.
   pub originsTold : (limits : Limits) (c : Corners) (s : Sheet) (stages : List Stage) → fits s ≡ true → Ends limits c s stages → OriginsTold (entriesOf stages)
   -- 10, of all bytes that hold another unit than a parser's.

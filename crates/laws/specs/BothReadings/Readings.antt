@@ -1,24 +1,23 @@
 -- The two readings of left corners against document 01's words.
 use Prim.Native.Nat.{ℕ, zero, suc}
-use mathlib.Core.Path.{_≡_, refl, sym, ap, _∙_, subst}
+use mathlib.Core.Path.{_≡_, refl, sym, _∙_, subst}
 use mathlib.Core.Logic.{_⊎_, inl, inr, ⊎-elim, ⊎-map}
-use mathlib.Core.List.{List, [], _∷_, _++_, append-assoc, List·Memᴰ, List·Memᴰ·head, List·Memᴰ·tail}
+use mathlib.Core.List.{List, [], _∷_, _++_, List·Memᴰ, List·Memᴰ·head, List·Memᴰ·tail}
 use mathlib.Core.Option.{Option, none, some, Option·none-ne-some}
 use mathlib.Core.Bool.{true, false≢true}
-use Rattle.grammar.specs.Lists.{AllOf}
-use Rattle.grammar.specs.Tree.{ElementHead, Leaf, epsilon, action, predicate, call, token, terminal, Element, leaf, block, AlternativeOf, Block, Rule, bodyDepth, Sheet}
+use Rattle.grammar.specs.Lists.{AllOf, AnyOf}
+use Rattle.grammar.specs.Tree.{Leaf, epsilon, action, predicate, call, token, terminal, Element, leaf, block, AlternativeOf, Block, Rule, bodyDepth, Sheet}
 use Rattle.grammar.specs.Shape.{Shape, callOf, eraseLeaf, eraseElement, eraseBlock, Shapes, find, eraseRules}
 use Rattle.grammar.specs.Derive.{CanBeEmpty}
 use Rattle.grammar.specs.Corners.{Corners, rust, textbook, isMissing, isSymbol, stops, Skippable, Corner, c-call, c-first, c-later, c-left, c-right}
 use Rattle.grammar.specs.Laws.Parse.{either}
 use Rattle.grammar.specs.Laws.Derive.Empty.{symbol-empty, call-empty, quantified-empty}
 use Rattle.grammar.specs.Laws.Derive.Corner.{corner-quantified, symbol-quantified}
-use Rattle.reference.specs.Walks.{isOptional}
 use Rattle.reference.specs.Substitute.{Limits}
 use Rattle.reference.specs.Run.{innerDepth, Stage, ended, eliminateMutualLeftRecursion}
 use Rattle.grammar.specs.Cycles.{LeftCorner, called, inside}
 use Rattle.laws.specs.Analysis.Textbook.{textbook-corner}
-use Rattle.laws.specs.Demands.{Elements, NoCorner, IsSymbol, is-token, is-terminal, is-unknown, PastSymbol, behind-symbol, within-block, NoLeftCorner, OnlyPastSymbols, JoinedShape, Demand3}
+use Rattle.laws.specs.Demands.{Elements, NoCorner, IsSymbol, is-token, is-terminal, is-unknown, IsOptionalSymbol, PastSymbol, NoLeftCorner, OnlyPastSymbols, JoinedShape, Demand3}
 use Rattle.laws.specs.Running.Leaves.{Told}
 use Rattle.laws.specs.Planning.Turns.{Items}
 use Rattle.laws.specs.Planning.Substituted.{shapeOf}
@@ -61,52 +60,28 @@ module _ (G : Shapes) where
     Empties = AllOf (λ e. CanBeEmpty G (eraseElement (eraseBlock d) e))
 
     -- An element that can be empty is looked past, or is a symbol with quantifier 1 to 4.
-    past-element : (e : Element (Block d)) → CanBeEmpty G (eraseElement (eraseBlock d) e)
-        → Skippable rust G (eraseElement (eraseBlock d) e) ⊎ ((h : ElementHead) × (l : Leaf) × (e ≡ leaf h l) × IsSymbol G l × (isOptional h ≡ true))
+    past-element : (e : Element (Block d)) → CanBeEmpty G (eraseElement (eraseBlock d) e) → Skippable rust G (eraseElement (eraseBlock d) e) ⊎ IsOptionalSymbol G e
     unfolding eraseElement stops
     past-element (leaf h l) o =
         either (isSymbol G (eraseElement (eraseBlock d) (leaf h l)))
         (λ t.
         let s = leaf-symbol (h .carried) l (sym (symbol-quantified G (h .quantifier) (eraseLeaf (h .carried) l)) ∙ t) in
-        inr (h, l, refl, s, ⊎-elim (λ p. p) (λ p. absurd (symbol-full (h .carried) l s p)) (quantified-empty (h .quantifier) (eraseLeaf (h .carried) l) .0 o)))
+        inr (s, ⊎-elim (λ p. p) (λ p. absurd (symbol-full (h .carried) l s p)) (quantified-empty (h .quantifier) (eraseLeaf (h .carried) l) .0 o)))
         (λ f. inl (record { empty = o; goesOn = f }))
     past-element (block h b) o =
         either (isSymbol G (eraseElement (eraseBlock d) (block h b)))
         (λ t. absurd (block-symbol d b (sym (symbol-quantified G (h .quantifier) (eraseBlock d b)) ∙ t)))
         (λ f. inl (record { empty = o; goesOn = f }))
 
-    -- Elements that can be empty: all are looked past, or the first symbol among them.
-    pub record Symbol (front : Items d) : Type 0 where
-      pub before : Items d
-      pub head : ElementHead
-      pub leaf-of : Leaf
-      pub behind : Items d
-      pub whole : front ≡ before ++ (leaf head leaf-of ∷ behind)
-      pub empties : Empties before
-      pub rest : Empties behind
-      pub is : IsSymbol G leaf-of
-      pub quantified-so : isOptional head ≡ true
-
-    scan : (front : Items d) → Empties front → AllOf (λ e. Skippable rust G (eraseElement (eraseBlock d) e)) front ⊎ Symbol front
+    -- Elements that can be empty: all are looked past, or there is such a symbol among them.
+    scan : (front : Items d) → Empties front → AllOf (λ e. Skippable rust G (eraseElement (eraseBlock d) e)) front ⊎ AnyOf (IsOptionalSymbol G) front
     scan [] s = inl tt
-    scan (e ∷ front) s =
-        ⊎-elim
-        (λ o.
-        ⊎-map (λ r. (o, r))
-        (λ y. record { before = e ∷ y .before; head = y .head; leaf-of = y .leaf-of; behind = y .behind; whole = ap (λ l. e ∷ l) (y .whole); empties = (s .0, y .empties); rest = y .rest; is = y .is; quantified-so = y .quantified-so })
-        (scan front (s .1)))
-        (λ (h, l, w, i, q). inr (record { before = []; head = h; leaf-of = l; behind = front; whole = ap (λ x. x ∷ front) w; empties = tt; rest = s .1; is = i; quantified-so = q }))
-        (past-element e (s .0))
+    scan (e ∷ front) s = ⊎-elim (λ o. ⊎-map (λ r. (o, r)) inr (scan front (s .1))) (λ p. inr (inl p)) (past-element e (s .0))
 
     rust-behind : (front : Items d) (x : Element (Block d)) (rest : Items d) {n : ℕ} → AllOf (λ e. Skippable rust G (eraseElement (eraseBlock d) e)) front
         → Corner rust G (eraseElement (eraseBlock d) x) n → Corner rust G (shapeOf d (front ++ (x ∷ rest))) n
     rust-behind [] x rest s k = c-first k
     rust-behind (e ∷ front) x rest s k = c-later (s .0) (rust-behind front x rest (s .1) k)
-
-    -- The symbol in front of an element, in the whole.
-    cut : {front es : Items d} (x : Element (Block d)) (rest : Items d) (y : Symbol front) → front ++ (x ∷ rest) ≡ es
-        → y .before ++ (leaf (y .head) (y .leaf-of) ∷ (y .behind ++ (x ∷ rest))) ≡ es
-    cut x rest y w = sym (append-assoc (y .before) (leaf (y .head) (y .leaf-of) ∷ y .behind) (x ∷ rest)) ∙ ap (λ l. l ++ (x ∷ rest)) (sym (y .whole)) ∙ w
 
   one-of : (d : ℕ) {as′ : Block (suc d)} {a : AlternativeOf (Block d)} {n : ℕ} → List·Memᴰ a as′ → Corner rust G (shapeOf d (a .elements)) n → Corner rust G (eraseBlock (suc d) as′) n
   unfolding eraseBlock
@@ -114,21 +89,21 @@ module _ (G : Shapes) where
   one-of d (List·Memᴰ·tail m) k = c-right (one-of d m k)
 
   -- What document 01 finds the Rust finds, or a symbol with quantifier 1 to 4 stands in front.
-  pub found-or-past : {d : ℕ} {es : Items d} {n : ℕ} → LeftCorner G d es n → Corner rust G (shapeOf d es) n ⊎ PastSymbol G d es n
-  unfolding eraseElement eraseLeaf
+  pub found-or-past : {d : ℕ} {es : Items d} {n : ℕ} (k : LeftCorner G d es n) → Corner rust G (shapeOf d es) n ⊎ PastSymbol k
+  unfolding eraseElement eraseLeaf PastSymbol
   found-or-past {d} {es} {n} (called front rest h a w s f) =
       ⊎-map
       (λ o. subst (λ l. Corner rust G (shapeOf d l) n) w (rust-behind d front (leaf h (call n a)) rest o (corner-quantified (h .quantifier) (callOf n) .1 (c-call f))))
-      (λ y. behind-symbol (y .before) (y .behind ++ (leaf h (call n a) ∷ rest)) (y .head) (y .leaf-of) (cut d (leaf h (call n a)) rest y w) (y .empties) (y .is) (y .quantified-so) (called (y .behind) rest h a refl (y .rest) f))
+      (λ y. y)
       (scan d front s)
   found-or-past {es = es} {n = n} (inside {d = d} front rest h b w s m k) =
       ⊎-elim
       (λ c.
       ⊎-map
       (λ o. subst (λ l. Corner rust G (shapeOf (suc d) l) n) w (rust-behind (suc d) front (block h b) rest o (corner-quantified (h .quantifier) (eraseBlock (suc d) b) .1 (one-of d m c))))
-      (λ y. behind-symbol (y .before) (y .behind ++ (block h b ∷ rest)) (y .head) (y .leaf-of) (cut (suc d) (block h b) rest y w) (y .empties) (y .is) (y .quantified-so) (inside (y .behind) rest h b refl (y .rest) m k))
+      inl
       (scan (suc d) front s))
-      (λ p. inr (within-block front rest h b w s m p))
+      (λ p. inr (inr p))
       (found-or-past k)
 
 -- What is left for the Rust's run.

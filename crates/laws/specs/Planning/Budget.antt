@@ -1,16 +1,24 @@
 -- A substitution's fuel is its budget: it ends because no work is left, or declines because the budget is spent and work is
 -- left.
-use Prim.Native.Nat.{ℕ, zero, suc}
-use mathlib.Core.Path.{_≡_, refl, sym, _∙_}
+use Prim.Native.Nat.{ℕ, zero, suc, _%_}
+use mathlib.Core.Path.{_≡_, refl, sym, ap, _∙_, subst}
 use mathlib.Core.List.{List, [], _∷_, _++_}
 use mathlib.Core.Option.{Option, none, some, Option·none-ne-some}
-use mathlib.Core.Bool.{Bool, true, false, not}
+use mathlib.Core.Bool.{Bool, true, false, _&&_, not}
 use native.Mathlib.Omega.{arith}
+use lib.Dec.{eqb}
 use Rattle.grammar.specs.Tree.{AlternativeOf, Block, RuleOf}
+use Rattle.grammar.specs.Ids.{member}
+use Rattle.grammar.specs.Valid.{all}
+use Rattle.grammar.specs.Lists.{keep}
+use Rattle.grammar.specs.Corners.{Corners}
 use Rattle.reference.specs.Analysis.{Grammar, ruleWithId}
-use Rattle.reference.specs.Substitute.{Clause, budget, danglingReference, labelCollision, bindingCollision, optionCollision, Decided, decided, declined, overfull, _andThen_, require, found, decideEach, Limits, PlannedCorner, optional, satellite, blocked, settled, plannedCorner, without, splitOptional, unionOptions, Planned, remainingActionsReference, labelsCollide, implicitBindingsCollide, spliceAlternative, spliceSatellite, isWithin, Substituted, replacement, step, substitute}
-use Rattle.laws.specs.Demands.{Steps, none-left, one-more, FuelIsBudget}
-use Rattle.laws.specs.Planning.Turns.{substituted}
+use Rattle.reference.specs.Substitute.{Clause, noHub, hubWithArguments, satelliteNotInlinable, budget, danglingReference, labelCollision, bindingCollision, optionCollision, noSteps, notDirectlyRewritable, Decided, decided, declined, overfull, _andThen_, require, found, decideEach, Limits, PlannedCorner, optional, satellite, blocked, settled, plannedCorner, without, splitOptional, unionOptions, Planned, remainingActionsReference, labelsCollide, implicitBindingsCollide, spliceAlternative, spliceSatellite, isWithin, Substituted, replacement, step, substitute, substitutionBudget}
+use Rattle.reference.specs.Plan.{chooseHub, satelliteIsInlinable, plannedHubIsDirectlyRewritable, asTheyAre, planCycle}
+use Rattle.laws.specs.Demands.{Steps, none-left, one-more, Spent, FuelIsBudget}
+use Rattle.laws.specs.Lists.Lookup.{rule-with-id}
+use Rattle.laws.specs.Planning.Turns.{found-decided}
+use Rattle.laws.specs.Planning.Plans.{lastTests, substituting, inlinable, withRule, withHub, plan-finished}
 
 -- What is not declined for the budget.
 abbrev Fine : {A : Type 0} → Decided A → Type 0
@@ -113,11 +121,44 @@ module _ (d : ℕ) where
         go (some (declined c)) k p f ih = absurd (p (cc))
         go (some overfull) k p f ih = absurd (let z : _≡_ {A = ℕ} 0 1 = cc in omega arith)
 
-    pub fuel-is-budget : FuelIsBudget d rs g cycle hub
-    fuel-is-budget =
-        record {
-          finished = λ limits left made ps m e.
-              let x = substituted d rs g cycle hub limits left made ps m e in
-              (x .count, x .path, x .settled, x .steps, x .within);
-          spent = spent;
-        }
+then-fine : {A B : Type 0} (x : Decided A) (f : A → Decided B) → Fine x → (x andThen f) ≡ declined budget → (a : A) × (x ≡ decided a) × (f a ≡ declined budget)
+then-fine (decided a) f p e = (a, refl, e)
+then-fine (declined c) f p e = absurd (p (cc))
+then-fine overfull f p e = absurd (let z : _≡_ {A = ℕ} 0 1 = cc in omega arith)
+
+require-fine : {A : Type 0} (c : Clause) (t : Bool) (f : Unit {0} → Decided A) → (c ≡ budget → ⊥) → require c t f ≡ declined budget → f tt ≡ declined budget
+require-fine c true f p e = e
+require-fine c false f p e = absurd (p (cc))
+
+-- Where nothing behind it is declined for the budget, the first part is.
+first-spent : {A B : Type 0} (x : Decided A) (f : A → Decided B) → ((a : A) → Fine (f a)) → (x andThen f) ≡ declined budget → x ≡ declined budget
+first-spent (decided a) f h e = absurd (not-fine (f a) (h a) e)
+  where
+    not-fine : {B : Type 0} (x : Decided B) → Fine x → x ≡ declined budget → ⊥
+    not-fine (decided b) p e = let z : _≡_ {A = ℕ} 0 1 = cc in omega arith
+    not-fine (declined c) p e = p (cc)
+    not-fine overfull p e = let z : _≡_ {A = ℕ} 0 1 = cc in omega arith
+first-spent (declined c) f h e = cc
+first-spent overfull f h e = absurd (let z : _≡_ {A = ℕ} 0 1 = cc in omega arith)
+
+module _ (limits : Limits) (c : Corners) (d : ℕ) (rs : List (RuleOf (Block (suc d)))) (g : Grammar) (preserved cycle : List ℕ) where
+  tests-fine : (hub : ℕ) (m : Substituted d) → Fine (lastTests c d rs g preserved cycle limits hub m)
+  tests-fine hub m =
+      fine-require noSteps (not (eqb (m .steps) 0)) _ (differs (λ e. cc))
+      (fine-require notDirectlyRewritable (plannedHubIsDirectlyRewritable c g cycle hub d (m .alternatives)) _ (differs (λ e. cc)) tt)
+
+  plan-spent : planCycle limits c g d rs preserved cycle ≡ declined budget → Spent limits c d rs g preserved cycle
+  unfolding planCycle substitutionBudget
+  plan-spent e =
+      let (hub, k, f) = then-fine (found noHub (chooseHub g cycle d rs preserved)) (withHub c d rs g preserved cycle limits) (fine-found noHub (chooseHub g cycle d rs preserved) (differs (λ e. cc))) e in
+      let (r, l, u) = then-fine (found noHub (ruleWithId rs hub)) (withRule c d rs g preserved cycle limits hub) (fine-found noHub (ruleWithId rs hub) (differs (λ e. cc))) f in
+      let x = rule-with-id rs hub (found-decided noHub (ruleWithId rs hub) l) in
+      let a = require-fine hubWithArguments (eqb (r .flags % 2) 0) (λ _. inlinable c d rs g preserved cycle limits hub r) (differs (λ e. cc)) u in
+      let b = require-fine satelliteNotInlinable (all (satelliteIsInlinable d) (keep (λ s. member (s .id) cycle && not (eqb (s .id) hub)) rs)) (λ _. substituting c d rs g preserved cycle limits hub r) (differs (λ e. cc)) a in
+      let w = first-spent (substitute d rs g cycle hub limits (substitutionBudget d limits rs cycle) 0 (asTheyAre (r .body))) (lastTests c d rs g preserved cycle limits hub) (tests-fine hub) b in
+      let (qs, path, more) = spent d rs g cycle (r .id) limits (substitutionBudget d limits rs cycle) 0 (asTheyAre (r .body))
+      (subst (λ i. substitute d rs g cycle i limits (substitutionBudget d limits rs cycle) 0 (asTheyAre (r .body)) ≡ declined budget) (sym (x .1)) w) in
+      record { hub = r; isRule = x .0; isHub = found-decided noHub (chooseHub g cycle d rs preserved) k ∙ ap some (sym (x .1)); left = qs; path = path; unsettled = more }
+
+  pub fuel-is-budget : FuelIsBudget limits c d rs g preserved cycle
+  fuel-is-budget = record { finished = plan-finished c d rs g preserved cycle limits; spent = plan-spent }

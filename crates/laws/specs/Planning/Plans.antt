@@ -1,6 +1,6 @@
 -- What a decided plan was made from.
-use Prim.Native.Nat.{ℕ, suc, _%_}
-use mathlib.Core.Path.{_≡_, refl, sym, _∙_, subst}
+use Prim.Native.Nat.{ℕ, suc, _%_, _≤_}
+use mathlib.Core.Path.{_≡_, refl, sym, ap, _∙_, subst}
 use mathlib.Core.List.{List, _++_, List·Memᴰ}
 use mathlib.Core.Option.{Option, none, some}
 use mathlib.Core.Bool.{true, _&&_, not}
@@ -13,9 +13,9 @@ use Rattle.grammar.specs.Valid.{all}
 use Rattle.grammar.specs.Lists.{keep, first}
 use Rattle.grammar.specs.Corners.{Corners}
 use Rattle.reference.specs.Analysis.{Grammar, ruleWithId}
-use Rattle.reference.specs.Substitute.{noHub, hubWithArguments, satelliteNotInlinable, noSteps, notDirectlyRewritable, Decided, decided, _andThen_, require, found, Limits, Substituted, substitute, substitutionBudget}
+use Rattle.reference.specs.Substitute.{noHub, hubWithArguments, satelliteNotInlinable, noSteps, notDirectlyRewritable, Decided, decided, _andThen_, require, found, Limits, Substituted, step, substitute, substitutionBudget}
 use Rattle.reference.specs.Plan.{externallyReferenced, isCandidate, chooseHub, satelliteIsInlinable, plannedHubIsDirectlyRewritable, removableSatellites, CyclePlan, asTheyAre, planCycle}
-use Rattle.laws.specs.Demands.{Steps}
+use Rattle.laws.specs.Demands.{Steps, Finished}
 use Rattle.laws.specs.Lists.Members.{in-keep}
 use Rattle.laws.specs.Lists.Lookup.{first-some, rule-with-id}
 use Rattle.laws.specs.Planning.Turns.{then-decided, require-decided, found-decided, itemsOf, Moves, steps-move, substituted}
@@ -73,9 +73,18 @@ module _ (c : Corners) (d : ℕ) (rs : List (RuleOf (Block (suc d)))) (g : Gramm
         let y = require-decided notDirectlyRewritable (plannedHubIsDirectlyRewritable c g cycle hub d (made .alternatives)) _ (x .1) in
         (eqb-false (made .steps) 0 (not-true (eqb (made .steps) 0) (x .0)), y .0, cc)
 
-    pub plan-made : (plan : CyclePlan d) → planCycle limits c g d rs preserved cycle ≡ decided plan → Made plan
+    -- The hub that was chosen, what substitution made of its alternatives, and the tests behind it.
+    pub record PlannedFrom (plan : CyclePlan d) : Type 0 where
+      pub hub : RuleOf (Block (suc d))
+      pub isRule : List·Memᴰ hub rs
+      pub isChosen : chooseHub g cycle d rs preserved ≡ some (hub .id)
+      pub outcome : Substituted d
+      pub isMade : substitute d rs g cycle (hub .id) limits (substitutionBudget d limits rs cycle) 0 (asTheyAre (hub .body)) ≡ decided outcome
+      pub isTested : lastTests (hub .id) outcome ≡ decided plan
+
+    pub plan-from : (plan : CyclePlan d) → planCycle limits c g d rs preserved cycle ≡ decided plan → PlannedFrom plan
     unfolding planCycle
-    plan-made plan e =
+    plan-from plan e =
         let h = then-decided {f = withHub} (found noHub (chooseHub g cycle d rs preserved)) e in
         let hub = h .0 in
         let r = then-decided {f = withRule hub} (found noHub (ruleWithId rs hub)) (h .2) in
@@ -83,19 +92,37 @@ module _ (c : Corners) (d : ℕ) (rs : List (RuleOf (Block (suc d)))) (g : Gramm
         let a = require-decided hubWithArguments (eqb (r .0 .flags % 2) 0) (λ _. inlinable hub (r .0)) (r .2) in
         let b = require-decided satelliteNotInlinable (all (satelliteIsInlinable d) (keep (λ s. member (s .id) cycle && not (eqb (s .id) hub)) rs)) (λ _. substituting hub (r .0)) (a .1) in
         let s = then-decided {f = lastTests hub} (substitute d rs g cycle hub limits (substitutionBudget d limits rs cycle) 0 (asTheyAre (r .0 .body))) (b .1) in
-        made (r .0) (x .0) (subst (λ i. List·Memᴰ i cycle) (sym (x .1)) (chosen hub (found-decided noHub (chooseHub g cycle d rs preserved) (h .1))))
-        (s .0)
-        (subst (λ i. substitute d rs g cycle i limits (substitutionBudget d limits rs cycle) 0 (asTheyAre (r .0 .body)) ≡ decided (s .0)) (sym (x .1)) (s .1))
-        plan
-        (subst (λ i. lastTests i (s .0) ≡ decided plan) (sym (x .1)) (s .2))
-      where
-        made : (hub : RuleOf (Block (suc d))) → List·Memᴰ hub rs → List·Memᴰ (hub .id) cycle → (m : Substituted d)
-            → substitute d rs g cycle (hub .id) limits (substitutionBudget d limits rs cycle) 0 (asTheyAre (hub .body)) ≡ decided m
-            → (plan : CyclePlan d) → lastTests (hub .id) m ≡ decided plan → Made plan
-        made hub i j m s plan t =
-            let x = last-tests (hub .id) m plan t in
-            let y = substituted d rs g cycle (hub .id) limits (substitutionBudget d limits rs cycle) 0 (asTheyAre (hub .body)) m s in
-            let path : Steps d rs g cycle (hub .id) (m .steps) (asTheyAre (hub .body)) (m .alternatives) =
-            subst (λ n. Steps d rs g cycle (hub .id) n (asTheyAre (hub .body)) (m .alternatives)) (let q : y .count ≡ m .steps = omega (arith, y .steps) in q) (y .path) in
-            subst Made (x .2)
-            (record { hub = hub; isRule = i; isHub = refl; inCycle = j; path = path; moves = steps-move d rs g cycle (hub .id) path; someSteps = x .0; isFit = x .1; removed = refl })
+        record {
+          hub = r .0;
+          isRule = x .0;
+          isChosen = found-decided noHub (chooseHub g cycle d rs preserved) (h .1) ∙ ap some (sym (x .1));
+          outcome = s .0;
+          isMade = subst (λ i. substitute d rs g cycle i limits (substitutionBudget d limits rs cycle) 0 (asTheyAre (r .0 .body)) ≡ decided (s .0)) (sym (x .1)) (s .1);
+          isTested = subst (λ i. lastTests i (s .0) ≡ decided plan) (sym (x .1)) (s .2);
+        }
+
+    -- Its steps, to where no work is left, within the budget.
+    made-by : {plan : CyclePlan d} (p : PlannedFrom plan)
+        → Steps d rs g cycle (p .hub .id) (p .outcome .steps) (asTheyAre (p .hub .body)) (p .outcome .alternatives)
+        × (step d rs g cycle (p .hub .id) (p .outcome .alternatives) ≡ none) × (p .outcome .steps ≤ substitutionBudget d limits rs cycle)
+    made-by p =
+        let y = substituted d rs g cycle (p .hub .id) limits (substitutionBudget d limits rs cycle) 0 (asTheyAre (p .hub .body)) (p .outcome) (p .isMade) in
+        let q : y .count ≡ p .outcome .steps = omega (arith, y .steps) in
+        (subst (λ n. Steps d rs g cycle (p .hub .id) n (asTheyAre (p .hub .body)) (p .outcome .alternatives)) q (y .path), y .settled, subst (λ n. n ≤ substitutionBudget d limits rs cycle) q (y .within))
+
+    pub plan-made : (plan : CyclePlan d) → planCycle limits c g d rs preserved cycle ≡ decided plan → Made plan
+    plan-made plan e =
+        let p = plan-from plan e in
+        let (fewest, fit, whole) = last-tests (p .hub .id) (p .outcome) plan (p .isTested) in
+        let path = made-by p .0 in
+        subst Made whole
+        (record { hub = p .hub; isRule = p .isRule; isHub = refl; inCycle = chosen (p .hub .id) (p .isChosen); path = path; moves = steps-move d rs g cycle (p .hub .id) path; someSteps = fewest; isFit = fit; removed = refl })
+
+    pub plan-finished : (plan : CyclePlan d) → planCycle limits c g d rs preserved cycle ≡ decided plan → Finished limits c d rs g preserved cycle plan
+    unfolding substitutionBudget
+    plan-finished plan e =
+        let p = plan-from plan e in
+        let (fewest, fit, whole) = last-tests (p .hub .id) (p .outcome) plan (p .isTested) in
+        let (path, settled, within) = made-by p in
+        subst (Finished limits c d rs g preserved cycle) whole
+        (record { hub = p .hub; isRule = p .isRule; isHub = refl; path = path; settled = settled; someSteps = fewest; within = within })

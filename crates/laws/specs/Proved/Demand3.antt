@@ -17,7 +17,7 @@ use Rattle.reference.specs.Run.{innerDepth, Stage, ended, Search, noPlan, plann
 use Rattle.laws.specs.Demands.{SameStrings, Closed, NoCorner, NoLaterCycle, Joins, rulesOf, Demand3, Bound, EnoughTurns}
 use Rattle.laws.specs.Lists.Few.{no-more}
 use Rattle.laws.specs.Running.Leaves.{Told, Leaves, leaves-derives}
-use Rattle.laws.specs.Running.Stages.{rulesAfter, sheet-after, rules-append, stage-cycle, Happened, Chain, next, chain-leaves, chain-front, chain-behind, Rest, applying, turn, turns-once, stages-chain, run-ends, sheet-ends}
+use Rattle.laws.specs.Running.Stages.{rulesAfter, sheet-after, rules-append, every-cycle-declined, stage-cycle, Happened, Chain, next, chain-leaves, chain-front, chain-behind, Rest, applying, turn, turns-once, stages-chain, run-ends, sheet-ends}
 use Rattle.laws.specs.Running.OneStage.{stage-shape}
 use Rattle.laws.specs.Running.Later.{hub-in-cycle, no-later}
 use Rattle.laws.specs.Running.Once.{follows-all, follows-here, hubs-distinct, hubs-rules}
@@ -168,6 +168,6 @@ module _ (limits : Limits) (corners : Corners) (s : Sheet) (told : Told (s .rule
         once = hubs-distinct limits corners (s .preserved) told chain;
         few = chain-few limits corners (s .preserved) told chain;
         ended = λ k.
-            ⊎-elim (λ p. ap (findPlan limits corners (s .preserved)) (sheet-after s ts) ∙ p) (λ l. absurd (let h = chain-few limits corners (s .preserved) told chain in omega arith))
+            ⊎-elim (λ p. every-cycle-declined limits corners (s .preserved) (rulesOf s ts) (ap (findPlan limits corners (s .preserved)) (sheet-after s ts) ∙ p)) (λ l. absurd (let h = chain-few limits corners (s .preserved) told chain in omega arith))
             (sheet-ends limits corners s ts run .1 k);
       }

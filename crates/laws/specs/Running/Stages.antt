@@ -2,7 +2,7 @@
 use Prim.Native.Nat.{ℕ, zero, suc, _+_}
 use mathlib.Core.Path.{_≡_, refl, sym, ap, _∙_, subst}
 use mathlib.Core.Logic.{_⊎_, inl, inr, ⊎-map}
-use mathlib.Core.List.{List, [], _∷_, _++_, List·Memᴰ, List·Memᴰ·head, List·Memᴰ·tail}
+use mathlib.Core.List.{List, [], _∷_, _++_, List·Memᴰ, List·Memᴰ·head, List·Memᴰ·tail, List·Memᴰ·not-nil}
 use mathlib.Core.Bool.{true}
 use native.Mathlib.Omega.{arith}
 use lib.ListN.{length}
@@ -15,10 +15,11 @@ use Rattle.grammar.specs.Corners.{Corners}
 use Rattle.grammar.specs.Laws.Parse.{left-true, right-true, either}
 use Rattle.grammar.specs.Laws.Whole.{valid-parts}
 use Rattle.reference.specs.Analysis.{Grammar, grammarOf, leftCornerCycles}
-use Rattle.reference.specs.Substitute.{Limits, Decided, decided, declined, overfull}
+use Rattle.reference.specs.Substitute.{Limits, Clause, Decided, decided, declined, overfull}
 use Rattle.reference.specs.Plan.{CyclePlan, planCycle}
 use Rattle.reference.specs.Apply.{applyPlan}
 use Rattle.reference.specs.Run.{innerDepth, Stage, Search, noPlan, planned, tooLarge, Run, ended, stopped, preceded, searchCycles, findPlan, sheetWith, refusalOf, eliminateInUnit, eliminateMutualLeftRecursion, sheetAfter}
+use Rattle.laws.specs.Demands.{EveryCycleDeclined}
 use Rattle.laws.specs.Planning.Substituted.{Known}
 use Rattle.laws.specs.Planning.Plans.{Made, plan-made}
 use Rattle.laws.specs.Running.Leaves.{Told, Leaves, leaves-refl, leaves-trans, plan-leaves}
@@ -72,6 +73,27 @@ module _ (limits : Limits) (corners : Corners) (preserved : List ℕ) where
           (List·Memᴰ·head (sym a), subst (λ c. planCycle limits corners g innerDepth rs preserved c ≡ decided plan) a (k ∙ ap decided b))
       go (declined y) k f ih = let r = ih f in (List·Memᴰ·tail (r .0), r .1)
       go overfull k f ih = absurd (let z : _≡_ {A = ℕ} 0 1 = cc in omega arith)
+
+  -- Where no plan was found, every cycle was declined.
+  all-declined : (g : Grammar) (rs : List Rule) (cycles : List (List ℕ)) → searchCycles limits corners preserved g rs cycles ≡ noPlan
+      → (cycle : List ℕ) → List·Memᴰ cycle cycles → (c : Clause) × (planCycle limits corners g innerDepth rs preserved cycle ≡ declined c)
+  unfolding searchCycles
+  all-declined g rs [] e cycle m = absurd (List·Memᴰ·not-nil m)
+  all-declined g rs (x ∷ cycles) e cycle m = go (planCycle limits corners g innerDepth rs preserved x) refl e m (all-declined g rs cycles)
+    where
+      go : (o : Decided (CyclePlan innerDepth)) → planCycle limits corners g innerDepth rs preserved x ≡ o
+          → (elim o as (λ x. Search) [ decided plan ↦ planned x plan | declined y ↦ searchCycles limits corners preserved g rs cycles | overfull ↦ tooLarge ]) ≡ noPlan
+          → List·Memᴰ cycle (x ∷ cycles)
+          → (searchCycles limits corners preserved g rs cycles ≡ noPlan → (cycle : List ℕ) → List·Memᴰ cycle cycles → (c : Clause) × (planCycle limits corners g innerDepth rs preserved cycle ≡ declined c))
+          → (c : Clause) × (planCycle limits corners g innerDepth rs preserved cycle ≡ declined c)
+      go (decided p) k f n ih = absurd (let z : _≡_ {A = ℕ} 0 1 = cc in omega arith)
+      go (declined y) k f (List·Memᴰ·head h) ih = (y, subst (λ c. planCycle limits corners g innerDepth rs preserved c ≡ declined y) (sym h) k)
+      go (declined y) k f (List·Memᴰ·tail n) ih = ih f cycle n
+      go overfull k f n ih = absurd (let z : _≡_ {A = ℕ} 0 1 = cc in omega arith)
+
+  pub every-cycle-declined : (rs : List Rule) → findPlan limits corners preserved rs ≡ noPlan → EveryCycleDeclined limits corners preserved rs
+  unfolding findPlan
+  every-cycle-declined rs e = all-declined (grammarOf bodyDepth rs) rs (leftCornerCycles corners (grammarOf bodyDepth rs) bodyDepth rs) e
 
   -- A stage of the run: the plan was found in the grammar before, and applied.
   pub record Happened (t : Stage) : Type 0 where
