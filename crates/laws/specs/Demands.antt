@@ -5,10 +5,11 @@ use mathlib.Core.Path.{_≡_}
 use mathlib.Core.Logic.{_↔_, _⊎_}
 use mathlib.Core.List.{List, [], _∷_, _++_, map, List·Memᴰ}
 use mathlib.Core.Option.{some, none}
-use mathlib.Core.Bool.{true, false}
+use mathlib.Core.Bool.{true, false, not}
 use lib.ListN.{length, getD}
-use Rattle.grammar.specs.Lists.{keep, total, AllOf, AnyOf}
-use Rattle.grammar.specs.Tree.{unlabelled, ElementHead, Element, leaf, block, call, Block, RuleOf, Sheet, Leaf, token, terminal, Alternative, Rule, bodyDepth}
+use lib.Dec.{eqb}
+use Rattle.grammar.specs.Lists.{push, keep, total, AllOf, AnyOf}
+use Rattle.grammar.specs.Tree.{ElementHead, Element, leaf, block, call, AlternativeOf, Block, RuleOf, Sheet, Leaf, token, terminal, Alternative, Rule, bodyDepth}
 use Rattle.grammar.specs.Words.{words, bytes}
 use Rattle.grammar.specs.Encode.{encode, each}
 use Rattle.grammar.specs.Ids.{member, distinct}
@@ -19,11 +20,12 @@ use Rattle.grammar.specs.Derive.{CanBeEmpty, RuleDerives, isKept, isRemoved}
 use Rattle.grammar.specs.Corners.{Corners, rust, textbook, Corner}
 use Rattle.grammar.specs.Cycles.{LeftCorner, called, inside, CornerRule, RuleReaches, IsLargest}
 use Rattle.reference.specs.Analysis.{elementNullable, blockIsNullable, nullableRules, grammarOf, leftCorners, blockCorners, leftCornerCycles, Grammar}
-use Rattle.reference.specs.Substitute.{Clause, Limits, standard, Planned, decided, declined, budget, step}
-use Rattle.reference.specs.Apply.{Entry, Node, Origin, Origins, origins, provenance}
+use Rattle.reference.specs.Substitute.{Clause, Limits, standard, PlannedAlternative, Planned, decided, declined, budget, step}
+use Rattle.reference.specs.Apply.{Entry, boundary, Node, Origin, Origins, origins, provenance}
 use Rattle.reference.specs.Plan.{chooseHub, CyclePlan, asTheyAre, planCycle}
 use Rattle.reference.specs.Run.{innerDepth, Stage, ended, sheetWith, eliminateInUnit, eliminateMutualLeftRecursion, sheetAfter, stepsOf, encodeEntry, entriesOf, answer, answerTo, filled, areLent, outcome}
 use Rattle.reference.specs.Walks.{isOptional}
+use Rattle.laws.specs.Examples.{parting, behindName, parted, returning, returned}
 
 -- 1. "What derives the empty string can be empty." The definition's tests, in the grammar of some rules, are this.
 pub record EmptyDerivation (d : ℕ) (rs : List (RuleOf (Block d))) : Type 0 where
@@ -34,7 +36,8 @@ pub record EmptyDerivation (d : ℕ) (rs : List (RuleOf (Block d))) : Type 0 whe
       → (all (elementNullable (grammarOf d rs) (blockIsNullable (grammarOf d rs) k)) es ≡ true) ↔ CanBeEmpty (eraseRules d rs) (eraseElements (eraseBlock k) es)
   pub ofBlock : (k : ℕ) (b : Block k) → (blockIsNullable (grammarOf d rs) k b ≡ true) ↔ CanBeEmpty (eraseRules d rs) (eraseBlock k b)
 
--- 2. collectLeftCornerCalls lists the left corners and nothing else, in each reading.
+-- 2. "Its left corners are found where every element in front can be empty: the rule called there, or a left corner of an
+-- alternative of the block there." collectLeftCornerCalls lists these and nothing else, in each reading.
 pub record LeftCornersListed (c : Corners) (d : ℕ) (rs : List (RuleOf (Block d))) : Type 0 where
   pub ofAlternative : (k : ℕ) (es : List (Element (Block k))) (i : ℕ)
       → (member i (leftCorners c (grammarOf d rs) k es) ≡ true) ↔ CornerRule c d rs (eraseElements (eraseBlock k) es) i
@@ -188,6 +191,12 @@ module _ (s : Sheet) where
     pub more : s .kind ≡ 2 → (turns : ℕ)
         → eliminateInUnit limits corners (s .kind) (s .preserved) (turns + suc (length (s .rules))) (s .rules) (s .counters) 0 ≡ eliminateMutualLeftRecursion limits corners s
 
+  -- "The preserved list is copied", and no rule in it is removed: "a preserved: [..] a stays."
+  pub record PreservedStay (stages : List Stage) : Type 0 where
+    pub kind : sheetAfter s stages .kind ≡ s .kind
+    pub copied : sheetAfter s stages .preserved ≡ s .preserved
+    pub stay : (i : ℕ) → member i (s .preserved) ≡ true → isRemoved (s .rules) (rulesOf stages) i ≡ false
+
 -- Steps of a substitution, one after the other.
 module _ (d : ℕ) (rs : List (RuleOf (Block (suc d)))) (g : Grammar) (cycle : List ℕ) (hub : ℕ) where
   pub data Steps : ℕ → List (Planned d) → List (Planned d) → Type 0 where
@@ -235,8 +244,9 @@ abbrev pub originOf : Entry → Origin
 originOf e = record { reason = e .reason; owner = ownerOf e }
 
 -- "An element's list in the Rust is its owner's list, then its own entry; so for all of reason 2." For reason 1 it is the
--- entry, once, however often it was recorded.
+-- entry, once, however often it was recorded. There is no other reason.
 pub record Traced (index : List Origins) (e : Entry) : Type 0 where
+  pub isReason : (e .reason ≡ 1) ⊎ (e .reason ≡ 2)
   pub copied : e .reason ≡ 2 → origins index (nodeOf e) ≡ origins index (ownerOf e) ++ (originOf e ∷ [])
   pub bounded : e .reason ≡ 1 → origins index (nodeOf e) ≡ originOf e ∷ []
 
@@ -244,6 +254,17 @@ pub record Traced (index : List Origins) (e : Entry) : Type 0 where
 pub record OriginsTold (trail : List Entry) : Type 0 where
   pub recorded : (e : Entry) → List·Memᴰ e trail → Traced (provenance trail) e
   pub others : (n : Node) → ((e : Entry) → List·Memᴰ e trail → nodeOf e ≡ n → ⊥) → origins (provenance trail) n ≡ []
+
+-- Reason 1 has each alternative of the hub that is new, so that none inherits its origin's list, and the hub: "The hub's
+-- entry closes its plan." All other entries are of copies.
+abbrev pub newOnes : {B : Type 0} → List (PlannedAlternative B) → List (AlternativeOf B) → List Entry
+newOnes [] as′ = []
+newOnes (p ∷ ps) [] = []
+newOnes (p ∷ ps) (a ∷ as′) = push (not (p .verbatim)) (boundary 2 (a .id) (p .origin)) (newOnes ps as′)
+
+pub record BoundariesTold (t : Stage) : Type 0 where
+  pub are : (q : Rule) → List·Memᴰ q (t .after .node) → q .id ≡ t .plan .hub
+      → keep (λ e. eqb (e .reason) 1) (t .after .entries) ≡ newOnes (t .plan .alternatives) (q .body) ++ (boundary 1 (t .plan .hub) (t .plan .hub) ∷ [])
 
 -- 10. "Lexer and combined units have no plans": they come back word for word, byte for byte.
 pub record ComesBack (limits : Limits) (c : Corners) (bs : List ℕ) : Type 0 where
@@ -282,43 +303,9 @@ pub record Answered (limits : Limits) (corners : Corners) (bs : List ℕ) (plans
   pub originsTold : OriginsTold (entriesOf stages)
   pub good : GoodAnswer result trail
 
--- Two sheets, of elements, alternatives and rules with nothing beside what is written here.
-abbrev pub element : (id quantifier : ℕ) → Leaf → Element (Block innerDepth)
-element i q l = leaf (record { id = i; carried = 0; quantifier = q; label = unlabelled; options = [] }) l
-
-abbrev pub alternative : (id : ℕ) → Elements → Alternative
-alternative i es = record { id = i; carried = 0; flag = 0; options = []; elements = es }
-
-abbrev pub rule : (id name : ℕ) → List Alternative → Rule
-rule i n as′ = record { id = i; name = n; flags = 0; body = as′ }
-
-abbrev pub unit : (nextAlternative nextElement : ℕ) → List Rule → Sheet
-unit a e rs = record { kind = 2; rules = rs; preserved = []; counters = record { alternative = a; element = e; label = 0; action = 0; predicate = 0 } }
-
--- e: a | INT; a: e PLUS | NAME? e MINUS; where e is 1, a 2, INT 3, PLUS 4, NAME 5, MINUS 6.
-abbrev pub parting : Sheet
-parting =
-    unit 14 27
-    (rule 1 1 (alternative 10 (element 20 0 (call 2 0) ∷ []) ∷ alternative 11 (element 21 0 (token 3) ∷ []) ∷ [])
-    ∷ rule 2 2
-    (alternative 12 (element 22 0 (call 1 0) ∷ element 23 0 (token 4) ∷ [])
-    ∷ alternative 13 (element 24 1 (token 5) ∷ element 25 0 (call 1 0) ∷ element 26 0 (token 6) ∷ [])
-    ∷ [])
-    ∷ [])
-
--- NAME? e MINUS
-abbrev pub behindName : Elements
-behindName = element 29 1 (token 5) ∷ element 30 0 (call 1 0) ∷ element 31 0 (token 6) ∷ []
-
--- e: e PLUS | NAME? e MINUS | INT;
-abbrev pub parted : List Rule
-parted =
-    rule 1 1
-    (alternative 14 (element 27 0 (call 1 0) ∷ element 28 0 (token 4) ∷ []) ∷ alternative 15 behindName ∷ alternative 11 (element 21 0 (token 3) ∷ []) ∷ [])
-    ∷ []
-
--- For the Rust's reading no more can be had than `OnlyPastSymbols`: its answer to the first sheet has the left corner e,
--- which is in the cycle replaced, so it has not demand 3 by the textbook's left corners. By these, the cycle has no plan.
+-- For the Rust's reading no more can be had than `OnlyPastSymbols`: of `e: a | INT; a: e PLUS | NAME? e MINUS;` it makes
+-- `e: e PLUS | NAME? e MINUS | INT;`, where e is a left corner behind NAME?, and e is in the cycle replaced. So this has
+-- not demand 3 by the textbook's left corners. By these, the cycle has no plan.
 pub record NoMoreOfRust : Type 0 where
   pub isValid : valid parting ≡ true
   pub stages : List Stage
@@ -328,27 +315,8 @@ pub record NoMoreOfRust : Type 0 where
   pub notWhole : Demand3 parting rust NoLeftCorner stages → ⊥
   pub byTextbook : eliminateMutualLeftRecursion standard textbook parting ≡ ended []
 
--- e: a | .?; a: e a; with 61 words the smallest on which a nullable hub stands in a later cycle. A hub has an alternative
--- that is settled outside the cycle and one that is not, and its satellite one; hub and satellite call each other. The
--- first has something significant, so it has no less than `.?`. The hub comes into a later cycle only by a call behind its
--- own in front, which is a third call.
-abbrev pub returning : Sheet
-returning =
-    unit 13 24
-    (rule 1 1 (alternative 10 (element 20 0 (call 2 0) ∷ []) ∷ alternative 11 (element 21 1 terminal ∷ []) ∷ [])
-    ∷ rule 2 2 (alternative 12 (element 22 0 (call 1 0) ∷ element 23 0 (call 2 0) ∷ []) ∷ [])
-    ∷ [])
-
--- e: e a | .?; a: e a;
-abbrev pub returned : List Rule
-returned =
-    rule 1 1
-    (alternative 13 (element 24 0 (call 1 0) ∷ element 25 0 (call 2 0) ∷ []) ∷ alternative 11 (element 21 1 terminal ∷ []) ∷ [])
-    ∷ rule 2 2 (alternative 12 (element 22 0 (call 1 0) ∷ element 23 0 (call 2 0) ∷ []) ∷ [])
-    ∷ []
-
--- There e is joined, can be empty, and stands in a cycle of what its plan leaves, in either reading: the condition of
--- `NoLaterCycle` is needed.
+-- The condition of `NoLaterCycle` is needed: in `e: a | .?; a: e a;` e is joined, can be empty, and stands in a cycle of
+-- what its plan leaves, in either reading. No smaller sheet shows it.
 pub record NullableHubReturns (corners : Corners) : Type 0 where
   pub isValid : valid returning ≡ true
   pub stages : List Stage
@@ -391,8 +359,10 @@ pub record Theorems : Type 0 where
   pub enoughTurns : (limits : Limits) (c : Corners) (s : Sheet) → valid s ≡ true → EnoughTurns s limits c
   pub fuelIsBudget : (limits : Limits) (c : Corners) (d : ℕ) (rs : List (RuleOf (Block (suc d)))) (g : Grammar) (preserved cycle : List ℕ)
       → FuelIsBudget limits c d rs g preserved cycle
+  pub preservedStay : (limits : Limits) (c : Corners) (s : Sheet) (stages : List Stage) → Ends limits c s stages → PreservedStay s stages
   -- 9, of every sheet that is not refused.
   pub originsTold : (limits : Limits) (c : Corners) (s : Sheet) (stages : List Stage) → fits s ≡ true → Ends limits c s stages → OriginsTold (entriesOf stages)
+  pub boundariesTold : (limits : Limits) (c : Corners) (s : Sheet) (stages : List Stage) → Ends limits c s stages → (t : Stage) → List·Memᴰ t stages → BoundariesTold t
   -- 10, of all bytes that hold another unit than a parser's.
   pub comesBack : (limits : Limits) (c : Corners) (bs : List ℕ) → AreBytes bs → (s : Sheet) → read bs ≡ sheet s → (s .kind ≡ 2 → ⊥) → ComesBack limits c bs
   -- 11, of the result and of every grammar on the way.

@@ -1,3 +1,4 @@
+pub mod Examples
 pub mod Demands
 pub mod Lists
 pub mod Analysis

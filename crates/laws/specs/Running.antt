@@ -6,3 +6,4 @@ pub mod Joined
 pub mod Shrinks
 pub mod Later
 pub mod Once
+pub mod Preserved

@@ -24,7 +24,8 @@ use Rattle.reference.specs.Run
 use Rattle.reference.specs.Analysis.{grammarOf, leftCornerCycles}
 use Rattle.reference.specs.Substitute.{standard}
 use Rattle.reference.specs.Run.{innerDepth, Stage, Run, ended, stopped, eliminateMutualLeftRecursion}
-use Rattle.laws.specs.Demands.{Continues, NoLeftCorner, JoinedShape, rulesOf, element, alternative, rule, parting, behindName, parted, NoMoreOfRust, returning, returned, NullableHubReturns}
+use Rattle.laws.specs.Examples.{element, alternative, rule, parting, behindName, parted, returning, returned}
+use Rattle.laws.specs.Demands.{Continues, NoLeftCorner, JoinedShape, rulesOf, NoMoreOfRust, NullableHubReturns}
 
 abbrev pub stagesOf : Run → List Stage
 stagesOf (ended ts) = ts

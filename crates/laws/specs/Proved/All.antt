@@ -6,7 +6,7 @@ use Rattle.laws.specs.BothReadings.Readings.{demand3-textbook, demand3-r
 use Rattle.laws.specs.BothReadings.SameRun.{outcome-same}
 use Rattle.laws.specs.BothReadings.Sheets.{no-more-of-rust, nullable-hub-returns}
 use Rattle.laws.specs.Proved.Analysis.{sheet-empty, sheet-corners, textbook-corners, sheet-cycles, origins-told, result-reads-back, stage-reads-back, other-units}
-use Rattle.laws.specs.Proved.Demand3.{enough-turns, demand3, bound}
+use Rattle.laws.specs.Proved.Demand3.{enough-turns, demand3, bound, preserved-rules-stay, boundaries-told}
 use Rattle.laws.specs.Proved.Answered.{answered}
 
 pub theorems : Theorems
@@ -25,7 +25,9 @@ theorems =
       bound = λ limits c s ts r. bound limits c s (valid-told s (r .0)) ts (r .1);
       enoughTurns = λ limits c s v. enough-turns limits c s (valid-told s v);
       fuelIsBudget = fuel-is-budget;
+      preservedStay = λ limits c s ts r. preserved-rules-stay limits c s (valid-told s (r .0)) ts (r .1);
       originsTold = λ limits c s ts f r. origins-told s (r .0) f limits c ts (r .1);
+      boundariesTold = λ limits c s ts r. boundaries-told limits c s (valid-told s (r .0)) ts (r .1);
       comesBack = other-units;
       resultReadsBack = λ limits c s ts f r. result-reads-back s (r .0) f limits c ts (r .1);
       stageReadsBack = λ limits c s ts f r. stage-reads-back s (r .0) f limits c ts (r .1);

@@ -250,11 +250,11 @@ hub-stays (t-fresh {c = c} k b o m t) index h e =
     hub-stays t (recorded index (freshEntry c k b o)) h (recorded-away index (freshEntry c k b o) (rule h) (not-rule k (counterAt k c) h) ∙ e)
 
 traced-hub : (index : List Origins) (h : ℕ) → origins index (rule h) ≡ hubOrigin h ∷ [] → Traced index (boundary 1 h h)
-traced-hub index h e = record { copied = λ r. absurd (omega arith); bounded = λ r. e }
+traced-hub index h e = record { isReason = inl refl; copied = λ r. absurd (omega arith); bounded = λ r. e }
 
 traced-fresh : (index : List Origins) (c : Counters) (s : Sort) (b : Bool) (o : ℕ) → origins index (at s (counterAt s c)) ≡ listFor index c s b o → Traced index (freshEntry c s b o)
-traced-fresh index c s true o e = record { copied = λ r. e; bounded = λ r. absurd (omega arith) }
-traced-fresh index c s false o e = record { copied = λ r. absurd (omega arith); bounded = λ r. e }
+traced-fresh index c s true o e = record { isReason = inr refl; copied = λ r. e; bounded = λ r. absurd (omega arith) }
+traced-fresh index c s false o e = record { isReason = inl refl; copied = λ r. absurd (omega arith); bounded = λ r. e }
 
 list-moves : (index later : List Origins) (c : Counters) (s : Sort) (b : Bool) (o : ℕ) → origins later (at s o) ≡ origins index (at s o) → listFor index c s b o ≡ listFor later c s b o
 list-moves index later c s true o e = ap (λ l. l ++ (originOf (freshEntry c s true o) ∷ [])) (sym e)

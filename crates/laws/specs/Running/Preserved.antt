@@ -1,0 +1,69 @@
+-- The sheet around the rules: unit kind and preserved list are copied, and no preserved rule is removed.
+use Prim.Native.Nat.{ℕ}
+use mathlib.Core.Path.{_≡_, refl, sym, ap, _∙_, subst}
+use mathlib.Core.List.{List, [], _∷_, Memᴰ·of-map}
+use mathlib.Core.Bool.{Bool, true, false, _&&_, _||_, not, true≢false}
+use lib.Dec.{eqb}
+use Rattle.grammar.specs.Tree.{Rule, Sheet}
+use Rattle.grammar.specs.Ids.{member}
+use Rattle.grammar.specs.Corners.{Corners}
+use Rattle.grammar.specs.Laws.Parse.{either}
+use Rattle.grammar.specs.Laws.Derive.Rules.{in-member}
+use Rattle.reference.specs.Analysis.{idsOf}
+use Rattle.reference.specs.Substitute.{Limits}
+use Rattle.reference.specs.Run.{Stage, sheetWith, sheetAfter}
+use Rattle.laws.specs.Demands.{PreservedStay, rulesOf}
+use Rattle.laws.specs.Lists.Members.{member-in}
+use Rattle.laws.specs.Planning.Removed.{removable-satellite}
+use Rattle.laws.specs.Planning.OnePlan.{goneIds, rulesLeft, applied-rules, left-in}
+use Rattle.laws.specs.Running.Leaves.{Told}
+use Rattle.laws.specs.Running.Stages.{rulesAfter, sheet-after, known, Happened, Chain, last, next, stage-made, stage-leaves}
+
+either-true : (a b : Bool) → b ≡ true → (a || b) ≡ true
+either-true true b t = refl
+either-true false b t = t
+
+not-both : (a b : Bool) → (a ≡ true → b ≡ true) → (a && not b) ≡ false
+not-both true b h = ap not (h refl)
+not-both false b h = refl
+
+module _ (limits : Limits) (corners : Corners) (preserved : List ℕ) (i : ℕ) (p : member i preserved ≡ true) where
+  stage-keeps : {t : Stage} → Told (t .before) → Happened limits corners preserved t → member i (idsOf (t .before)) ≡ true → member i (idsOf (t .after .node)) ≡ true
+  stage-keeps {t} k h m =
+      let x = stage-made limits corners preserved h in
+      let gone = goneIds (known (t .before) k) x (h .counters) in
+      let (r, there, e) = Memᴰ·of-map (λ (r : Rule). r .id) (t .before) (member-in (idsOf (t .before)) m) in
+      let stays : member (r .id) gone ≡ false =
+      either (member (r .id) gone)
+      (λ u.
+      let s = removable-satellite _ _ (t .before) (x .hub .id) (t .plan .alternatives) (t .cycle) preserved (member-in gone u) in
+      absurd (true≢false (sym (either-true (eqb (r .id) (x .hub .id)) (member (r .id) preserved) (ap (λ j. member j preserved) e ∙ p)) ∙ s .1)))
+      (λ f. f) in
+      let left = in-member (left-in (known (t .before) k) x (h .counters) there stays) in
+      let here : member i (idsOf (rulesLeft (known (t .before) k) x (h .counters))) ≡ true = subst (λ j. member j (idsOf (rulesLeft (known (t .before) k) x (h .counters))) ≡ true) e left in
+      subst (λ f. member i (idsOf (f .node)) ≡ true) (sym (h .left))
+      (subst (λ rs. member i (idsOf rs) ≡ true) (sym (applied-rules (known (t .before) k) x (h .counters))) here)
+
+  chain-keeps : {rs : List Rule} {ts : List Stage} → Told rs → Chain limits corners preserved rs ts → member i (idsOf rs) ≡ true → member i (idsOf (rulesAfter rs ts)) ≡ true
+  chain-keeps k last m = m
+  chain-keeps k (next {t = t} e h c) m =
+      let told = subst Told (sym e) k in
+      chain-keeps (stage-leaves limits corners preserved told h .told) c (stage-keeps told h (subst (λ rs. member i (idsOf rs) ≡ true) (sym e) m))
+
+same-kind : (s : Sheet) (ts : List Stage) → sheetAfter s ts .kind ≡ s .kind
+unfolding sheetAfter
+same-kind s [] = refl
+same-kind s (t ∷ ts) = same-kind (sheetWith (s .kind) (s .preserved) (t .after)) ts
+
+same-preserved : (s : Sheet) (ts : List Stage) → sheetAfter s ts .preserved ≡ s .preserved
+unfolding sheetAfter
+same-preserved s [] = refl
+same-preserved s (t ∷ ts) = same-preserved (sheetWith (s .kind) (s .preserved) (t .after)) ts
+
+pub preserved-stay : (limits : Limits) (corners : Corners) (s : Sheet) {ts : List Stage} → Told (s .rules) → Chain limits corners (s .preserved) (s .rules) ts → PreservedStay s ts
+preserved-stay limits corners s {ts} k c =
+    record {
+      kind = same-kind s ts;
+      copied = same-preserved s ts;
+      stay = λ i p. not-both (member i (idsOf (s .rules))) (member i (idsOf (rulesOf s ts))) (λ m. subst (λ rs. member i (idsOf rs) ≡ true) (sym (sheet-after s ts)) (chain-keeps limits corners (s .preserved) i p k c m));
+    }
