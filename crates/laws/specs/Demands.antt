@@ -8,7 +8,7 @@ use mathlib.Core.Option.{some, none}
 use mathlib.Core.Bool.{true, false, not}
 use lib.ListN.{length, getD}
 use lib.Dec.{eqb}
-use Rattle.grammar.specs.Lists.{push, keep, total, AllOf, AnyOf}
+use Rattle.grammar.specs.Lists.{any, push, keep, total, AllOf, AnyOf}
 use Rattle.grammar.specs.Tree.{ElementHead, Element, leaf, block, call, AlternativeOf, Block, RuleOf, Sheet, Leaf, token, terminal, Alternative, Rule, bodyDepth}
 use Rattle.grammar.specs.Words.{words, bytes}
 use Rattle.grammar.specs.Encode.{encode, each}
@@ -19,12 +19,12 @@ use Rattle.grammar.specs.Shape.{eraseElement, eraseElements, eraseBlock, Shapes
 use Rattle.grammar.specs.Derive.{CanBeEmpty, RuleDerives, isKept, isRemoved}
 use Rattle.grammar.specs.Corners.{Corners, rust, textbook, Corner}
 use Rattle.grammar.specs.Cycles.{LeftCorner, called, inside, CornerRule, RuleReaches, IsLargest}
-use Rattle.reference.specs.Analysis.{elementNullable, blockIsNullable, nullableRules, grammarOf, leftCorners, blockCorners, leftCornerCycles, Grammar}
-use Rattle.reference.specs.Substitute.{Clause, Limits, standard, PlannedAlternative, Planned, decided, declined, budget, step}
-use Rattle.reference.specs.Apply.{Entry, boundary, Node, Origin, Origins, origins, provenance}
+use Rattle.reference.specs.Analysis.{elementNullable, blockIsNullable, nullableRules, grammarOf, leftCorners, blockCorners, leftCornerCycles, Grammar, target}
+use Rattle.reference.specs.Substitute.{Clause, Limits, standard, PlannedAlternative, Planned, decided, declined, budget, settled, plannedCorner, step}
+use Rattle.reference.specs.Apply.{Entry, boundary, Node, Origin, Origins, sameOrigin, origins, recorded, provenance}
 use Rattle.reference.specs.Plan.{chooseHub, CyclePlan, asTheyAre, planCycle}
 use Rattle.reference.specs.Run.{innerDepth, Stage, ended, sheetWith, eliminateInUnit, eliminateMutualLeftRecursion, sheetAfter, stepsOf, encodeEntry, entriesOf, answer, answerTo, filled, areLent, outcome}
-use Rattle.reference.specs.Walks.{isOptional}
+use Rattle.reference.specs.Walks.{isEpsilonOnly, isOptional}
 use Rattle.laws.specs.Examples.{parting, behindName, parted, returning, returned}
 
 -- 1. "What derives the empty string can be empty." The definition's tests, in the grammar of some rules, are this.
@@ -360,8 +360,14 @@ pub record Theorems : Type 0 where
   pub fuelIsBudget : (limits : Limits) (c : Corners) (d : ℕ) (rs : List (RuleOf (Block (suc d)))) (g : Grammar) (preserved cycle : List ℕ)
       → FuelIsBudget limits c d rs g preserved cycle
   pub preservedStay : (limits : Limits) (c : Corners) (s : Sheet) (stages : List Stage) → Ends limits c s stages → PreservedStay s stages
-  -- 9, of every sheet that is not refused.
+  -- "The hub's call of quantifier 0 is settled", and never spliced.
+  pub hubSettled : (d : ℕ) (g : Grammar) (cycle : List ℕ) (hub : ℕ) (front rest : List (Element (Block d))) (h : ElementHead) (n a : ℕ)
+      → AllOf (λ e. isEpsilonOnly e ≡ true) front → target g n ≡ some hub → h .quantifier ≡ 0
+      → plannedCorner g cycle hub (front ++ (leaf h (call n a) ∷ rest)) ≡ settled
+  -- 9, of every sheet that is not refused; an entry of reason 1 is added "unless it is there already", to any index.
   pub originsTold : (limits : Limits) (c : Corners) (s : Sheet) (stages : List Stage) → fits s ≡ true → Ends limits c s stages → OriginsTold (entriesOf stages)
+  pub recordedOnce : (index : List Origins) (e : Entry) → e .reason ≡ 1 → any (sameOrigin (originOf e)) (origins index (nodeOf e)) ≡ true
+      → origins (recorded index e) (nodeOf e) ≡ origins index (nodeOf e)
   pub boundariesTold : (limits : Limits) (c : Corners) (s : Sheet) (stages : List Stage) → Ends limits c s stages → (t : Stage) → List·Memᴰ t stages → BoundariesTold t
   -- 10, of all bytes that hold another unit than a parser's.
   pub comesBack : (limits : Limits) (c : Corners) (bs : List ℕ) → AreBytes bs → (s : Sheet) → read bs ≡ sheet s → (s .kind ≡ 2 → ⊥) → ComesBack limits c bs

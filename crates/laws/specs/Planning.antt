@@ -7,5 +7,6 @@ pub mod Removed
 pub mod Renumber
 pub mod OnePlan
 pub mod Budget
+pub mod Settled
 pub mod Chain
 pub mod Applied

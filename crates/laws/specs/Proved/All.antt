@@ -2,6 +2,8 @@
 use Rattle.laws.specs.Demands.{Theorems}
 use Rattle.laws.specs.Running.Stages.{valid-told}
 use Rattle.laws.specs.Planning.Budget.{fuel-is-budget}
+use Rattle.laws.specs.Planning.Settled.{hub-settled}
+use Rattle.laws.specs.Provenance.Origins.{recorded-once}
 use Rattle.laws.specs.BothReadings.Readings.{demand3-textbook, demand3-rust}
 use Rattle.laws.specs.BothReadings.SameRun.{outcome-same}
 use Rattle.laws.specs.BothReadings.Sheets.{no-more-of-rust, nullable-hub-returns}
@@ -26,7 +28,9 @@ theorems =
       enoughTurns = λ limits c s v. enough-turns limits c s (valid-told s v);
       fuelIsBudget = fuel-is-budget;
       preservedStay = λ limits c s ts r. preserved-rules-stay limits c s (valid-told s (r .0)) ts (r .1);
+      hubSettled = hub-settled;
       originsTold = λ limits c s ts f r. origins-told s (r .0) f limits c ts (r .1);
+      recordedOnce = recorded-once;
       boundariesTold = λ limits c s ts r. boundaries-told limits c s (valid-told s (r .0)) ts (r .1);
       comesBack = other-units;
       resultReadsBack = λ limits c s ts f r. result-reads-back s (r .0) f limits c ts (r .1);

@@ -59,6 +59,15 @@ pub recorded-other : (index : List Origins) (e : Entry) → (e .reason ≡ 2 →
 unfolding recorded
 recorded-other index e h = rw (ne-eqb (e .reason) 2 h, recorded) refl
 
+-- An entry of reason 1 that is there already is not added again.
+pub recorded-once : (index : List Origins) (e : Entry) → e .reason ≡ 1 → any (sameOrigin (originOf e)) (origins index (nodeOf e)) ≡ true
+    → origins (recorded index e) (nodeOf e) ≡ origins index (nodeOf e)
+unfolding addOrigins
+recorded-once index e h t =
+    ap (λ x. origins x (nodeOf e)) (recorded-other index e (λ q. let z : _≡_ {A = ℕ} 1 2 = sym h ∙ q in omega arith))
+    ∙ record-at index (nodeOf e) (originOf e ∷ [])
+    ∙ rw (t, addOrigins) refl
+
 pub recorded-away : (index : List Origins) (e : Entry) (m : Node) → (nodeOf e ≡ m → ⊥) → origins (recorded index e) m ≡ origins index m
 recorded-away index e m ne =
     either (eqb (e .reason) 2)
