@@ -3,9 +3,10 @@
 
     wrong_laws.py [--crates DIR] [EDIT...]
 
-Each edit of tests/wrong_laws, in the form of a must-fail edit, is made on a copy of `reference`
-without its table of worked grammars. The copy itself must still check, and `laws` over it must
-not. The exit status is 1 where an edit survives.
+Each edit of tests/wrong_laws, in the form of a must-fail edit, names the theorem that is false of
+it, a field of `Theorems`. It is made on a copy of `reference` without its table of worked grammars.
+The copy itself must still check, and `laws` over it must not. The exit status is 1 where an edit
+survives.
 """
 import argparse
 import re
@@ -23,11 +24,11 @@ AT_ONCE = 2
 
 
 class Edit:
-    """What is wrong, the file, what stands there, what is put there."""
+    """What is wrong, the law that is broken, the file, what stands there, what is put there."""
 
     def __init__(self, path):
-        field = dict(re.findall(r'^(#|file:|old:|new:) (.*)$', path.read_text(), re.M))
-        self.name, self.what = path.stem, field['#']
+        field = dict(re.findall(r'^(#|law:|file:|old:|new:) (.*)$', path.read_text(), re.M))
+        self.name, self.what, self.law = path.stem, field['#'], field['law:']
         self.file, self.old, self.new = field['file:'], field['old:'], field['new:']
 
     def make(self, crate):
@@ -59,7 +60,13 @@ class Rooms:
         copy_definitions(self.crates / 'reference', room / 'crates/reference')
         edit.make(room / 'crates/reference')
         where, why = refusal(room)
-        return (f'caught: {edit.what} ({where})', True) if where else (f'NOT REFUSED: {edit.what}: {why}', False)
+        return (f'caught: {edit.what}: {edit.law} is false ({where})', True) if where else (f'NOT REFUSED: {edit.what}: {why}', False)
+
+
+def theorems(crates):
+    """The fields of `Theorems`, the record of all laws."""
+    text = (crates / 'laws/specs/Demands.antt').read_text()
+    return set(re.findall(r'^  pub (\w+) :', text.partition('pub record Theorems')[2], re.M))
 
 
 def refusal(room):
@@ -85,6 +92,10 @@ def main():
     edits = [Edit(path) for path in sorted(EDITS.glob('*.edit')) if not given.edits or path.stem in given.edits]
     if not edits:
         sys.exit('there are no such edits')
+    laws = theorems(given.crates)
+    for edit in edits:
+        if edit.law not in laws:
+            sys.exit(f'{edit.name}: {edit.law} is no field of Theorems')
     shutil.rmtree(given.room, ignore_errors=True)
     rooms, survived = Rooms(given.crates, given.room), 0
     with ThreadPoolExecutor(AT_ONCE) as pool:
