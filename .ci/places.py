@@ -1,8 +1,8 @@
 #!/usr/bin/env python3
 """Checks that the definition can be held beside the original.
 
-- Each function of the definition has a comment, above it or behind its signature, with a line of
-  the original, or one that says that it is document 01's.
+- Each function of the definition has a comment, above it or behind its signature, that names a
+  function or file of the original with a line, or says that it is document 01's.
 - Where a comment names a function of the original with a line, that function has this line.
 - Each function of the original's pass is named with a line.
 - The definition has fewer than 1,000 lines.
@@ -20,10 +20,10 @@ ORIGINAL = "harness/original/upstream/crates/antlr-rust-codegen/src/grammar/mutu
 LIMIT = 1000
 
 SIGNATURE = re.compile(r"\s*(?:abbrev|unfoldable) pub (\S+) :")
-PLACE = re.compile(r"\bl\. \d+|\bdocument 01", re.I)
 # 'name, l. 12' or 'name, l. 12 to 20'; 'l. 12 to 20 of name'
 NAMED = re.compile(r"\b(\w+), l\. (\d+)(?: to (\d+))?")
 NAMED_AFTER = re.compile(r"\bl\. (\d+)(?: to (\d+))? of (\w+)")
+ADDED = re.compile(r"\bdocument 01", re.I)
 
 
 def spans(text):
@@ -46,6 +46,10 @@ def comment(lines, at):
         above.insert(0, lines[at - 1 - len(above)])
     behind = lines[at].partition("--")[2]
     return " ".join([line.strip().removeprefix("--").strip() for line in above] + [behind.strip()])
+
+
+def has_place(text):
+    return any(form.search(text) for form in (NAMED, NAMED_AFTER, ADDED))
 
 
 def comments(lines):
@@ -80,7 +84,7 @@ def breaches(root):
         total += len(lines) - 1
         for at, line in enumerate(lines):
             function = SIGNATURE.match(line)
-            if function and not PLACE.search(comment(lines, at)):
+            if function and not has_place(comment(lines, at)):
                 yield f"{path}:{at + 1}: {function[1]} has no place in the original"
         for number, text in comments(lines):
             for name, first, last in places(text):

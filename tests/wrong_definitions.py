@@ -16,8 +16,8 @@ from check_answers import copy_definitions
 # What is wrong, which answers show it, the file, what stands there, what is put there.
 EDITS = [
     ('a nullable outside call in front counts as settled when the hub is chosen', 'nullable-front', 'Plan.antt',
-     'some t ↦ member t cycle || member t (g .nullable)',
-     'some t ↦ member t cycle'),
+     '| false ↦ elim (member t (g .nullable)) [ true ↦ unusable | false ↦ outsideCycle ]',
+     '| false ↦ outsideCycle'),
     ('the step beyond the budget is allowed', 'written', 'Plan.antt',
      'limits (substitutionBudget d limits rs cycle) 0',
      'limits (suc (substitutionBudget d limits rs cycle)) 0'),

@@ -12,6 +12,10 @@ abbrev pub isEmpty : {A : Type 0} → List A → Bool
 isEmpty [] = true
 isEmpty (a ∷ as′) = false
 
+-- No items, whatever is looked at.
+abbrev pub nothing : {A B : Type 0} → A → List B
+nothing a = []
+
 unfoldable pub any : {A : Type 0} → (A → Bool) → List A → Bool
 any test [] = false
 any test (a ∷ as′) = test a || any test as′

@@ -10,8 +10,8 @@ use Rattle.grammar.specs.Encode.{each}
 use Rattle.grammar.specs.Ids.{member}
 use Rattle.grammar.specs.Valid.{all}
 use Rattle.grammar.specs.Corners.{Corners, rust, textbook}
-use Rattle.grammar.specs.Lists.{any, push, keep, first, sorted, rounds}
-use Rattle.reference.specs.Walks.{silent, consuming, calling, sortOf, isOptional, blockGives, elementsGive, nothing}
+use Rattle.grammar.specs.Lists.{nothing, any, push, keep, first, sorted, rounds}
+use Rattle.reference.specs.Walks.{silent, consuming, calling, sortOf, isOptional, blockGives, elementsGive}
 
 -- A rule's name with its id.
 pub record Name : Type 0 where
@@ -79,8 +79,8 @@ module _ (d : ℕ) (rs : List (RuleOf (Block d))) where
   unfoldable pub grammarOf : Grammar  -- What eliminate_in_unit makes for each turn, l. 143.
   grammarOf = record { names = namesOf rs; nullable = nullableRules }
 
--- Where a reading of left corners stops, even if the leaf can be empty; the Rust's collect_left_corner_calls does so
--- at l. 1167 and 1190. Only collectLeftCornerCalls asks for the reading.
+-- Where a reading of left corners stops, even if the leaf can be empty: collect_left_corner_calls, l. 1167, and its
+-- last arm, l. 1190. Only collectLeftCornerCalls asks for the reading.
 unfoldable pub isStop : Corners → Grammar → Leaf → Bool
 isStop textbook g l = false
 isStop rust g l = elim (sortOf l) [ silent ↦ false | consuming ↦ true | calling n a ↦ elim (target g n) [ none ↦ true | some t ↦ false ] ]
@@ -97,7 +97,7 @@ module _ (c : Corners) (g : Grammar) where
     collectLeftCornerCalls (block h b ∷ es) =
         blockCorners b ++ elim (elementNullable g blockNullable (block h b)) [ true ↦ collectLeftCornerCalls es | false ↦ [] ]
 
-  -- The same of all alternatives of a block, l. 1179, or of a rule, in left_corner_cycles, l. 1127.
+  -- The loop in collect_left_corner_calls, l. 1179, over a block, and in left_corner_cycles, l. 1127, over a rule.
   unfoldable pub blockCorners : (d : ℕ) → Block d → List ℕ
   blockCorners zero b = absurd b
   blockCorners (suc d) as′ = each (λ a. collectLeftCornerCalls (blockCorners d) (blockIsNullable g d) (a .elements)) as′

@@ -1,5 +1,4 @@
--- Applying a plan: fresh ids for all that is new, one entry of the trail for each recording; and the origins of nodes
--- that a trail makes.
+-- Applying a plan: fresh ids for all that is new, one entry of the trail for each recording; and the origins it makes.
 use Prim.Native.Nat.{ℕ, zero, suc}
 use mathlib.Core.List.{List, [], _∷_, _++_, map, foldl}
 use mathlib.Core.Bool.{Bool, true, false, not, _&&_}
@@ -55,7 +54,7 @@ abbrev pub moved : Bool → ℕ → ℕ  -- checked_add, model.rs, l. 84, withou
 moved true n = suc n
 moved false n = n
 
--- ModelIdAllocator (model.rs, l. 73 to 108): a fresh id is the counter of its kind, which moves on by one. That a counter
+-- ModelIdAllocator (model.rs, l. 73 to 107): a fresh id is the counter of its kind, which moves on by one. That a counter
 -- has an end is refusal 8, judged on the whole plan.
 abbrev pub past : ℕ → Counters → Counters
 past k c =
@@ -72,7 +71,7 @@ renumberHead h c =
     (renumberLabel (h .label) (past 3 c) followedBy λ l c₁.
     unchanged (record { id = c .element; carried = h .carried; quantifier = h .quantifier; label = l; options = h .options }) c₁)
 
-unfoldable pub renumberLeaf : Leaf → Counters → Fresh Leaf  -- The arms of renumber_element from l. 1348 on.
+unfoldable pub renumberLeaf : Leaf → Counters → Fresh Leaf  -- The later arms of renumber_element, l. 1348 to 1376.
 renumberLeaf epsilon c = unchanged epsilon c
 renumberLeaf (action i rs) c = recording (clone 5 (c .action) i) (unchanged (action (c .action) rs) (past 5 c))
 renumberLeaf (predicate i rs) c = recording (clone 6 (c .predicate) i) (unchanged (predicate (c .predicate) rs) (past 6 c))
@@ -104,7 +103,7 @@ renumberBlock zero b c = absurd b
 renumberBlock (suc d) as′ c = freshEach (renumberAlternative (renumberBlock d)) as′ c
 
 module _ (d : ℕ) where
-  -- One alternative of the hub's new body in apply_plan, l. 922 to 961. An untouched one stays as it is.
+  -- One alternative of the hub's new body in apply_plan, l. 922 to 961, whose template, l. 917, is never needed here.
   unfoldable pub applyAlternative : Planned d → Counters → Fresh (AlternativeOf (Block d))
   applyAlternative p c =
       elim (p .verbatim) [
@@ -144,7 +143,7 @@ pub record Origins : Type 0 where
 abbrev pub sameNode : Node → Node → Bool  -- The derived == of model.rs, l. 128.
 sameNode m n = eqb (m .kind) (n .kind) && eqb (m .id) (n .id)
 
-abbrev pub sameOrigin : Origin → Origin → Bool  -- The derived ==, l. 37.
+abbrev pub sameOrigin : Origin → Origin → Bool  -- The derived == of provenance.rs, l. 37.
 sameOrigin o p = eqb (o .reason) (p .reason) && sameNode (o .owner) (p .owner)
 
 -- ProvenanceIndex::origins, l. 137.

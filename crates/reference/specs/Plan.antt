@@ -5,28 +5,42 @@ use mathlib.Core.Option.{Option, none, some}
 use mathlib.Core.Bool.{Bool, true, false, _&&_, _||_, not}
 use lib.ListN.{length, drop}
 use lib.Dec.{eqb}
-use Rattle.grammar.specs.Tree.{Element, leaf, block, AlternativeOf, Block, RuleOf}
+use Rattle.grammar.specs.Tree.{ElementHead, Element, leaf, block, AlternativeOf, Block, RuleOf}
 use Rattle.grammar.specs.Encode.{each}
 use Rattle.grammar.specs.Ids.{member, blockIds}
 use Rattle.grammar.specs.Valid.{all}
 use Rattle.grammar.specs.Lists.{isEmpty, any, keep, first, rounds, meet}
 use Rattle.grammar.specs.Corners.{Corners}
-use Rattle.reference.specs.Walks.{silent, consuming, calling, sortOf, isEpsilonOnly, isOne}
+use Rattle.reference.specs.Walks.{silent, consuming, calling, sortOf, isEpsilonOnly, isOne, bareReference}
 use Rattle.reference.specs.Analysis.{Grammar, target, ruleWithId, collectCallsInElements, collectCallsInto, elementNullable, blockIsNullable, leftCorners}
 use Rattle.reference.specs.Substitute.{noHub, hubWithArguments, satelliteNotInlinable, noSteps, notDirectlyRewritable, Decided, decided, _andThen_, require, found, Limits, PlannedAlternative, Elements, Planned, substitute, substitutionBudget}
 
+-- Corner, l. 237. Index and target of Bare are left out: planned_corner finds them anew.
+pub data Corner : Type 0 where
+  bare outsideCycle unusable : Corner
+
 module _ (g : Grammar) (cycle : List ℕ) where
-  -- corner_enters_cycle, l. 292, with classify_corner, l. 253: of the answers of that, only OutsideCycle is told from
-  -- the others, so whether the call of a member is bare is not asked here.
-  unfoldable pub cornerEntersCycle : {B : Type 0} → List (Element B) → Bool
-  cornerEntersCycle [] = false
-  cornerEntersCycle (leaf h l ∷ es) =
-      elim (sortOf l) [
-        | silent ↦ cornerEntersCycle es
-        | consuming ↦ false
-        | calling n a ↦ elim (target g n) [ none ↦ false | some t ↦ member t cycle || member t (g .nullable) ]
+  -- classify_corner, l. 253, at a call of a rule, l. 266 to 281.
+  unfoldable pub calledCorner : ElementHead → ℕ → ℕ → Corner
+  calledCorner h a t =
+      elim (member t cycle) [
+        | true ↦ elim (isOne h && bareReference h a) [ true ↦ bare | false ↦ unusable ]
+        | false ↦ elim (member t (g .nullable)) [ true ↦ unusable | false ↦ outsideCycle ]
       ]
-  cornerEntersCycle (block h b ∷ es) = false
+
+  -- classify_corner, l. 253.
+  unfoldable pub classifyCorner : {B : Type 0} → List (Element B) → Corner
+  classifyCorner [] = outsideCycle
+  classifyCorner (leaf h l ∷ es) =
+      elim (sortOf l) [
+        | silent ↦ classifyCorner es
+        | consuming ↦ outsideCycle
+        | calling n a ↦ elim (target g n) [ none ↦ outsideCycle | some t ↦ calledCorner h a t ]
+      ]
+  classifyCorner (block h b ∷ es) = outsideCycle
+
+  unfoldable pub cornerEntersCycle : {B : Type 0} → List (Element B) → Bool  -- corner_enters_cycle, l. 292.
+  cornerEntersCycle es = elim (classifyCorner es) [ bare ↦ true | outsideCycle ↦ false | unusable ↦ true ]
 
   module _ (d : ℕ) (rs : List (RuleOf (Block (suc d)))) where
     -- externally_referenced, l. 1037. Calls of rules outside the cycle are not sifted out: nobody asks for them.
@@ -44,8 +58,7 @@ module _ (g : Grammar) (cycle : List ℕ) where
         let candidates = keep isCandidate cycle in
         elim (first (λ i. member i external) candidates) [ some i ↦ some i | none ↦ first (λ i. true) candidates ]
 
--- satellite_has_embedded_semantics, l. 790, with elements_have_semantics, l. 791: a body in which an action or a
--- predicate has an id; that walk is there for refusals 5 and 6.
+-- satellite_has_embedded_semantics, l. 790, with elements_have_semantics, l. 791, as ids: an action or predicate has one.
 unfoldable pub hasEmbeddedSemantics : (d : ℕ) → Block d → Bool
 hasEmbeddedSemantics d b = not (isEmpty (blockIds 5 d b ++ blockIds 6 d b))
 
@@ -72,7 +85,7 @@ module _ (g : Grammar) (hub : ℕ) where
   unfoldable pub givesHubArguments : {B : Type 0} → Element B → Bool  -- A test of planned_hub_is_directly_rewritable, l. 830.
   givesHubArguments e = elim (hubCall e) [ none ↦ false | some a ↦ not (eqb a 0) ]
 
-  unfoldable pub startsWithHubCall : {B : Type 0} → List (Element B) → Bool  -- The first element, in l. 839 of the same.
+  unfoldable pub startsWithHubCall : {B : Type 0} → List (Element B) → Bool  -- Its first element, l. 839 of planned_hub_is_directly_rewritable.
   startsWithHubCall [] = false
   startsWithHubCall (e ∷ es) = isHubCall e
 
@@ -86,19 +99,18 @@ module _ (c : Corners) (g : Grammar) (cycle : List ℕ) (hub : ℕ) (d : ℕ) wh
   unfoldable pub isPrimary : Elements d → Bool
   isPrimary es = not (startsWithHubCall g hub es || meet (leftCorners c g d es) cycle)
 
-  -- No call of the hub has arguments, l. 829, something is significant, l. 834, and it is of one of the two sorts.
+  -- One turn of planned_hub_is_directly_rewritable, l. 829 to 872: no arguments, something significant, either sort.
   unfoldable pub isFit : Elements d → Bool
   isFit es = not (any (givesHubArguments g hub) es || all isEpsilonOnly es) && (isPrimary es || isRecursive g hub d es)
 
-  -- planned_hub_is_directly_rewritable, l. 818.
+  -- planned_hub_is_directly_rewritable, l. 818: its loop with two flags, as three tests.
   unfoldable pub plannedHubIsDirectlyRewritable : List (Planned d) → Bool
   plannedHubIsDirectlyRewritable ps =
       all (λ p. isFit (p .elements)) ps
       && (any (λ p. isPrimary (p .elements)) ps && any (λ p. isRecursive g hub d (p .elements)) ps)
 
 module _ (g : Grammar) (d : ℕ) (rs : List (RuleOf (Block (suc d)))) (hub : ℕ) (ps : List (Planned d)) where
-  -- The calls that stay if a set of rules is removed: those of the planned hub and of the other rules kept, as in
-  -- removable_satellites, l. 1084 to 1092. Calls of rules not in the set are not sifted out: nobody asks for them.
+  -- The calls that stay if a set of rules is removed: removable_satellites, l. 1084 to 1092, without its sieve, l. 1080.
   unfoldable pub callsKept : List ℕ → List ℕ
   callsKept removable =
       each (λ p. collectCallsInElements g d (p .elements)) ps

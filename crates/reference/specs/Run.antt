@@ -5,7 +5,8 @@ use mathlib.Core.Bool.{Bool, true, false, _&&_}
 use lib.ListN.{length, replicate}
 use lib.Dec.{leb, ltb, eqb}
 use Rattle.grammar.specs.Tree.{Rule, bodyDepth, Counters, Sheet}
-use Rattle.grammar.specs.Encode.{encode, each}
+use Rattle.grammar.specs.Encode.{encode, encodeCounters, each}
+use Rattle.grammar.specs.Valid.{all}
 use Rattle.grammar.specs.Words.{bytes}
 use Rattle.grammar.specs.Reading.{Reading, refused, sheet, isLength, read}
 use Rattle.grammar.specs.Lists.{total}
@@ -59,12 +60,9 @@ module _ (limits : Limits) (corners : Corners) (preserved : List ℕ) where
       let g = grammarOf bodyDepth rs in
       searchCycles g rs (leftCornerCycles corners g bodyDepth rs)
 
-abbrev pub isWord : ℕ → Bool  -- The range of a counter, a u32 in model.rs, l. 43.
-isWord n = ltb n (2 ^ 32)
-
 -- Document 01's refusal 8 excludes a counter above 4,294,967,295; in the Rust it is a panic, model.rs, l. 78.
 unfoldable pub areWords : Counters → Bool
-areWords c = isWord (c .alternative) && (isWord (c .element) && (isWord (c .label) && (isWord (c .action) && isWord (c .predicate))))
+areWords c = all (λ n. ltb n (2 ^ 32)) (encodeCounters c)
 
 module _ (kind : ℕ) (preserved : List ℕ) where
   abbrev pub sheetWith : Fresh (List Rule) → Sheet  -- The unit that apply_plan leaves, l. 978, as a sheet.
@@ -80,7 +78,7 @@ module _ (kind : ℕ) (preserved : List ℕ) where
       elim (areWords (after .counters)) [ false ↦ 8 | true ↦ elim (isShort after recorded) [ false ↦ 9 | true ↦ 0 ] ]
 
 module _ (limits : Limits) (corners : Corners) (kind : ℕ) (preserved : List ℕ) where
-  -- eliminate_in_unit, l. 127, with the turns that are left: the Rust's loop has no bound, a definition needs one.
+  -- eliminate_in_unit, l. 127, with turns left, as a definition needs a bound. It gives the stages, the Rust if it changed.
   unfoldable pub eliminateInUnit : ℕ → List Rule → Counters → ℕ → Run
   eliminateInUnit zero rs c recorded = ended []
   eliminateInUnit (suc turns) rs c recorded =

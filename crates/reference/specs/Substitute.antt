@@ -1,5 +1,4 @@
--- The planner's answers and limits, and the substitution: the first alternative in need of work is replaced in its slot,
--- until none is left.
+-- The planner's answers and limits, and the substitution: the first alternative in need of work is replaced in its slot.
 use Prim.Native.Nat.{ℕ, zero, suc, _*_, max}
 use mathlib.Core.List.{List, [], _∷_, _++_, map}
 use mathlib.Core.Option.{Option, none, some}
@@ -8,8 +7,8 @@ use lib.ListN.{length, take, drop}
 use lib.Dec.{leb, eqb}
 use Rattle.grammar.specs.Tree.{OptionDecl, ElementHead, Element, leaf, block, AlternativeOf, Block, RuleOf}
 use Rattle.grammar.specs.Ids.{member}
-use Rattle.grammar.specs.Lists.{keep, first, total, meet}
-use Rattle.reference.specs.Walks.{silent, consuming, calling, sortOf, isOne, bareReference, elementsGive, nothing, labelNames, leafNames, references}
+use Rattle.grammar.specs.Lists.{nothing, keep, first, total, meet}
+use Rattle.reference.specs.Walks.{silent, consuming, calling, sortOf, isOne, bareReference, elementsGive, labelNames, leafNames, references}
 use Rattle.reference.specs.Analysis.{Grammar, target, ruleWithId}
 
 -- Why a cycle is left as it is, in the order of document 02's order 3, which numbers them 1 to 11.
@@ -197,7 +196,7 @@ module _ (d : ℕ) where
       && (leb (total (map (λ p. length (p .elements)) ps)) (limits .elements)
       && leb (total (map (λ p. length (p .options)) ps)) (limits .options))
 
-  -- substitution_budget, l. 1105.
+  -- substitution_budget, l. 1105. Its 64 is a limit here, and its saturating product exact: it cannot come near the end.
   unfoldable pub substitutionBudget : Limits → List (RuleOf (Block (suc d))) → List ℕ → ℕ
   substitutionBudget limits rs cycle =
       let alternatives = total (map (λ r. length (r .body)) (keep (λ r. member (r .id) cycle) rs)) in
@@ -220,8 +219,8 @@ module _ (d : ℕ) where
   replacement rs p settled = none
 
   module _ (rs : List (RuleOf (Block (suc d)))) (g : Grammar) (cycle : List ℕ) (hub : ℕ) where
-    -- The list with the first alternative in need of work replaced in its slot; none where all are settled. The Rust
-    -- looks for the position first (l. 364) and splices there (l. 404).
+    -- The list with the first alternative in need of work replaced in its slot; none where all are settled. The loop of
+    -- plan_cycle, l. 364, looks for the position first and splices there, l. 404.
     unfoldable pub step : List Planned → Option (Decided (List Planned))
     step [] = none
     step (p ∷ ps) =

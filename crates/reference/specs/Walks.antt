@@ -1,5 +1,5 @@
--- What the Rust's matches tell apart in an element, and its walks down a tree.
--- Line numbers are those of mutual_recursion.rs, here and in the other files.
+-- What the Rust's matches tell apart in an element, and its walks down a tree. Line numbers are those of
+-- mutual_recursion.rs, here and in the other files; the Rust's sets, maps and sinks are lists.
 use Prim.Native.Nat.{ℕ, zero, suc}
 use mathlib.Core.List.{List, [], _∷_, _++_}
 use mathlib.Core.Bool.{Bool, true, false, _&&_}
@@ -8,8 +8,7 @@ use Rattle.grammar.specs.Tree.{Reference, Label, unlabelled, labelled, ElementH
 use Rattle.grammar.specs.Encode.{each}
 use Rattle.grammar.specs.Lists.{isEmpty}
 
--- The arms of most matches, as of classify_corner, l. 259: actions, predicates and epsilon; calls; tokens and
--- kind 5. Blocks are apart already.
+-- The arms of most matches, as in classify_corner, l. 259: what takes no input; tokens and kind 5; calls. Blocks are apart.
 pub data Sort : Type 0 where
   silent consuming : Sort
   calling : (name arguments : ℕ) → Sort
@@ -34,13 +33,9 @@ isOptional h = leb 1 (h .quantifier) && leb (h .quantifier) 4
 abbrev pub isOne : ElementHead → Bool  -- Quantifier::One, as planned_corner asks for it, l. 480.
 isOne h = eqb (h .quantifier) 0
 
-abbrev pub isUnlabelled : Label → Bool  -- The first test of bare_reference, l. 309.
-isUnlabelled unlabelled = true
-isUnlabelled (labelled i n) = false
-
 -- bare_reference, l. 308: of an element's head and its call's arguments.
 unfoldable pub bareReference : ElementHead → ℕ → Bool
-bareReference h a = isUnlabelled (h .label) && (eqb a 0 && isEmpty (h .options))
+bareReference h a = elim (h .label) [ unlabelled ↦ eqb a 0 && isEmpty (h .options) | labelled i n ↦ false ]
 
 -- One walk serves where the Rust has five, since they differ in what they take only: element_actions_reference, l. 511,
 -- collect_labels, l. 658, action_reference_names, l. 700, bindable_names, l. 738, and collect_calls_in_elements, l. 1205.
@@ -57,9 +52,6 @@ module _ (ofLabel : Label → List ℕ) (ofLeaf : Leaf → List ℕ) where
   unfoldable pub elementsGive : (d : ℕ) → List (Element (Block d)) → List ℕ  -- Its loop, as bindable_names, l. 739.
   elementsGive d es = each (elementGives (blockGives d)) es
 
-abbrev pub nothing : {A : Type 0} → A → List ℕ  -- What a walk passes over, as collect_labels the leaves, l. 663.
-nothing a = []
-
 abbrev pub labelNames : Label → List ℕ  -- Of collect_labels, l. 660, and bindable_names, l. 740.
 labelNames unlabelled = []
 labelNames (labelled i n) = n ∷ []
@@ -73,8 +65,8 @@ leafNames (call n a) = n ∷ []
 leafNames (token n) = n ∷ []
 leafNames terminal = []
 
--- What the bodies of actions and predicates refer to. The Rust asks action_reference_parser, l. 535 and 723; here the
--- sheet brings its answers.
+-- What actions and predicates refer to. The Rust asks action_reference_parser, l. 535 and 723, for each body, and for a
+-- predicate's `fail` too; here the sheet brings all its answers in one list.
 unfoldable pub references : Leaf → List Reference
 references epsilon = []
 references (action i rs) = rs

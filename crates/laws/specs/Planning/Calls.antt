@@ -8,7 +8,8 @@ use Rattle.grammar.specs.Encode.{each}
 use Rattle.grammar.specs.Shape.{Shape, eps, fail, symbol, callOf, seq, alt, opt, star, plus, quantified, eraseLeaf, eraseElement, eraseBlock, EachCall}
 use Rattle.grammar.specs.Laws.Derive.Quantifier.{quantified-cases}
 use Rattle.grammar.specs.Laws.Derive.Removal.{each-quantified}
-use Rattle.reference.specs.Walks.{sortOf, elementGives, blockGives, elementsGive, nothing}
+use Rattle.grammar.specs.Lists.{nothing}
+use Rattle.reference.specs.Walks.{sortOf, elementGives, blockGives, elementsGive}
 use Rattle.reference.specs.Analysis.{Grammar, target, calls, collectCallsInElements, collectCallsInto}
 use Rattle.reference.specs.Substitute.{plainHead}
 use Rattle.laws.specs.Lists.Lookup.{rule-with-id}

@@ -15,7 +15,7 @@ use Rattle.grammar.specs.Ids.{only, headIds, leafIds, elementIds, alternativeId
 use Rattle.grammar.specs.Valid.{all, okOption, okHead, okElement, okAlternative, okRule, okBlock, fits}
 use Rattle.grammar.specs.Laws.Parse.{both-true, left-true, right-true}
 use Rattle.grammar.specs.Laws.Whole.{Parts}
-use Rattle.reference.specs.Run.{areWords, isWord}
+use Rattle.reference.specs.Run.{areWords}
 use Rattle.laws.specs.Lists.Lookup.{all-in}
 use Rattle.laws.specs.Lists.Members.{in-each, each-in}
 use Rattle.laws.specs.Lists.Every.{in-all}
@@ -146,25 +146,17 @@ ids-under c rs t = go
 pub below-of : (c : Counters) (rs : List Rule) → isBelow c rs ≡ true → Below c bodyIds rs
 below-of c rs t s i m = below-in (counterAt s c) (bodyIds (number s) rs) (ids-under c rs t s) i m
 
+-- Each counter among the words that hold them.
+pub counter-in : (c : Counters) (s : Sort) → List·Memᴰ (counterAt s c) (encodeCounters c)
+counter-in c ofAlternative = List·Memᴰ·head refl
+counter-in c ofElement = List·Memᴰ·tail (List·Memᴰ·head refl)
+counter-in c ofLabel = List·Memᴰ·tail (List·Memᴰ·tail (List·Memᴰ·head refl))
+counter-in c ofAction = List·Memᴰ·tail (List·Memᴰ·tail (List·Memᴰ·tail (List·Memᴰ·head refl)))
+counter-in c ofPredicate = List·Memᴰ·tail (List·Memᴰ·tail (List·Memᴰ·tail (List·Memᴰ·tail (List·Memᴰ·head refl))))
+
 counters-words : (c : Counters) → areWords c ≡ true → (s : Sort) → counterAt s c < 2 ^ 32
 unfolding areWords
-counters-words c t = go
-  where
-    t₃ : (isWord (c .element) && (isWord (c .label) && (isWord (c .action) && isWord (c .predicate)))) ≡ true
-    t₃ = right-true (isWord (c .alternative)) _ t
-
-    t₄ : (isWord (c .label) && (isWord (c .action) && isWord (c .predicate))) ≡ true
-    t₄ = right-true (isWord (c .element)) _ t₃
-
-    t₅ : (isWord (c .action) && isWord (c .predicate)) ≡ true
-    t₅ = right-true (isWord (c .label)) _ t₄
-
-    go : (s : Sort) → counterAt s c < 2 ^ 32
-    go ofAlternative = ltb-true (c .alternative) (2 ^ 32) (left-true (isWord (c .alternative)) _ t)
-    go ofElement = ltb-true (c .element) (2 ^ 32) (left-true (isWord (c .element)) _ t₃)
-    go ofLabel = ltb-true (c .label) (2 ^ 32) (left-true (isWord (c .label)) _ t₄)
-    go ofAction = ltb-true (c .action) (2 ^ 32) (left-true (isWord (c .action)) _ t₅)
-    go ofPredicate = ltb-true (c .predicate) (2 ^ 32) (right-true (isWord (c .action)) _ t₅)
+counters-words c t s = ltb-true (counterAt s c) (2 ^ 32) (all-in (λ n. ltb n (2 ^ 32)) t (counter-in c s))
 
 module _ (s : Sheet) (v : Parts s) (c : Carries s) (a : areWords (s .counters) ≡ true) (l : length (encode s) ≤ 8192) where
   rule-word : (r : Rule) → List·Memᴰ r (s .rules) → length (encodeRule (encodeBlock bodyDepth) r) ≤ 65535 → {w : ℕ} → List·Memᴰ w (encodeRule (encodeBlock bodyDepth) r) → w < 2 ^ 32

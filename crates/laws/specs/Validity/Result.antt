@@ -8,7 +8,7 @@ use lib.ListN.{length, length-append}
 use lib.Dec.{leb, ltb}
 use borrow.Author.Tests.{leb-true, le-leb, ltb-true}
 use Rattle.grammar.specs.Tree.{Rule, Counters, Sheet, bodyDepth}
-use Rattle.grammar.specs.Encode.{encode, each, encodeRules, encodeCounters}
+use Rattle.grammar.specs.Encode.{encode, each, encodeRules}
 use Rattle.grammar.specs.Ids.{distinct, ruleIds, ruleNames, bodyIds, isDistinct, below, isBelow}
 use Rattle.grammar.specs.Valid.{rising, isKind, ruleLimit, valid, fits}
 use Rattle.grammar.specs.Corners.{Corners}
@@ -25,7 +25,7 @@ use Rattle.laws.specs.Lists.Count.{distinct-count, count-distinct, below
 use Rattle.laws.specs.Provenance.Trail.{Sort, ofAlternative, ofElement, ofLabel, ofAction, ofPredicate, number, counterAt, Trail, t-end, trail-append, trail-words}
 use Rattle.laws.specs.Planning.Chain.{FromHub, from-hub}
 use Rattle.laws.specs.Running.Stages.{distinct-told, stage-made, Stages, s-end, s-plan, sheet-ends}
-use Rattle.laws.specs.Validity.Fits.{Carries, fits-carries, ids-under, carries-fits}
+use Rattle.laws.specs.Validity.Fits.{counter-in, Carries, fits-carries, ids-under, carries-fits}
 use Rattle.laws.specs.Validity.Sound.{Sound, applied-sound, applied-trace}
 
 -- A sheet's validity, sort by sort.
@@ -118,14 +118,7 @@ good-reads {s} g =
 -- The counters of a sheet that fits are words.
 counters-fit : (s : Sheet) → fits s ≡ true → (k : Sort) → counterAt k (s .counters) < 2 ^ 32
 unfolding fits encode
-counters-fit s t k = ltb-true (counterAt k (s .counters)) (2 ^ 32) (all-in (λ w. ltb w (2 ^ 32)) (right-true (leb (length (encode s)) 8192) _ t) (Memᴰ·append-right (encodeRules (s .rules) ++ s .preserved) (there k)))
-  where
-    there : (k : Sort) → List·Memᴰ (counterAt k (s .counters)) (s .kind ∷ length (encodeRules (s .rules) ++ s .preserved) ∷ length (s .preserved) ∷ encodeCounters (s .counters))
-    there ofAlternative = List·Memᴰ·tail (List·Memᴰ·tail (List·Memᴰ·tail (List·Memᴰ·head refl)))
-    there ofElement = List·Memᴰ·tail (List·Memᴰ·tail (List·Memᴰ·tail (List·Memᴰ·tail (List·Memᴰ·head refl))))
-    there ofLabel = List·Memᴰ·tail (List·Memᴰ·tail (List·Memᴰ·tail (List·Memᴰ·tail (List·Memᴰ·tail (List·Memᴰ·head refl)))))
-    there ofAction = List·Memᴰ·tail (List·Memᴰ·tail (List·Memᴰ·tail (List·Memᴰ·tail (List·Memᴰ·tail (List·Memᴰ·tail (List·Memᴰ·head refl))))))
-    there ofPredicate = List·Memᴰ·tail (List·Memᴰ·tail (List·Memᴰ·tail (List·Memᴰ·tail (List·Memᴰ·tail (List·Memᴰ·tail (List·Memᴰ·tail (List·Memᴰ·head refl)))))))
+counters-fit s t k = ltb-true (counterAt k (s .counters)) (2 ^ 32) (all-in (λ w. ltb w (2 ^ 32)) (right-true (leb (length (encode s)) 8192) _ t) (Memᴰ·append-right (encodeRules (s .rules) ++ s .preserved) (List·Memᴰ·tail (List·Memᴰ·tail (List·Memᴰ·tail (counter-in (s .counters) k))))))
 
 module _ (limits : Limits) (corners : Corners) where
   -- A plan that was found starts from its hub's alternatives.
