@@ -6,8 +6,9 @@
 ANSWERS are files of answers, or folders of them. Each answer becomes checks, outside the
 crates, that the definition computes to the same refusal, or to the same plans, steps, result
 words and trail, the same origins of every node, and the same clause for every cycle that is
-left. The checker runs them in batches; an answer that it cannot compute within its limits
-counts as left out. The exit status is 1 where an answer disagrees.
+left. Of a long result origins and clauses are not asked. The checker runs them in batches; an
+answer that it cannot compute within its limits counts as left out. The exit status is 1 where an
+answer disagrees.
 """
 import argparse
 import re
@@ -18,7 +19,9 @@ from pathlib import Path
 
 LINE = 60          # numbers to a line of a list
 SMALL = 600        # bytes of a sheet that is small
-STOP = 'stopped at the step limit'
+LONG = 5000        # words of a result that is long
+# what the checker says where it ends for its own limits
+STOPS = ('stopped at the step limit', 'outgrew the memory limit')
 
 HEAD = '''use Prim.Native.Nat.{{ℕ, zero, suc}}
 use mathlib.Core.Path.{{_≡_, refl}}
@@ -172,11 +175,12 @@ def node_term(node):
 
 
 def checks(index, stored):
-    """The checks of one answer. A small one is also asked for by `answerTo` itself."""
+    """The checks of one answer. A small or a long one is asked for by `answerTo` itself."""
     sheet, answer, claims = sheet_term(stored.sheet), answer_term(stored), []
-    if stored.refused is not None or len(stored.sheet) <= SMALL:
+    long = len(stored.result) > LONG
+    if stored.refused is not None or long or len(stored.sheet) <= SMALL:
         claims.append(f'to {sheet} ≡ {answer}')
-    if stored.refused is None:
+    if stored.refused is None and not long:
         nodes = ' ∷ '.join([node_term(node) for node in stored.origins] + ['[]'])
         wanted = [node[2:] for node in stored.origins] + [[len(stored.origins)]]
         claims.append(f'all′ {sheet} ({nodes})\n  ≡ whole ({answer}) ({lists_term(stored.clauses)}) ({lists_term(wanted)})')
@@ -233,7 +237,7 @@ class Room:
             before = [stored.name for stored, start in zip(batch, at) if start <= int(line)]
             if not before:
                 sys.exit(f'the checks cannot be read:\n{message}')
-            (large if STOP in message else wrong)[before[-1]] = message[:200]
+            (large if any(stop in message for stop in STOPS) else wrong)[before[-1]] = message[:200]
         if done.returncode and not wrong and not large:
             sys.exit(f'the checker failed:\n{said[-3000:]}')
         return wrong, large

@@ -33,6 +33,9 @@ EDITS = [
     ('refusal 9 comes before 8', 'near-8', 'Run.antt',
      'elim (areWords (after .counters)) [ false ↦ 8 | true ↦ elim (isShort after recorded) [ false ↦ 9 | true ↦ 0 ] ]',
      'elim (isShort after recorded) [ false ↦ 9 | true ↦ elim (areWords (after .counters)) [ false ↦ 8 | true ↦ 0 ] ]'),
+    ('a result of exactly 32,768 bytes is refused', 'edge-9', 'Run.antt',
+     'leb (length (encode (sheetWith after))) 8192',
+     'leb (length (encode (sheetWith after))) 8191'),
     ('carried number and flag are those of the spliced alternative', 'plain', 'Substitute.antt',
      'decided (inSlotOf p os (s .id) (take i (p .elements) ++ (s .elements ++ drop (suc i) (p .elements))))',
      'decided (record { carried = s .carried; flag = s .flag; options = os; origin = s .id;'

@@ -25,6 +25,7 @@ pub struct File {
 pub enum Part {
     Examples,
     Written,
+    Edges,
     Seeds {
         profile: &'static str,
         sheets: usize,
@@ -94,6 +95,7 @@ pub const FILES: [File; 6] = [
             seeds("near-8", 80, 500),
             seeds("near-9", 30, 700),
             seeds("just-9", 3, 8_192),
+            Part::Edges,
         ],
     },
     File {
@@ -127,6 +129,7 @@ impl Part {
         match self {
             Part::Examples => examples::examples().into_iter().map(from_example).collect(),
             Part::Written => WRITTEN.iter().enumerate().map(from_written).collect(),
+            Part::Edges => [34, 35].map(edge_of_nine).into(),
             Part::Seeds {
                 profile,
                 sheets,
@@ -149,6 +152,24 @@ fn from_written((place, grammar): (usize, &&'static str)) -> Question {
         name: format!("written {}", place + 1),
         grammar: Some(grammar),
         bytes: bytes_of(&encode(&sheet(grammar))),
+    }
+}
+
+/// One plan of 300 new alternatives, and two words of its result for each option: 34 are the most
+/// that 32,768 bytes hold.
+fn edge_of_nine(options: usize) -> Question {
+    let list = |count: usize, part: &str, between: &str| vec![part; count].join(between);
+    let options_of: Vec<String> = (0..options).map(|at| format!("o{at}=1")).collect();
+    let grammar = format!(
+        "e: a | <{}> INT; a: {}; b: {};",
+        options_of.join(","),
+        list(15, "b T", " | "),
+        list(20, "e T", " | ")
+    );
+    Question {
+        name: format!("edge-9 with {options} options"),
+        grammar: None,
+        bytes: bytes_of(&encode(&sheet(&grammar))),
     }
 }
 
