@@ -2,12 +2,13 @@
 """The project's own check of what its crates promise and rest on.
 
 - Every `pub fn` and every `extern "C"` function of a library has an `ensures`.
-- Every function at the outer boundary has no `requires`: the `extern "C"` functions, and what is
-  `pub` in a library's root file src/lib.rt. Functions of other modules may rest on what the reader
-  states, and have one.
+- Every function at the outer boundary has no `requires`: the `extern "C"` functions, what is `pub`
+  in a library's root file src/lib.rt, and what that file hands on with `pub use`, the `pub` methods
+  of such types too. Functions of its open modules may rest on what the reader states, and have one.
 - No `axiom` and no hole stands in an .antt file.
-- No library's check assumed anything: its last line, which `rt` keeps in target/log, has neither
-  `foreign=` nor an `axioms=` other than 0.
+- No library assumes anything: it uses crates of this repository alone, since a library's verdict
+  does not count the axioms of the kit's; and its last line, which `rt` keeps in target/log, has
+  neither `foreign=` nor, where it was built for linking, an `axioms=` other than 0.
 
 One line for each breach, with file and line. usage: contracts.py [ROOT]
 """
@@ -36,14 +37,17 @@ ANTT = re.compile(
 )
 MODIFIERS = {"pub", "extern", '"C"', "const", "unsafe"}
 OPENING, CLOSING = {"(", "["}, {")", "]"}
+# What builds leave, and git.
+BUILT = (".git", "target", "harness/target")
 
 
 class Function:
-    """A function's head: how it can be reached, and which clauses it has."""
+    """A function's head: how it can be reached, whose method it is, and which clauses it has."""
 
-    def __init__(self, name, place, before):
+    def __init__(self, name, place, before, owner):
         self.name = name
         self.place = place
+        self.owner = owner
         self.public = "pub" in before
         self.exported = "extern" in before
         self.clauses = set()
@@ -95,7 +99,7 @@ def rattle_words(text, at=0):
 
 
 def head_end(text, at, function):
-    """Reads a function's head from `at` on, its clauses too, up to its body or its `;`."""
+    """Reads a function's head from `at` on, its clauses too, up to the mark of its body or its `;`."""
     depth = 0
     while True:
         word, place = next(rattle_words(text, at), (";", len(text)))
@@ -105,35 +109,52 @@ def head_end(text, at, function):
         elif word in CLOSING:
             depth -= 1
         elif depth == 0 and word in ("{", ";"):
-            return at
+            return place
         elif depth == 0 and word in ("requires", "ensures", "ghost"):
             function.clauses.add(word)
             at = clause_end(text, text.index("{", at))
 
 
 def functions(text):
-    """The functions of a file of Rattle, those of `impl` blocks among them."""
-    found, before, at = [], [], 0
+    """The functions of a file of Rattle; those of an `impl` block have its type as owner."""
+    found, before, open_blocks, owner, at = [], [], [], None, 0
     while True:
         word, place = next(rattle_words(text, at), (None, 0))
         if word is None:
             return found
         at = place + len(word)
+        if word in MODIFIERS:
+            before.append(word)
+            continue
         if word == "fn":
             name, named = next(rattle_words(text, at), ("", at))
-            function = Function(name, place, before)
+            function = Function(name, place, before, next(filter(None, reversed(open_blocks)), None))
             at = head_end(text, named + len(name), function)
             found.append(function)
-            before = []
-        elif word in MODIFIERS:
-            before.append(word)
-        else:
-            # `pub(crate)` is not open to other crates, and its marks end what is in front
-            before = []
+        elif word == "impl":
+            owner = next(rattle_words(text, at), (None, 0))[0]
+        elif word == "{":
+            open_blocks.append(owner)
+            owner = None
+        elif word == "}" and open_blocks:
+            open_blocks.pop()
+        # `pub(crate)` is not open to other crates, and its marks end what is in front
+        before = []
 
 
-def breaches_of_functions(where, text, is_root):
-    """What is wrong with a library's file, and how many functions were looked at."""
+def handed_on(text):
+    """The names that a root file hands on with `pub use`."""
+    words = [word for word, _ in rattle_words(text)]
+    names = set()
+    for at in range(len(words) - 1):
+        if words[at : at + 2] == ["pub", "use"]:
+            path = words[at + 2 : words.index(";", at)]
+            names |= {word for word, after in zip(path, path[1:] + [";"]) if after in (";", ",", "}")}
+    return names
+
+
+def breaches_of_functions(where, text, is_root, outside):
+    """What is wrong with a library's file, whose names `outside` are handed on; how many were looked at."""
     wrong, seen = [], 0
     for function in functions(text):
         if not (function.public or function.exported):
@@ -142,19 +163,21 @@ def breaches_of_functions(where, text, is_root):
         place = f"{where}:{line_of(text, function.place)}"
         if "ensures" not in function.clauses:
             wrong.append(f"{place}: fn {function.name} is open to callers and has no ensures")
-        outer = is_root or function.exported
+        outer = is_root or function.exported or (function.owner or function.name) in outside
         if outer and "requires" in function.clauses:
             wrong.append(f"{place}: fn {function.name} is at the outer boundary and has a requires")
     return wrong, seen
 
 
 def breaches_of_antt(where, text):
-    wrong = []
+    wrong, before = [], None
     for word, at in antt_words(text):
         if word == "axiom":
             wrong.append(f"{where}:{line_of(text, at)}: an axiom")
-        if word.startswith("?"):
+        # `{! e !}` is a hole with a candidate in it
+        if word.startswith("?") or (word.startswith("!") and before == ("{", at - 1)):
             wrong.append(f"{where}:{line_of(text, at)}: a hole, {word}")
+        before = (word, at)
     return wrong
 
 
@@ -185,17 +208,29 @@ def breaches_of_verdicts(root, crate):
     return wrong
 
 
-def files(root, suffix):
-    """The files of the repository that end so, but for what builds leave."""
+def files(root, suffix, left_out=()):
+    """The files below a folder that end so, but for some folders by their paths from there."""
     for folder, inner, names in os.walk(root):
-        inner[:] = sorted(name for name in inner if name not in (".git", "target"))
+        here = pathlib.Path(folder)
+        inner[:] = sorted(name for name in inner if (here / name).relative_to(root).as_posix() not in left_out)
         for name in sorted(names):
             if name.endswith(suffix):
-                yield pathlib.Path(folder) / name
+                yield here / name
 
 
 def libraries(root):
     return sorted(lib.parent.parent.name for lib in root.glob("crates/*/src/lib.rt"))
+
+
+def breaches_of_uses(root):
+    """The crates that are not of this repository and that crates.txt gives to a library."""
+    wrong = []
+    for number, line in enumerate((root / "crates.txt").read_text(encoding="utf-8").splitlines(), 1):
+        crate, _, uses = line.partition("#")[0].partition(":")
+        for used in uses.split() if crate.strip() in libraries(root) else []:
+            if not (root / "crates" / used).is_dir():
+                wrong.append(f"crates.txt:{number}: library {crate.strip()} uses {used}, which may assume")
+    return wrong
 
 
 def breaches(root):
@@ -203,13 +238,15 @@ def breaches(root):
     wrong, seen, read = [], 0, 0
     for crate in libraries(root):
         source = root / "crates" / crate / "src"
+        outside = handed_on((source / "lib.rt").read_text(encoding="utf-8"))
         for file in files(source, ".rt"):
             text = file.read_text(encoding="utf-8")
             is_root = file == source / "lib.rt"
-            bad, count = breaches_of_functions(file.relative_to(root), text, is_root)
+            bad, count = breaches_of_functions(file.relative_to(root), text, is_root, outside)
             wrong, seen, read = wrong + bad, seen + count, read + 1
         wrong += breaches_of_verdicts(root, crate)
-    for file in files(root, ".antt"):
+    wrong += breaches_of_uses(root)
+    for file in files(root, ".antt", BUILT):
         wrong += breaches_of_antt(file.relative_to(root), file.read_text(encoding="utf-8"))
         read += 1
     return wrong, seen, read

@@ -74,6 +74,7 @@ class Tree(unittest.TestCase):
         self.write("crates/tree/specs/Spec.antt", SPEC)
         self.write("crates/tree/proofs/twice/Proof.antt", "t = search needs\n")
         self.write("crates/show/src/main.rt", "pub fn bare() {}\nfn main() {}\n")
+        self.write("crates.txt", "tree:\nshow: tree io libc\n")
         self.write("target/log/tree.say", VERDICT)
         self.write("target/log/show.say", "logic=proved functions=1 axioms=2 sum=0\n")
 
@@ -138,6 +139,30 @@ class Tree(unittest.TestCase):
             "crates/tree/src/inner.rt:1: fn sum is at the outer boundary and has a requires"
         )
 
+    def test_requires_of_a_function_handed_on(self):
+        self.edit("crates/tree/src/lib.rt", "mod inner;", "mod inner;\npub use inner::sum;")
+        self.assert_breach(
+            "crates/tree/src/inner.rt:1: fn sum is at the outer boundary and has a requires"
+        )
+
+    def test_requires_of_a_method_handed_on(self):
+        method = "pub fn add(self, y: u32) -> Sum\n    requires { ⌜ y < 4 ⌝ }\n    ensures { λ r. ⌜ r .n ≡ y ⌝ }\n{ self }\n"
+        self.write("crates/tree/src/sum.rt", f"struct Sum {{ n: u32 }}\n\nimpl Sum {{\n{method}}}\n")
+        self.edit("crates/tree/src/lib.rt", "mod inner;", "mod inner;\nmod sum;")
+        self.assertEqual(self.check()[0], 0)
+        self.edit("crates/tree/src/lib.rt", "mod sum;", "mod sum;\npub use sum::{Other, Sum};")
+        self.assert_breach(
+            "crates/tree/src/sum.rt:4: fn add is at the outer boundary and has a requires"
+        )
+
+    def test_pub_fn_in_a_folder_named_target(self):
+        self.write("crates/tree/src/target/deep.rt", "pub fn bare() {}\n")
+        self.assert_breach("crates/tree/src/target/deep.rt:1: fn bare is open to callers and has no ensures")
+
+    def test_library_that_uses_the_kit(self):
+        self.write("crates.txt", "# crates\ntree: io  # writes\nshow: tree io libc\n")
+        self.assert_breach("crates.txt:2: library tree uses io, which may assume")
+
     def test_axiom(self):
         self.write("crates/tree/specs/More.antt", "\naxiom pub more : ℕ\n")
         self.assert_breach("crates/tree/specs/More.antt:2: an axiom")
@@ -153,7 +178,15 @@ class Tree(unittest.TestCase):
             "crates/tree/proofs/twice/Proof.antt:2: a hole, ?rest",
         )
 
-    def test_axioms_of_a_library(self):
+    def test_hole_with_a_candidate(self):
+        self.write("crates/tree/proofs/twice/Proof.antt", "s = f { ! }\nt = {! search needs !}\n")
+        self.assert_breach("crates/tree/proofs/twice/Proof.antt:2: a hole, !")
+
+    def test_axiom_in_a_folder_named_target(self):
+        self.write("crates/tree/specs/target/More.antt", "axiom more : ℕ\n")
+        self.assert_breach("crates/tree/specs/target/More.antt:1: an axiom")
+
+    def test_axioms_of_a_library_built_for_linking(self):
         line = "logic=proved functions=5 axioms=1 sum=0"
         self.write("target/log/tree.say", line + "\n")
         self.assert_breach(f"target/log/tree.say:1: library tree rests on axioms: {line}")

@@ -1,15 +1,14 @@
 -- The reader's answer as document 01 gives it: the refusal's number, or the sheet's parts, with the rules beside it.
 use Prim.Native.Nat.{ℕ, _+_}
 use mathlib.Core.Path.{_≡_}
-use mathlib.Core.List.{List}
+use mathlib.Core.List.{List, [], _∷_}
 use mathlib.Core.Bool.{true, false}
 use lib.ListN.{length, getD, replicate}
 use lib.Dec.{leb}
 use Rattle.grammar.specs.Tree as tree
-use Rattle.grammar.specs.Encode.{encodeRules}
-use Rattle.grammar.specs.Words.{words}
+use Rattle.grammar.specs.Encode.{encodeRules, encodeCounters}
 use Rattle.grammar.specs.Reading as reading
-use Rattle.grammar.specs.Reading.{refused, sheet, isLength, readWords}
+use Rattle.grammar.specs.Reading.{refused, sheet, isLength, read}
 use Rattle.sheet.specs.declared.judge.Counters.{Counters}
 use Rattle.sheet.specs.declared.rules.Rules.{Rules}
 use Rattle.sheet.specs.declared.answer.Parts.{Parts}
@@ -43,22 +42,43 @@ abbrev pub answerOf : reading.Reading → Answer
 answerOf (refused n) = Refused n
 answerOf (sheet s) = Sheet (partsOf s)
 
+-- Document 01's number for each case of the enum, 0 for a sheet, and the values that the case has: unit kind, place and
+-- length of the preserved list, and the five counters.
+abbrev pub numberOf : Answer → ℕ
+numberOf (Refused n) = n
+numberOf (Sheet p) = 0
+
+abbrev pub valuesOf : Answer → List ℕ
+valuesOf (Refused n) = []
+valuesOf (Sheet p) = p .kind ∷ p .preserved ∷ p .count ∷ encodeCounters (countersOf (p .counters))
+
+-- The same of what the definition finds.
+abbrev pub numberIn : reading.Reading → ℕ
+numberIn (refused n) = n
+numberIn (sheet s) = 0
+
+abbrev pub valuesIn : reading.Reading → List ℕ
+valuesIn (refused n) = []
+valuesIn (sheet s) = s .kind ∷ length (encodeRules (s .rules)) ∷ length (s .preserved) ∷ encodeCounters (s .counters)
+
 -- The arrays of a sheet's rules; of a refusal empty ones.
 abbrev pub RowsIn : reading.Reading → Rules → Type 0
 RowsIn (refused n) rules = IsEmpty rules
 RowsIn (sheet s) rules = RowsOf (s .rules) rules
 
--- What the code answers is what the definition finds.
+-- What the code answers is what the definition finds: the enum's case, and document 01's number and values for it.
 pub record ReadAs (found : reading.Reading) (r : Reading) : Type 0 where
   pub answer : r .answer ≡ answerOf found
+  pub number : numberOf (r .answer) ≡ numberIn found
+  pub values : valuesOf (r .answer) ≡ valuesIn found
   pub rows : RowsIn found (r .rules)
 
--- The reader with a work area lent to it: refusal 2 where that has under 65,536 bytes.
+-- The reader with a work area lent to it: refusal 2 where that has under 65,536 bytes, behind refusal 1.
 unfoldable pub readLent : List ℕ → List ℕ → reading.Reading
 readLent bs work =
     elim (isLength (length bs)) [
       | false ↦ refused 1
-      | true ↦ elim (leb 65536 (length work)) [ false ↦ refused 2 | true ↦ readWords (words bs) ]
+      | true ↦ elim (leb 65536 (length work)) [ false ↦ refused 2 | true ↦ read bs ]
     ]
 
 -- The work area afterwards: untouched under 1 and 2, else zeros.

@@ -4,3 +4,4 @@ pub mod Walk
 pub mod Rules
 pub mod Answer
 pub mod Sizes
+pub mod Words

@@ -10,7 +10,7 @@ use Rattle.grammar.specs.Reading.{refused, sheet}
 use Rattle.sheet.specs.declared.answer.Parts.{Parts}
 use Rattle.sheet.specs.declared.sizes.Sizes.{Sizes}
 use Rattle.sheet.specs.Rules.{row, placesFrom}
-use Rattle.sheet.specs.Answer.{partsOf}
+use Rattle.sheet.specs.Answer.{partsOf, numberIn}
 use Rattle.sheet.specs.declared.sizes.Summary.{Summary}
 use Rattle.sheet.specs.declared.sizes.Summary.the-variants.{Refused, Sheet}
 
@@ -21,6 +21,25 @@ sizesOf s =
 abbrev pub summaryOf : reading.Reading → Summary
 summaryOf (refused n) = Refused n
 summaryOf (sheet s) = Sheet (sizesOf s)
+
+-- Document 01's number for each case of the enum, and the sizes of a sheet; then that the code's summary is the
+-- definition's.
+abbrev pub numberOf : Summary → ℕ
+numberOf (Refused n) = n
+numberOf (Sheet z) = 0
+
+abbrev pub valuesOf : Summary → List ℕ
+valuesOf (Refused n) = []
+valuesOf (Sheet z) = z .rules ∷ z .alternatives ∷ z .elements ∷ z .preserved ∷ []
+
+abbrev pub valuesIn : reading.Reading → List ℕ
+valuesIn (refused n) = []
+valuesIn (sheet s) = length (s .rules) ∷ length (bodyIds 2 (s .rules)) ∷ length (bodyIds 3 (s .rules)) ∷ length (s .preserved) ∷ []
+
+pub record SummedAs (found : reading.Reading) (r : Summary) : Type 0 where
+  pub summary : r ≡ summaryOf found
+  pub number : numberOf r ≡ numberIn found
+  pub values : valuesOf r ≡ valuesIn found
 
 pub record Counted (rs : List tree.Rule) (n preserved : ℕ) (r : Sizes) : Type 0 where
   pub rules : r .rules ≡ n

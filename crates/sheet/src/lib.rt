@@ -2,7 +2,7 @@
 // Words, and the walks over a sheet that was read, are open to the crates above.
 mod answer;
 mod distinct;
-pub mod ids;
+mod ids;
 mod judge;
 mod lists;
 mod records;
@@ -26,7 +26,7 @@ use sizes::sheet_numbers;
 use words::clear;
 ghost use mathlib.Core.Path.{_≡_};
 ghost use Rattle.sheet.specs.Answer.{ReadAs, readLent, workAfter};
-ghost use Rattle.sheet.specs.Sizes.{summaryOf, numbersOf, idsOf, namesOf, placesOf};
+ghost use Rattle.sheet.specs.Sizes.{SummedAs, numbersOf, idsOf, namesOf, placesOf};
 
 // Reads a sheet. The work area ends as it was under refusals 1 and 2, else all zeros.
 pub fn read(sheet: &[u8], work: &mut [u8]) -> Reading
@@ -53,7 +53,7 @@ pub fn read(sheet: &[u8], work: &mut [u8]) -> Reading
 
 // What a sheet holds, or its refusal; the work area ends as after `read`.
 pub fn summary(sheet: &[u8], work: &mut [u8]) -> Summary
-    ensures { λ r. ⌜ r ≡ summaryOf (readLent (now (sheet .entry)) (now (work .entry))) ⌝ }
+    ensures { λ r. ⌜ SummedAs (readLent (now (sheet .entry)) (now (work .entry))) r ⌝ }
     ensures { λ r. ⌜ now (work .exit) ≡ workAfter (now (sheet .entry)) (now (work .entry)) ⌝ }
 {
     let r = read(sheet, work);

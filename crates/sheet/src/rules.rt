@@ -37,7 +37,7 @@ impl Rules {
     }
 
     // One rule more.
-    pub fn with(mut self, id: u32, name: u32, place: u32) -> Rules
+    fn with(mut self, id: u32, name: u32, place: u32) -> Rules
         requires { ⌜ self .n < 128 ⌝ }
         ensures { λ r. ⌜ IsWith self id name place r ⌝ }
     {

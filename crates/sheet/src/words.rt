@@ -3,6 +3,7 @@ ghost use mathlib.Core.Path.{_≡_};
 ghost use Prim.Native.Nat.{_+_, _*_, _/_, _%_, _<_, _≤_, _^_};
 ghost use lib.ListN.{length, getD, set, replicate};
 ghost use Rattle.grammar.specs.Words.{words, wordOf};
+ghost use Rattle.sheet.specs.Words.{withWord};
 
 // A byte as a word.
 fn wide(x: u8) -> u32
@@ -30,7 +31,7 @@ pub fn word(s: &[u8], at: usize) -> u32
 // The four bytes from `at` on.
 fn put_bytes(s: &mut [u8], at: usize, w: u32)
     requires { ⌜ at + 4 ≤ length (now s) ⌝ }
-    ensures { λ _. ⌜ now (s .exit) ≡ set (set (set (set (now (s .entry)) at (w % 256)) (at + 1) (w / 256 % 256)) (at + 2) (w / 256 / 256 % 256)) (at + 3) (w / 256 / 256 / 256 % 256) ⌝ }
+    ensures { λ _. ⌜ now (s .exit) ≡ withWord (now (s .entry)) at w ⌝ }
 {
     s[at] = (w % 256) as u8;
     s[at + 1] = (w / 256 % 256) as u8;
@@ -38,10 +39,11 @@ fn put_bytes(s: &mut [u8], at: usize, w: u32)
     s[at + 3] = (w / 256 / 256 / 256 % 256) as u8;
 }
 
-// The word at `at`, counted in words, is now `w`, and no other changes.
+// The word at `at`, counted in words, is now `w`; no other word changes, and no byte behind the last one.
 pub fn put_word(s: &mut [u8], at: usize, w: u32)
     requires { ⌜ 4 * at + 4 ≤ length (now s) ⌝ }
     ensures { λ _. ⌜ words (now (s .exit)) ≡ set (words (now (s .entry))) at w ⌝ }
+    ensures { λ _. ⌜ now (s .exit) ≡ withWord (now (s .entry)) (4 * at) w ⌝ }
 {
     put_bytes(s, 4 * at, w);
 }

@@ -17,7 +17,7 @@ use Rattle.grammar.specs.Read.{rulesAt}
 use Rattle.grammar.specs.Valid.{rising, ruleLimit}
 use Rattle.grammar.specs.Ids.{isDistinct, isBelow}
 use Rattle.grammar.specs.Reading as reading
-use Rattle.grammar.specs.Reading.{refused, sheet, rulesEnd, isTrailer, preservedIds, countersOf, rulesOf, sheetOf, judge, readWords, isLength}
+use Rattle.grammar.specs.Reading.{refused, sheet, rulesEnd, isTrailer, preservedIds, countersOf, rulesOf, sheetOf, judge, readWords, read, isLength}
 use Rattle.grammar.specs.Laws.Words.{length-words}
 use Rattle.grammar.specs.Laws.Stands.{stands-length}
 use Rattle.grammar.specs.Laws.Parse.{yields-got}
@@ -29,7 +29,7 @@ use Rattle.sheet.specs.declared.answer.Answer.the-variants.{Refused, She
 use Rattle.sheet.specs.declared.answer.Reading.{Reading}
 use Rattle.sheet.specs.Rules.{IsEmpty, RulesRead, FoundRows, isGot}
 use Rattle.sheet.specs.Answer as answer
-use Rattle.sheet.specs.Answer.{CountersAt, ReadAs, answerOf, readLent, workAfter}
+use Rattle.sheet.specs.Answer.{CountersAt, ReadAs, answerOf, numberOf, valuesOf, numberIn, valuesIn, RowsIn, readLent, workAfter}
 
 -- the trailer
 module _ (bs : List ℕ) {t : ℕ} (e : t ≡ length bs / 4 - 8) where
@@ -62,9 +62,21 @@ second-fits {x} {y} e f h = let g = leb-true y x h in omega arith
 
 pub ruleset trailers = (kind-low, kind-high, first-other, second-decides, no-second, second-fits)
 
+-- the number and the values go with the answer
+read-as : (g : reading.Reading) {r : Reading} → r .answer ≡ answerOf g → RowsIn g (r .rules) → ReadAs g r
+read-as g {r} a i = record { answer = a; number = ap numberOf a ∙ number-same g; values = ap valuesOf a ∙ values-same g; rows = i }
+  where
+    number-same : (g : reading.Reading) → numberOf (answerOf g) ≡ numberIn g
+    number-same (refused n) = refl
+    number-same (sheet s) = refl
+
+    values-same : (g : reading.Reading) → valuesOf (answerOf g) ≡ valuesIn g
+    values-same (refused n) = refl
+    values-same (sheet s) = refl
+
 -- refusals
 pub read-refused : {g : reading.Reading} {n : ℕ} {r : Reading} → g ≡ refused n → r .answer ≡ Refused n → IsEmpty (r .rules) → ReadAs g r
-read-refused {g} {n} {r} e a i = record { answer = a ∙ sym (ap answerOf e); rows = rw e i }
+read-refused {g} {n} {r} e a i = read-as g (a ∙ sym (ap answerOf e)) (rw e i)
 
 module _ (ws : List ℕ) (rs : List Rule) (end : ℕ) where
   pub not-distinct : isDistinct rs ≡ false → judge ws (got rs end) ≡ refused 5
@@ -103,7 +115,7 @@ module _ (bs : List ℕ) {t end : ℕ} {rules : Rules} (e : t ≡ length bs / 4 
       → judge (words bs) (got (f .found .trees) end) ≡ sheet (sheetOf (words bs) (f .found .trees))
       → ReadAs (judge (words bs) (got (f .found .trees) end)) (record { answer = Sheet (record { kind = k; preserved = end; count = c; counters = a }); rules = rules })
   unfolding sheetOf countersOf
-  sheet-read {k} {c} {a} p q n j = record { answer = same ∙ sym (ap answerOf j); rows = rw j (f .rows) }
+  sheet-read {k} {c} {a} p q n j = read-as (judge (words bs) (got (f .found .trees) end)) (same ∙ sym (ap answerOf j)) (rw j (f .rows))
     where
       back : (i : ℕ) → getD (words bs) (t + i) 0 ≡ getD (words bs) (length (words bs) - 8 + i) 0
       back i = ap (λ x. getD (words bs) (x + i) 0) (sym (here bs e))
@@ -216,8 +228,8 @@ module _ (bs work : List ℕ) where
     after-two h = rw (e, lt-leb 65536 (length work) h, workAfter)
 
     pub lent-all : 65536 ≤ length work → readLent bs work ≡ readWords (words bs)
-    unfolding readLent
-    lent-all h = rw (e, le-leb 65536 (length work) h, readLent)
+    unfolding readLent read
+    lent-all h = rw (e, le-leb 65536 (length work) h, readLent) (rw (e, read) refl)
 
     pub after-all : {after : List ℕ} → 65536 ≤ length work → after ≡ replicate (length work) 0 → after ≡ workAfter bs work
     unfolding workAfter

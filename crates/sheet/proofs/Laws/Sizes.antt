@@ -14,7 +14,7 @@ use Rattle.grammar.specs.Words.{words}
 use Rattle.grammar.specs.Encode.{encode, encodeRules, encodeCounters}
 use Rattle.grammar.specs.Ids.{bodyIds}
 use Rattle.grammar.specs.Reading as reading
-use Rattle.grammar.specs.Reading.{refused, sheet, isLength, readWords}
+use Rattle.grammar.specs.Reading.{refused, sheet, isLength, readWords, read}
 use Rattle.grammar.specs.Laws.Words.{length-words}
 use Rattle.grammar.specs.Laws.Stands.{stands-self, stands-split, stands-length, stands-within}
 use Rattle.grammar.specs.Laws.Parse.{left-true, right-true}
@@ -23,11 +23,12 @@ use Rattle.sheet.specs.declared.answer.Parts.{Parts}
 use Rattle.sheet.specs.declared.answer.Answer.the-variants.{Refused, Sheet}
 use Rattle.sheet.specs.Walk.{FoundRules, RulesSpan, CollectedSort}
 use Rattle.sheet.specs.declared.answer.Reading.{Reading}
+use Rattle.sheet.specs.declared.sizes.Summary.{Summary}
 use Rattle.sheet.specs.declared.sizes.Sizes.{Sizes}
 use Rattle.sheet.specs.declared.sizes.Summary as summary
 use Rattle.sheet.specs.declared.sizes.Summary.the-variants as summary-of
-use Rattle.sheet.specs.Answer.{answerOf, partsOf, readLent, workAfter, ReadAs, RowsIn}
-use Rattle.sheet.specs.Sizes.{Counted, sizesOf, summaryOf, numbersFrom, numbersOf, idsOf, namesOf, placesOf}
+use Rattle.sheet.specs.Answer.{answerOf, partsOf, numberIn, readLent, workAfter, ReadAs, RowsIn}
+use Rattle.sheet.specs.Sizes.{Counted, sizesOf, summaryOf, numbersFrom, numbersOf, idsOf, namesOf, placesOf, numberOf, valuesOf, valuesIn, SummedAs}
 
 pub sort-count : {ws : List ℕ} {end n sort : ℕ} (bs : List ℕ) {k : ℕ} → CollectedSort ws end n sort (words bs) k → 4 * end + 4 ≤ length bs
     → (f : FoundRules ws end n 0) → k ≡ length (bodyIds sort (f .trees))
@@ -73,7 +74,7 @@ good-words bs s h g e =
     }
 
 pub good : (bs work : List ℕ) (s : tree.Sheet) → readLent bs work ≡ sheet s → Good bs s × (65536 ≤ length work)
-unfolding readLent
+unfolding readLent read
 good bs work s e = go (isLength (length bs)) refl (leb 65536 (length work)) refl
   where
     go : (b : Bool) → isLength (length bs) ≡ b → (d : Bool) → leb 65536 (length work) ≡ d → Good bs s × (65536 ≤ length work)
@@ -82,7 +83,7 @@ good bs work s e = go (isLength (length bs)) refl (leb 65536 (length work)) refl
     go true x true y =
         let m = left-true (leb 32 (length bs)) _ x in
         let n = left-true (leb (length bs) 32768) _ (right-true (leb 32 (length bs)) _ x) in
-        (good-words bs s (leb-true _ _ m) (leb-true _ _ n) (rw (x, y, readLent) at e), leb-true _ _ y)
+        (good-words bs s (leb-true _ _ m) (leb-true _ _ n) (rw (x, read) at (rw (x, y, readLent) at e)), leb-true _ _ y)
 
 -- an answer taken back to what was read
 pub record WasSheet (g : reading.Reading) (p : Parts) : Type 0 where
@@ -130,10 +131,22 @@ summed bs work {r} {p} a e = go (was-sheet (readLent bs work) p (sym (a .answer)
           parts = w .parts;
         }
 
+-- the number and the sizes go with the summary
+summed-as : (g : reading.Reading) {r : Summary} → r ≡ summaryOf g → SummedAs g r
+summed-as g e = record { summary = e; number = ap numberOf e ∙ number-same g; values = ap valuesOf e ∙ values-same g }
+  where
+    number-same : (g : reading.Reading) → numberOf (summaryOf g) ≡ numberIn g
+    number-same (refused n) = refl
+    number-same (sheet s) = refl
+
+    values-same : (g : reading.Reading) → valuesOf (summaryOf g) ≡ valuesIn g
+    values-same (refused n) = refl
+    values-same (sheet s) = refl
+
 -- the answers
 module _ (bs work : List ℕ) {r : Reading} (a : ReadAs (readLent bs work) r) where
-  pub summary-refused : {n : ℕ} → r .answer ≡ Refused n → summary-of.Refused n ≡ summaryOf (readLent bs work)
-  summary-refused {n} e = sym (ap summaryOf (was-refused (readLent bs work) n (sym (a .answer) ∙ e)))
+  pub summary-refused : {n : ℕ} → r .answer ≡ Refused n → SummedAs (readLent bs work) (summary-of.Refused n)
+  summary-refused {n} e = summed-as (readLent bs work) (sym (ap summaryOf (was-refused (readLent bs work) n (sym (a .answer) ∙ e))))
 
   pub numbers-refused : {n : ℕ} {ns : List ℕ} → r .answer ≡ Refused n → ns ≡ n ∷ replicate 11 0 → ns ≡ numbersOf (readLent bs work)
   numbers-refused {n} e f = f ∙ sym (ap numbersOf (was-refused (readLent bs work) n (sym (a .answer) ∙ e)))
@@ -148,8 +161,8 @@ module _ (bs work : List ℕ) {p : Parts} {n : ℕ} {z : Sizes} (m : Summed bs w
         preserved = (c .kept ∙ ap (λ q. q .count) (m .parts)) i;
       }
 
-  pub summary-sheet : summary-of.Sheet z ≡ summaryOf (readLent bs work)
-  summary-sheet = ap summary-of.Sheet sizes-are ∙ sym (ap summaryOf (m .is))
+  pub summary-sheet : SummedAs (readLent bs work) (summary-of.Sheet z)
+  summary-sheet = summed-as (readLent bs work) (ap summary-of.Sheet sizes-are ∙ sym (ap summaryOf (m .is)))
 
   pub numbers-sheet : {ns : List ℕ} → ns ≡ numbersFrom p z → ns ≡ numbersOf (readLent bs work)
   numbers-sheet e = e ∙ ap₂ numbersFrom (m .parts) sizes-are ∙ sym (ap numbersOf (m .is))

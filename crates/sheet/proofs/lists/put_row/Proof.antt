@@ -36,7 +36,7 @@ loop-less c = search needs
 loop-again : tie.Need-loop-again Inv-loop μ-loop
 loop-again c =
     let i = c .before .before .before .before .before .before .loop .inv in
-    (omega arith, omega arith, row-more _ _ _ _ _ (i .2) (omega arith) (omega arith) refl (c .before .before .put-word .ensures))
+    (omega arith, omega arith, row-more _ _ _ _ _ (i .2) (omega arith) (omega arith) refl (c .before .before .put-word .ensures .0))
 
 same-length : tie.Need-same-length Inv-loop μ-loop
 same-length c = search needs
