@@ -39,7 +39,7 @@ pub fn is_below(s: &[u8], n: usize, counter: u32) -> bool
     true
 }
 
-// Whether no two of the first n words are equal; the words are left in another order.
+// Whether no two of the first n words are equal; among these the words may have moved.
 pub fn is_distinct(s: &mut [u8], n: usize) -> bool
     requires { ⌜ 4 * n ≤ length (now s) ⌝ }
     ensures { λ r. ⌜ r ≡ distinct (take n (words (now (s .entry)))) ⌝ }
