@@ -59,13 +59,13 @@ module _ (g : Grammar) (cycle : List ℕ) where
         elim (first (λ i. member i external) candidates) [ some i ↦ some i | none ↦ first (λ i. true) candidates ]
 
 -- satellite_has_embedded_semantics, l. 790, with elements_have_semantics, l. 791, as ids: an action or predicate has one.
-unfoldable pub hasEmbeddedSemantics : (d : ℕ) → Block d → Bool
-hasEmbeddedSemantics d b = not (isEmpty (blockIds 5 d b ++ blockIds 6 d b))
+unfoldable pub satelliteHasEmbeddedSemantics : (d : ℕ) → Block d → Bool
+satelliteHasEmbeddedSemantics d b = not (isEmpty (blockIds 5 d b ++ blockIds 6 d b))
 
 -- satellite_is_inlinable, l. 764. What the rule itself must not have is in its flags.
 unfoldable pub satelliteIsInlinable : (d : ℕ) → RuleOf (Block (suc d)) → Bool
 satelliteIsInlinable d r =
-    eqb (r .flags) 0 && (all (λ a. eqb (a .flag) 0) (r .body) && not (hasEmbeddedSemantics (suc d) (r .body)))
+    eqb (r .flags) 0 && (all (λ a. eqb (a .flag) 0) (r .body) && not (satelliteHasEmbeddedSemantics (suc d) (r .body)))
 
 module _ (g : Grammar) (hub : ℕ) where
   -- hub_call, l. 888: the arguments of a call of the hub with quantifier 0.

@@ -117,7 +117,7 @@ unfolding Encode.encodeHead Encode.leafKind Encode.encodeLeaf Encode.encodeEleme
     Analysis.grammarOf Analysis.isStop Analysis.collectLeftCornerCalls Analysis.blockCorners Analysis.leftCorners Analysis.leadFrom Analysis.reachRound
     Analysis.reachFrom Analysis.reach Analysis.component Analysis.isCycle Analysis.cyclesFrom Analysis.leftCornerCycles Apply.freshEach Apply.renumberLabel
     Apply.renumberHead Apply.renumberLeaf Apply.renumberElement Apply.renumberElements Apply.renumberAlternative Apply.renumberBlock Apply.applyAlternative
-    Apply.withBody Apply.applyPlan Plan.calledCorner Plan.classifyCorner Plan.cornerEntersCycle Plan.externallyReferenced Plan.isCandidate Plan.chooseHub Plan.hasEmbeddedSemantics
+    Apply.withBody Apply.applyPlan Plan.calledCorner Plan.classifyCorner Plan.cornerEntersCycle Plan.externallyReferenced Plan.isCandidate Plan.chooseHub Plan.satelliteHasEmbeddedSemantics
     Plan.satelliteIsInlinable Plan.hubCall Plan.isHubCall Plan.givesHubArguments Plan.startsWithHubCall Plan.isRecursive Plan.isPrimary Plan.isFit
     Plan.plannedHubIsDirectlyRewritable Plan.callsKept Plan.removableRound Plan.removableSatellites Plan.asTheyAre Plan.planCycle Run.searchCycles
     Run.findPlan Run.areWords Run.isShort Run.refusalOf Run.eliminateInUnit Run.eliminateMutualLeftRecursion Run.sheetAfter Run.stepsOf Run.encodeEntry
