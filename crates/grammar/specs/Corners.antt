@@ -3,6 +3,7 @@ use Prim.Native.Nat.{ℕ}
 use mathlib.Core.Path.{_≡_}
 use mathlib.Core.Option.{Option, none, some}
 use mathlib.Core.Bool.{Bool, true, false}
+use Rattle.grammar.specs.Tree.{Leaf, call, token, terminal}
 use Rattle.grammar.specs.Shape.{Shape, eps, fail, symbol, callOf, seq, alt, opt, star, plus, Shapes, find}
 use Rattle.grammar.specs.Derive.{CanBeEmpty}
 
@@ -28,6 +29,12 @@ isSymbol G (alt s t) = false
 isSymbol G (opt s) = isSymbol G s
 isSymbol G (star s) = isSymbol G s
 isSymbol G (plus s) = isSymbol G s
+
+-- "A symbol is a token, or a call whose name no rule of its grammar has, [..] or a kind 5 element".
+pub data IsSymbol (G : Shapes) : Leaf → Type 0 where
+  is-token : {n : ℕ} → IsSymbol G (token n)
+  is-terminal : IsSymbol G terminal
+  is-unknown : {n a : ℕ} → find G n ≡ none → IsSymbol G (call n a)
 
 -- Where a reading stops, though what stands there can be empty.
 unfoldable pub stops : Corners → Shapes → Shape → Bool

@@ -5,7 +5,8 @@ use mathlib.Core.List.{List, [], _∷_, map}
 use mathlib.Core.Option.{Option, none, some}
 use mathlib.Core.Bool.{true, false}
 use lib.Dec.{leb, eqb}
-use Rattle.grammar.specs.Tree.{Leaf, epsilon, action, predicate, call, token, terminal, Element, leaf, block, Block, RuleOf}
+use Rattle.grammar.specs.Lists.{AllOf}
+use Rattle.grammar.specs.Tree.{Leaf, epsilon, action, predicate, call, token, terminal, ElementHead, Element, leaf, block, Block, RuleOf}
 
 -- A token, or a call whose name no rule has, each with its name, or a kind 5 element with its carried number.
 pub data Symbol : Type 0 where
@@ -101,3 +102,13 @@ EachCall P (alt s t) = EachCall P s × EachCall P t
 EachCall P (opt s) = EachCall P s
 EachCall P (star s) = EachCall P s
 EachCall P (plus s) = EachCall P s
+
+-- A property of every leaf of a tree, with its element's head.
+module _ (P : ElementHead → Leaf → Type 0) where
+  abbrev pub OnElement : {B : Type 0} → (B → Type 0) → Element B → Type 0
+  OnElement Q (leaf h l) = P h l
+  OnElement Q (block h b) = Q b
+
+  unfoldable pub OnBlock : (d : ℕ) → Block d → Type 0
+  OnBlock zero b = Unit {0}
+  OnBlock (suc d) as′ = AllOf (λ a. AllOf (OnElement (OnBlock d)) (a .elements)) as′

@@ -1,26 +1,26 @@
 -- What is promised of the definition: properties first, numbered 1 to 11, and two sheets on which more cannot be had; at the
 -- end `Theorems`, which says of what each property holds. The quoted sentences are document 01's. The proof is in Proved.
-use Prim.Native.Nat.{ℕ, suc, _^_, _≤_, _<_, zero, _+_, _*_, max}
+use Prim.Native.Nat.{ℕ, suc, _^_, _≤_, _<_, _+_, _*_, max}
 use mathlib.Core.Path.{_≡_}
 use mathlib.Core.Logic.{_↔_, _⊎_}
 use mathlib.Core.List.{List, [], _∷_, _++_, map, List·Memᴰ}
 use mathlib.Core.Option.{some, none}
-use mathlib.Core.Bool.{true, false, not}
+use mathlib.Core.Bool.{true, false}
 use lib.ListN.{length, getD}
 use lib.Dec.{eqb}
-use Rattle.grammar.specs.Lists.{any, push, keep, total, AllOf, AnyOf}
-use Rattle.grammar.specs.Tree.{ElementHead, Element, leaf, block, call, AlternativeOf, Block, RuleOf, Sheet, Leaf, token, terminal, Alternative, Rule, bodyDepth}
+use Rattle.grammar.specs.Lists.{any, keep, total, AllOf, AnyOf}
+use Rattle.grammar.specs.Tree.{ElementHead, Element, leaf, block, call, Block, RuleOf, Sheet, Leaf, Alternative, Rule, bodyDepth}
 use Rattle.grammar.specs.Words.{words, bytes}
 use Rattle.grammar.specs.Encode.{encode, each}
-use Rattle.grammar.specs.Ids.{member, distinct}
+use Rattle.grammar.specs.Ids.{elementIds, blockIds, member, distinct}
 use Rattle.grammar.specs.Valid.{all, rising, valid, fits}
 use Rattle.grammar.specs.Reading.{sheet, read}
-use Rattle.grammar.specs.Shape.{eraseElement, eraseElements, eraseBlock, Shapes, eraseRules, find, Word, EachCall}
+use Rattle.grammar.specs.Shape.{eraseElement, eraseElements, eraseBlock, Shapes, eraseRules, Word, EachCall, OnBlock}
 use Rattle.grammar.specs.Derive.{CanBeEmpty, RuleDerives, isKept, isRemoved}
-use Rattle.grammar.specs.Corners.{Corners, rust, textbook, Corner}
+use Rattle.grammar.specs.Corners.{Corners, rust, textbook, IsSymbol, Corner}
 use Rattle.grammar.specs.Cycles.{LeftCorner, called, inside, CornerRule, RuleReaches, IsLargest}
 use Rattle.reference.specs.Analysis.{elementNullable, blockIsNullable, nullableRules, grammarOf, leftCorners, blockCorners, leftCornerCycles, Grammar, target}
-use Rattle.reference.specs.Substitute.{Clause, Limits, standard, PlannedAlternative, Planned, decided, declined, budget, settled, plannedCorner, step}
+use Rattle.reference.specs.Substitute.{Clause, Limits, standard, Planned, decided, declined, budget, settled, plannedCorner, splitOptional, spliceAlternative, step}
 use Rattle.reference.specs.Apply.{Entry, boundary, Node, Origin, Origins, sameOrigin, origins, recorded, provenance}
 use Rattle.reference.specs.Plan.{chooseHub, CyclePlan, asTheyAre, planCycle}
 use Rattle.reference.specs.Run.{innerDepth, Stage, ended, sheetWith, eliminateInUnit, eliminateMutualLeftRecursion, sheetAfter, stepsOf, encodeEntry, entriesOf, answer, answerTo, filled, areLent, outcome}
@@ -89,23 +89,7 @@ pub record NoCorner (corners : Corners) (rules : List Rule) (cycle : List ℕ) (
   pub none : (q : Rule) → List·Memᴰ q rules → member (q .id) cycle ≡ true
       → Corner corners (eraseRules bodyDepth rules) (eraseElements (eraseBlock innerDepth) es) (q .name) → ⊥
 
--- "A symbol is a token, or a call whose name no rule of its grammar has, [..] or a kind 5 element".
-pub data IsSymbol (G : Shapes) : Leaf → Type 0 where
-  is-token : {n : ℕ} → IsSymbol G (token n)
-  is-terminal : IsSymbol G terminal
-  is-unknown : {n a : ℕ} → find G n ≡ none → IsSymbol G (call n a)
-
--- A property of every leaf of a tree, with its element's head.
-module _ (P : ElementHead → Leaf → Type 0) where
-  abbrev pub OnElement : {B : Type 0} → (B → Type 0) → Element B → Type 0
-  OnElement Q (leaf h l) = P h l
-  OnElement Q (block h b) = Q b
-
-  unfoldable pub OnBlock : (d : ℕ) → Block d → Type 0
-  OnBlock zero b = Unit {0}
-  OnBlock (suc d) as′ = AllOf (λ a. AllOf (OnElement (OnBlock d)) (a .elements)) as′
-
--- It is no symbol with quantifier 1 to 4.
+-- A leaf is no symbol with quantifier 1 to 4.
 abbrev pub NotOptional : Shapes → ElementHead → Leaf → Type 0
 NotOptional G h l = IsSymbol G l → isOptional h ≡ false
 
@@ -255,16 +239,48 @@ pub record OriginsTold (trail : List Entry) : Type 0 where
   pub recorded : (e : Entry) → List·Memᴰ e trail → Traced (provenance trail) e
   pub others : (n : Node) → ((e : Entry) → List·Memᴰ e trail → nodeOf e ≡ n → ⊥) → origins (provenance trail) n ≡ []
 
--- Reason 1 has each alternative of the hub that is new, so that none inherits its origin's list, and the hub: "The hub's
--- entry closes its plan." All other entries are of copies.
-abbrev pub newOnes : {B : Type 0} → List (PlannedAlternative B) → List (AlternativeOf B) → List Entry
-newOnes [] as′ = []
-newOnes (p ∷ ps) [] = []
-newOnes (p ∷ ps) (a ∷ as′) = push (not (p .verbatim)) (boundary 2 (a .id) (p .origin)) (newOnes ps as′)
+-- So for one recording, in any index: for reason 2 the owner's list, then the entry; for reason 1 the entry, unless it is
+-- there already.
+pub record RecordedSo (index : List Origins) (e : Entry) : Type 0 where
+  pub copied : e .reason ≡ 2 → origins index (nodeOf e) ≡ [] → distinct (map (λ o. o .owner .id) (origins index (ownerOf e) ++ (originOf e ∷ []))) ≡ true
+      → origins (recorded index e) (nodeOf e) ≡ origins index (ownerOf e) ++ (originOf e ∷ [])
+  pub added : e .reason ≡ 1 → any (sameOrigin (originOf e)) (origins index (nodeOf e)) ≡ false → origins (recorded index e) (nodeOf e) ≡ origins index (nodeOf e) ++ (originOf e ∷ [])
+  pub there : e .reason ≡ 1 → any (sameOrigin (originOf e)) (origins index (nodeOf e)) ≡ true → origins (recorded index e) (nodeOf e) ≡ origins index (nodeOf e)
 
-pub record BoundariesTold (t : Stage) : Type 0 where
-  pub are : (q : Rule) → List·Memᴰ q (t .after .node) → q .id ≡ t .plan .hub
-      → keep (λ e. eqb (e .reason) 1) (t .after .entries) ≡ newOnes (t .plan .alternatives) (q .body) ++ (boundary 1 (t .plan .hub) (t .plan .hub) ∷ [])
+-- "One entry of 4 words for each recording, in order." Of elements that are copied: reason 2; of each kind the copies' ids,
+-- with the nodes copied as owners.
+abbrev pub numbersAt : (Entry → ℕ) → ℕ → List Entry → List ℕ
+numbersAt f k es = map f (keep (λ e. eqb k (e .kind)) es)
+
+pub record CopiesTold (old new : Elements) (es : List Entry) : Type 0 where
+  pub reasons : (e : Entry) → List·Memᴰ e es → e .reason ≡ 2
+  pub ids : (k : ℕ) → numbersAt (λ e. e .id) k es ≡ each (elementIds k (blockIds k innerDepth)) new
+  pub owners : (k : ℕ) → numbersAt (λ e. e .owner) k es ≡ each (elementIds k (blockIds k innerDepth)) old
+
+-- Of a plan, alternative by alternative: "Untouched alternatives keep theirs" and record nothing. A new one "has the carried
+-- number and flag of the hub alternative whose slot it fills", and records itself with reason 1, so that it does not inherit
+-- its origin's list, then its copies. "The hub's entry closes its plan."
+pub data TrailOf (hub : ℕ) : List (Planned innerDepth) → List Alternative → List Entry → Type 0 where
+  closing : TrailOf hub [] [] (boundary 1 hub hub ∷ [])
+  untouched : {p : Planned innerDepth} {ps : List (Planned innerDepth)} {as′ : List Alternative} {es : List Entry} → p .verbatim ≡ true → TrailOf hub ps as′ es
+      → TrailOf hub (p ∷ ps) (record { id = p .origin; carried = p .carried; flag = p .flag; options = p .options; elements = p .elements } ∷ as′) es
+  anew : {p : Planned innerDepth} {ps : List (Planned innerDepth)} {as′ : List Alternative} {copies es : List Entry} (id : ℕ) (elements : Elements) → p .verbatim ≡ false
+      → CopiesTold (p .elements) elements copies → TrailOf hub ps as′ es
+      → TrailOf hub (p ∷ ps) (record { id = id; carried = p .carried; flag = p .flag; options = p .options; elements = elements } ∷ as′) (boundary 2 id (p .origin) ∷ (copies ++ es))
+
+pub record TrailTold (t : Stage) : Type 0 where
+  pub is : (q : Rule) → List·Memᴰ q (t .after .node) → q .id ≡ t .plan .hub → TrailOf (t .plan .hub) (t .plan .alternatives) (q .body) (t .after .entries)
+
+-- What a step makes: a split alternative keeps its origin, a spliced one has the satellite's alternative as origin; both fill
+-- the slot of the one that they replace.
+pub record InSlot (p q : Planned innerDepth) : Type 0 where
+  pub carried : q .carried ≡ p .carried
+  pub flag : q .flag ≡ p .flag
+  pub isNew : q .verbatim ≡ false
+
+pub record SlotsKept (p : Planned innerDepth) (i : ℕ) : Type 0 where
+  pub split : (q : Planned innerDepth) → List·Memᴰ q (splitOptional p i) → InSlot p q × (q .origin ≡ p .origin)
+  pub spliced : (a : Alternative) (q : Planned innerDepth) → spliceAlternative innerDepth p i a ≡ decided q → InSlot p q × (q .origin ≡ a .id)
 
 -- 10. "Lexer and combined units have no plans": they come back word for word, byte for byte.
 pub record ComesBack (limits : Limits) (c : Corners) (bs : List ℕ) : Type 0 where
@@ -364,11 +380,11 @@ pub record Theorems : Type 0 where
   pub hubSettled : (d : ℕ) (g : Grammar) (cycle : List ℕ) (hub : ℕ) (front rest : List (Element (Block d))) (h : ElementHead) (n a : ℕ)
       → AllOf (λ e. isEpsilonOnly e ≡ true) front → target g n ≡ some hub → h .quantifier ≡ 0
       → plannedCorner g cycle hub (front ++ (leaf h (call n a) ∷ rest)) ≡ settled
-  -- 9, of every sheet that is not refused; an entry of reason 1 is added "unless it is there already", to any index.
+  -- 9, of every sheet that is not refused, and of every recording; then what the trail of each plan is.
   pub originsTold : (limits : Limits) (c : Corners) (s : Sheet) (stages : List Stage) → fits s ≡ true → Ends limits c s stages → OriginsTold (entriesOf stages)
-  pub recordedOnce : (index : List Origins) (e : Entry) → e .reason ≡ 1 → any (sameOrigin (originOf e)) (origins index (nodeOf e)) ≡ true
-      → origins (recorded index e) (nodeOf e) ≡ origins index (nodeOf e)
-  pub boundariesTold : (limits : Limits) (c : Corners) (s : Sheet) (stages : List Stage) → Ends limits c s stages → (t : Stage) → List·Memᴰ t stages → BoundariesTold t
+  pub recordedSo : (index : List Origins) (e : Entry) → RecordedSo index e
+  pub trailTold : (limits : Limits) (c : Corners) (s : Sheet) (stages : List Stage) → Ends limits c s stages → (t : Stage) → List·Memᴰ t stages → TrailTold t
+  pub slotsKept : (p : Planned innerDepth) (i : ℕ) → SlotsKept p i
   -- 10, of all bytes that hold another unit than a parser's.
   pub comesBack : (limits : Limits) (c : Corners) (bs : List ℕ) → AreBytes bs → (s : Sheet) → read bs ≡ sheet s → (s .kind ≡ 2 → ⊥) → ComesBack limits c bs
   -- 11, of the result and of every grammar on the way.

@@ -1,4 +1,4 @@
 -- The trail and the origins that it tells.
 pub mod Trail
 pub mod Origins
-pub mod Reasons
+pub mod Copies

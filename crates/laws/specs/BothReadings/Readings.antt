@@ -9,7 +9,7 @@ use Rattle.grammar.specs.Lists.{AllOf, AnyOf}
 use Rattle.grammar.specs.Tree.{Leaf, epsilon, action, predicate, call, token, terminal, Element, leaf, block, AlternativeOf, Block, Rule, bodyDepth, Sheet}
 use Rattle.grammar.specs.Shape.{Shape, callOf, eraseLeaf, eraseElement, eraseBlock, Shapes, find, eraseRules}
 use Rattle.grammar.specs.Derive.{CanBeEmpty}
-use Rattle.grammar.specs.Corners.{Corners, rust, textbook, isMissing, isSymbol, stops, Skippable, Corner, c-call, c-first, c-later, c-left, c-right}
+use Rattle.grammar.specs.Corners.{Corners, rust, textbook, isMissing, isSymbol, stops, Skippable, Corner, c-call, c-first, c-later, c-left, c-right, IsSymbol, is-token, is-terminal, is-unknown}
 use Rattle.grammar.specs.Laws.Parse.{either}
 use Rattle.grammar.specs.Laws.Derive.Empty.{symbol-empty, call-empty, quantified-empty}
 use Rattle.grammar.specs.Laws.Derive.Corner.{corner-quantified, symbol-quantified}
@@ -17,7 +17,7 @@ use Rattle.reference.specs.Substitute.{Limits}
 use Rattle.reference.specs.Run.{innerDepth, Stage, ended, eliminateMutualLeftRecursion}
 use Rattle.grammar.specs.Cycles.{LeftCorner, called, inside}
 use Rattle.laws.specs.Analysis.Textbook.{textbook-corner}
-use Rattle.laws.specs.Demands.{Elements, NoCorner, IsSymbol, is-token, is-terminal, is-unknown, IsOptionalSymbol, PastSymbol, NoLeftCorner, OnlyPastSymbols, JoinedShape, Demand3}
+use Rattle.laws.specs.Demands.{Elements, NoCorner, IsOptionalSymbol, PastSymbol, NoLeftCorner, OnlyPastSymbols, JoinedShape, Demand3}
 use Rattle.laws.specs.Running.Leaves.{Told}
 use Rattle.laws.specs.Planning.Turns.{Items}
 use Rattle.laws.specs.Planning.Substituted.{shapeOf}

@@ -12,8 +12,8 @@ use Rattle.grammar.specs.Ids.{member}
 use Rattle.grammar.specs.Valid.{all, valid}
 use Rattle.grammar.specs.Lists.{any, keep, meet, sorted}
 use Rattle.grammar.specs.Reading.{Reading, refused, sheet, isLength, read}
-use Rattle.grammar.specs.Shape.{Shape, Shapes, find, eraseRules}
-use Rattle.grammar.specs.Corners.{Corners, rust, textbook, isMissing}
+use Rattle.grammar.specs.Shape.{Shape, Shapes, find, eraseRules, OnBlock}
+use Rattle.grammar.specs.Corners.{Corners, rust, textbook, isMissing, is-token, is-terminal, is-unknown}
 use Rattle.grammar.specs.Laws.Codec.{accepted-valid}
 use Rattle.grammar.specs.Laws.Derive.Rules.{in-map}
 use Rattle.reference.specs.Walks.{isEpsilonOnly}
@@ -22,7 +22,7 @@ use Rattle.reference.specs.Substitute.{noHub, hubWithArguments, satelliteNotInl
 use Rattle.reference.specs.Plan.{CyclePlan, chooseHub, satelliteIsInlinable, givesHubArguments, startsWithHubCall, isRecursive, isPrimary, isFit, plannedHubIsDirectlyRewritable, removableSatellites, asTheyAre, planCycle}
 use Rattle.reference.specs.Apply.{applyPlan}
 use Rattle.reference.specs.Run.{innerDepth, Stage, Search, noPlan, planned, tooLarge, Run, ended, preceded, searchCycles, findPlan, refusalOf, eliminateInUnit, eliminateMutualLeftRecursion, answerRun, answerReading, answerTo, areLent, Outcome, untouched, delivered, outcome}
-use Rattle.laws.specs.Demands.{is-token, is-terminal, is-unknown, OnBlock, NotOptional, NoOptionalSymbol}
+use Rattle.laws.specs.Demands.{NotOptional, NoOptionalSymbol}
 use Rattle.laws.specs.Running.Leaves.{Told}
 use Rattle.laws.specs.Analysis.Names.{isUnknown, looked, looked-alike}
 use Rattle.laws.specs.Lists.Lookup.{rule-with-id}

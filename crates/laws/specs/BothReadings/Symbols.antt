@@ -7,8 +7,8 @@ use mathlib.Core.Option.{Option, none, some}
 use mathlib.Core.Bool.{Bool, true, false, _&&_, not, false≢true}
 use Rattle.grammar.specs.Lists.{AllOf}
 use Rattle.grammar.specs.Tree.{ElementHead, Leaf, epsilon, action, predicate, call, token, terminal, leaf, block, AlternativeOf, Block, RuleOf, Counters}
-use Rattle.grammar.specs.Shape.{Shape, eraseLeaf, eraseElement, eraseBlock, Shapes, find, EachCall}
-use Rattle.grammar.specs.Corners.{rust, textbook, isMissing}
+use Rattle.grammar.specs.Shape.{Shape, eraseLeaf, eraseElement, eraseBlock, Shapes, find, EachCall, OnElement, OnBlock}
+use Rattle.grammar.specs.Corners.{rust, textbook, isMissing, IsSymbol, is-token, is-terminal, is-unknown}
 use Rattle.grammar.specs.Laws.Parse.{either}
 use Rattle.grammar.specs.Laws.Derive.Copies.{Change, changeElement, changeAlternative, changeBlock, dropIds, dropLeafId}
 use Rattle.grammar.specs.Laws.Derive.Rules.{in-map}
@@ -17,7 +17,7 @@ use Rattle.reference.specs.Analysis.{Grammar, target, calls, leafNullable, elem
 use Rattle.reference.specs.Substitute.{plainHead, Planned}
 use Rattle.reference.specs.Plan.{asTheyAre}
 use Rattle.reference.specs.Apply.{freshEach, applyAlternative}
-use Rattle.laws.specs.Demands.{IsSymbol, is-token, is-terminal, is-unknown, OnElement, OnBlock, NotOptional}
+use Rattle.laws.specs.Demands.{NotOptional}
 use Rattle.laws.specs.Analysis.Names.{isUnknown}
 use Rattle.laws.specs.Lists.Lookup.{rule-with-id}
 use Rattle.laws.specs.Planning.Turns.{Items, itemsOf, as-they-were, Turn, split, splice, Moved, here, later, Moves, still, onward}

@@ -2,19 +2,20 @@
 use Prim.Native.Nat.{ℕ, suc}
 use mathlib.Core.Path.{_≡_, refl, sym, ap, _∙_, subst}
 use mathlib.Core.Logic.{_⊎_, inl, inr, ⊎-elim}
-use mathlib.Core.List.{List, [], _∷_, _++_, List·Memᴰ, List·Memᴰ·head, List·Memᴰ·tail, List·Memᴰ·not-nil, List·Memᴰ·append-cases, List·Memᴰ·eq-of-singleton}
+use mathlib.Core.List.{List, [], _∷_, _++_, List·Memᴰ, List·Memᴰ·head, List·Memᴰ·tail, List·Memᴰ·not-nil, List·Memᴰ·append-cases, List·Memᴰ·eq-of-singleton, Memᴰ·of-map}
 use mathlib.Core.Option.{Option, none, some, Option·none-ne-some, Option·some-injective}
 use mathlib.Core.Bool.{Bool, true, false, not}
 use native.Mathlib.Omega.{arith}
 use lib.ListN.{take, drop}
 use lib.Dec.{eqb}
-use Rattle.grammar.specs.Tree.{OptionDecl, AlternativeOf, Block, RuleOf}
+use Rattle.grammar.specs.Tree.{OptionDecl, Element, AlternativeOf, Block, RuleOf}
 use Rattle.grammar.specs.Lists.{first}
 use Rattle.grammar.specs.Corners.{Corners}
 use Rattle.reference.specs.Analysis.{Grammar, ruleWithId}
-use Rattle.reference.specs.Substitute.{danglingReference, labelCollision, bindingCollision, optionCollision, Decided, decided, _andThen_, require, found, decideEach, inSlotOf, PlannedCorner, optional, satellite, blocked, settled, plannedCorner, without, splitOptional, addOption, unionOptions, Planned, remainingActionsReference, labelsCollide, implicitBindingsCollide, spliceAlternative, spliceSatellite, replacement, step}
+use Rattle.reference.specs.Substitute.{danglingReference, labelCollision, bindingCollision, optionCollision, Decided, decided, _andThen_, require, found, decideEach, inSlotOf, PlannedCorner, optional, satellite, blocked, settled, plannedCorner, without, withPlain, splitOptional, addOption, unionOptions, Planned, remainingActionsReference, labelsCollide, implicitBindingsCollide, spliceAlternative, spliceSatellite, replacement, step}
 use Rattle.reference.specs.Plan.{CyclePlan, asTheyAre}
-use Rattle.laws.specs.Demands.{Steps, none-left, one-more}
+use Rattle.reference.specs.Run.{innerDepth}
+use Rattle.laws.specs.Demands.{Steps, none-left, one-more, InSlot, SlotsKept}
 use Rattle.laws.specs.Planning.Plans.{Made}
 use Rattle.laws.specs.Lists.Lookup.{rule-with-id}
 use Rattle.laws.specs.Planning.Turns.{then-decided, require-decided, found-decided}
@@ -42,6 +43,18 @@ spliced d p i s {q} e =
     let b = require-decided bindingCollision (not (implicitBindingsCollide d around (s .elements))) _ (a .1) in
     let o = then-decided {f = λ os. decided (inSlotOf p os (s .id) (take i (p .elements) ++ (s .elements ++ drop (suc i) (p .elements))))} (found optionCollision (unionOptions (p .options) (s .options))) (b .1) in
     record { options = o .0; union = found-decided optionCollision (unionOptions (p .options) (s .options)) (o .1); whole = same-decided (o .2) }
+
+-- What a step makes fills the slot of what it replaces.
+in-slot : {p q : Planned innerDepth} {os : List OptionDecl} {i : ℕ} {es : List (Element (Block innerDepth))} → inSlotOf p os i es ≡ q → InSlot p q × (q .origin ≡ i)
+in-slot e = (record { carried = ap (λ x. x .carried) (sym e); flag = ap (λ x. x .flag) (sym e); isNew = ap (λ x. x .verbatim) (sym e) }, ap (λ x. x .origin) (sym e))
+
+pub slots-kept : (p : Planned innerDepth) (i : ℕ) → SlotsKept p i
+unfolding splitOptional
+slots-kept p i =
+    record {
+      split = λ q m. in-slot (Memᴰ·of-map (inSlotOf p (p .options) (p .origin)) (withPlain i (p .elements) ∷ without i (p .elements) ∷ []) m .2);
+      spliced = λ a q e. in-slot (spliced innerDepth p i a e .whole);
+    }
 
 -- Each decision was made from an item.
 pub decided-in : {A B : Type 0} (f : A → Decided B) (xs : List A) {bs : List B} → decideEach f xs ≡ decided bs → {b : B} → List·Memᴰ b bs

@@ -1,4 +1,4 @@
--- Demand 3, the bound on plans, the preserved rules and the reasons of the trail, of every sheet that is not refused.
+-- Demand 3, the bound on plans, the preserved rules and the trail, of every sheet that is not refused.
 use Prim.Native.Nat.{ℕ, zero, suc, _+_, _≤_}
 use mathlib.Core.Path.{_≡_, refl, sym, ap, _∙_, subst, subst₂}
 use mathlib.Core.Logic.{⊎-elim}
@@ -14,8 +14,8 @@ use Rattle.grammar.specs.Laws.Parse.{right-true}
 use Rattle.reference.specs.Substitute.{Limits}
 use Rattle.reference.specs.Apply.{applyPlan}
 use Rattle.reference.specs.Run.{innerDepth, Stage, ended, Search, noPlan, planned, tooLarge, preceded, findPlan, refusalOf, eliminateInUnit, eliminateMutualLeftRecursion}
-use Rattle.laws.specs.Demands.{SameStrings, Closed, NoCorner, NoLaterCycle, Joins, rulesOf, Demand3, Bound, EnoughTurns, PreservedStay, BoundariesTold}
-use Rattle.laws.specs.Provenance.Reasons.{stage-boundaries}
+use Rattle.laws.specs.Demands.{SameStrings, Closed, NoCorner, NoLaterCycle, Joins, rulesOf, Demand3, Bound, EnoughTurns, PreservedStay, TrailTold}
+use Rattle.laws.specs.Provenance.Copies.{stage-trail}
 use Rattle.laws.specs.Running.Preserved.{preserved-stay}
 use Rattle.laws.specs.Lists.Few.{no-more}
 use Rattle.laws.specs.Running.Leaves.{Told, Leaves, leaves-derives}
@@ -177,8 +177,8 @@ module _ (limits : Limits) (corners : Corners) (s : Sheet) (told : Told (s .rule
   pub preserved-rules-stay : PreservedStay s ts
   preserved-rules-stay = preserved-stay limits corners s told chain
 
-  pub boundaries-told : (t : Stage) → List·Memᴰ t ts → BoundariesTold t
-  boundaries-told t m =
+  pub trail-told : (t : Stage) → List·Memᴰ t ts → TrailTold t
+  trail-told t m =
       let (front, rest, w) = cut-at m in
       let a = stage-at front t rest w in
-      stage-boundaries limits corners (s .preserved) (a .known) (a .happened)
+      stage-trail limits corners (s .preserved) (a .known) (a .happened)

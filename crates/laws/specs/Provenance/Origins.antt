@@ -13,8 +13,8 @@ use Rattle.grammar.specs.Laws.Parse.{both-true, left-true, right-true, either}
 use Rattle.reference.specs.Apply.{Entry, boundary, past, moved, Node, Origin, Origins, sameNode, sameOrigin, origins, addOrigins, recordModel, recordClone, recorded, provenance}
 use Rattle.grammar.specs.Laws.Derive.Rules.{in-map}
 use Rattle.laws.specs.Lists.Lookup.{any-in}
-use Rattle.laws.specs.Demands.{nodeOf, ownerOf, originOf, Traced}
-use Rattle.laws.specs.Lists.Order.{Distinct}
+use Rattle.laws.specs.Demands.{nodeOf, ownerOf, originOf, Traced, RecordedSo}
+use Rattle.laws.specs.Lists.Order.{Distinct, distinct-of}
 use Rattle.laws.specs.Provenance.Trail.{Sort, number, counterAt, number-same, number-one, past-at, past-up, Trail, t-end, t-rule, t-fresh}
 
 same-node : (m n : Node) → sameNode m n ≡ true → m ≡ n
@@ -59,15 +59,6 @@ pub recorded-other : (index : List Origins) (e : Entry) → (e .reason ≡ 2 →
 unfolding recorded
 recorded-other index e h = rw (ne-eqb (e .reason) 2 h, recorded) refl
 
--- An entry of reason 1 that is there already is not added again.
-pub recorded-once : (index : List Origins) (e : Entry) → e .reason ≡ 1 → any (sameOrigin (originOf e)) (origins index (nodeOf e)) ≡ true
-    → origins (recorded index e) (nodeOf e) ≡ origins index (nodeOf e)
-unfolding addOrigins
-recorded-once index e h t =
-    ap (λ x. origins x (nodeOf e)) (recorded-other index e (λ q. let z : _≡_ {A = ℕ} 1 2 = sym h ∙ q in omega arith))
-    ∙ record-at index (nodeOf e) (originOf e ∷ [])
-    ∙ rw (t, addOrigins) refl
-
 pub recorded-away : (index : List Origins) (e : Entry) (m : Node) → (nodeOf e ≡ m → ⊥) → origins (recorded index e) m ≡ origins index m
 recorded-away index e m ne =
     either (eqb (e .reason) 2)
@@ -98,6 +89,24 @@ add-new have (o ∷ os) h =
     (λ f. f) in
     let e = append-assoc have (o ∷ []) os in
     rw (f, addOrigins) (add-new (have ++ (o ∷ [])) os (subst (λ l. Distinct (map ownerId l)) (sym e) h) ∙ e)
+
+-- What one recording leaves at its node.
+pub recorded-so : (index : List Origins) (e : Entry) → RecordedSo index e
+unfolding addOrigins
+recorded-so index e =
+    record {
+      copied = λ h f d.
+          ap (λ x. origins x (nodeOf e)) (recorded-two index e h) ∙ record-at index (nodeOf e) (origins index (ownerOf e) ++ (originOf e ∷ []))
+          ∙ ap (λ l. addOrigins l (origins index (ownerOf e) ++ (originOf e ∷ []))) f
+          ∙ add-new [] (origins index (ownerOf e) ++ (originOf e ∷ [])) (distinct-of (map ownerId (origins index (ownerOf e) ++ (originOf e ∷ []))) d);
+      added = λ h f. one h ∙ rw (f, addOrigins) refl;
+      there = λ h t. one h ∙ rw (t, addOrigins) refl;
+    }
+  where
+    one : e .reason ≡ 1 → origins (recorded index e) (nodeOf e) ≡ addOrigins (origins index (nodeOf e)) (originOf e ∷ [])
+    one h =
+        ap (λ x. origins x (nodeOf e)) (recorded-other index e (λ q. let z : _≡_ {A = ℕ} 1 2 = sym h ∙ q in omega arith))
+        ∙ record-at index (nodeOf e) (originOf e ∷ [])
 
 distinct-snoc : (os : List Origin) (o : Origin) → Distinct (map ownerId os) → ((p : Origin) → List·Memᴰ p os → ownerId p < ownerId o) → Distinct (map ownerId (os ++ (o ∷ [])))
 distinct-snoc [] o h l = (λ m. List·Memᴰ·not-nil m, tt)
