@@ -12,7 +12,7 @@ use Rattle.grammar.specs.Lists.{any, keep, total, AllOf, AnyOf}
 use Rattle.grammar.specs.Tree.{ElementHead, Element, leaf, block, call, Block, RuleOf, Sheet, Leaf, Alternative, Rule, bodyDepth}
 use Rattle.grammar.specs.Words.{words, bytes}
 use Rattle.grammar.specs.Encode.{encode, each}
-use Rattle.grammar.specs.Ids.{elementIds, blockIds, member, distinct}
+use Rattle.grammar.specs.Ids.{only, elementIds, blockIds, member, distinct}
 use Rattle.grammar.specs.Valid.{all, rising, valid, fits}
 use Rattle.grammar.specs.Reading.{sheet, read}
 use Rattle.grammar.specs.Shape.{eraseElement, eraseElements, eraseBlock, Shapes, eraseRules, Word, EachCall, OnBlock}
@@ -249,8 +249,9 @@ pub record RecordedSo (index : List Origins) (e : Entry) : Type 0 where
 
 -- "One entry of 4 words for each recording, in order." Of elements that are copied: reason 2; of each kind the copies' ids,
 -- with the nodes copied as owners.
-abbrev pub numbersAt : (Entry → ℕ) → ℕ → List Entry → List ℕ
-numbersAt f k es = map f (keep (λ e. eqb k (e .kind)) es)
+unfoldable pub numbersAt : (Entry → ℕ) → ℕ → List Entry → List ℕ
+numbersAt f k [] = []
+numbersAt f k (e ∷ es) = only (eqb k (e .kind)) (f e) ++ numbersAt f k es
 
 pub record CopiesTold (old new : Elements) (es : List Entry) : Type 0 where
   pub reasons : (e : Entry) → List·Memᴰ e es → e .reason ≡ 2

@@ -1,4 +1,5 @@
 -- The trail and the origins that it tells.
+pub mod Copies
 pub mod Trail
 pub mod Origins
-pub mod Copies
+pub mod PlanTrail

@@ -16,7 +16,9 @@ use Rattle.reference.specs.Plan.{asTheyAre}
 use Rattle.reference.specs.Apply.{freshEach, past, renumberElements, renumberBlock, applyAlternative}
 use Rattle.laws.specs.Lists.Every.{take-in, drop-in}
 use Rattle.laws.specs.Lists.Count.{count, count-append}
-use Rattle.laws.specs.Provenance.Trail.{ofAlternative, Up, past-up, Trail, t-end, t-fresh, trail-append, trail-nil, trail-up, idsAt, idsAt-append, Below, below-up, copied-elements, copied-block}
+use Rattle.laws.specs.Demands.{numbersAt}
+use Rattle.laws.specs.Provenance.Copies.{numbers-append, copy-elements, copy-block}
+use Rattle.laws.specs.Provenance.Trail.{ofAlternative, Up, past-up, Trail, t-end, t-fresh, trail-append, trail-nil, trail-up, idsAt, Below, below-up, copied-elements, copied-block}
 use Rattle.laws.specs.Planning.Chain.{spliced, decided-in, union-in, Replaced, splitting, splicing, StepTo, here, later, Chain, chain-keeps}
 
 -- Any property of the parts of alternatives that making an element plain keeps.
@@ -158,16 +160,16 @@ module _ (d : ℕ) where
       (λ f.
       rw (f, applyAlternative)
       (t-fresh ofAlternative false (p .origin) (h .origin)
-      (trail-nil (copied-elements (renumberBlock d) (λ k. blockIds k d) (copied-block d) (p .elements) (past 2 c) .trail (below-up (λ k. each (elementIds k (blockIds k d))) (p .elements) (past-up 2 c) (h .inside))))))
+      (trail-nil (copied-elements (renumberBlock d) (λ k. blockIds k d) (copied-block d) (p .elements) (past 2 c) (below-up (λ k. each (elementIds k (blockIds k d))) (p .elements) (past-up 2 c) (h .inside))))))
 
   one-ids : (k : ℕ) (p : Planned d) (c : Counters) → alternativeIds k (blockIds k d) (applyAlternative d p c .node) ≡ untouched k p ++ idsAt k (applyAlternative d p c .entries)
-  unfolding applyAlternative alternativeIds untouched idsAt
+  unfolding applyAlternative alternativeIds untouched numbersAt
   one-ids k p c =
       either (p .verbatim)
       (λ t. rw (t, applyAlternative) (sym (append-nil (only (eqb k 2) (p .origin) ++ each (elementIds k (blockIds k d)) (p .elements)))))
       (λ f.
       rw (f, applyAlternative)
-      (rw (append-nil (renumberElements (renumberBlock d) (p .elements) (past 2 c) .entries), copied-elements (renumberBlock d) (λ k. blockIds k d) (copied-block d) (p .elements) (past 2 c) .same k) refl))
+      (rw (append-nil (renumberElements (renumberBlock d) (p .elements) (past 2 c) .entries), copy-elements (renumberBlock d) (λ k. blockIds k d) (copy-block d) (p .elements) (past 2 c) .ids k) refl))
 
   -- Of the whole body.
   pub applied-trail : (ps : List (Planned d)) (c : Counters) → ((p : Planned d) → List·Memᴰ p ps → Planned-below c p)
@@ -180,7 +182,7 @@ module _ (d : ℕ) where
 
   pub applied-ids : (k x : ℕ) (ps : List (Planned d)) (c : Counters)
       → count x (blockIds k (suc d) (freshEach (applyAlternative d) ps c .node)) ≡ count x (each (untouched k) ps) + count x (idsAt k (freshEach (applyAlternative d) ps c .entries))
-  unfolding freshEach blockIds idsAt count
+  unfolding freshEach blockIds numbersAt count
   applied-ids k x [] c = omega arith
   applied-ids k x (p ∷ ps) c =
       let f = applyAlternative d p c in
@@ -189,6 +191,6 @@ module _ (d : ℕ) where
       let a = count-append x (alternativeIds k (blockIds k d) (f .node)) (each (alternativeIds k (blockIds k d)) (more .node)) in
       let b = ap (count x) (one-ids k p c) ∙ count-append x (untouched k p) (idsAt k (f .entries)) in
       let e = count-append x (untouched k p) (each (untouched k) ps) in
-      let g = ap (count x) (idsAt-append k (f .entries) (more .entries ++ [])) ∙ count-append x (idsAt k (f .entries)) (idsAt k (more .entries ++ [])) in
+      let g = ap (count x) (numbers-append (λ e. e .id) k (f .entries) (more .entries ++ [])) ∙ count-append x (idsAt k (f .entries)) (idsAt k (more .entries ++ [])) in
       let i = ap (λ l. count x (idsAt k l)) (append-nil (more .entries)) in
       omega arith

@@ -15,7 +15,7 @@ use Rattle.reference.specs.Substitute.{Limits}
 use Rattle.reference.specs.Apply.{applyPlan}
 use Rattle.reference.specs.Run.{innerDepth, Stage, ended, Search, noPlan, planned, tooLarge, preceded, findPlan, refusalOf, eliminateInUnit, eliminateMutualLeftRecursion}
 use Rattle.laws.specs.Demands.{SameStrings, Closed, NoCorner, NoLaterCycle, Joins, rulesOf, Demand3, Bound, EnoughTurns, PreservedStay, TrailTold}
-use Rattle.laws.specs.Provenance.Copies.{stage-trail}
+use Rattle.laws.specs.Provenance.PlanTrail.{stage-trail}
 use Rattle.laws.specs.Running.Preserved.{preserved-stay}
 use Rattle.laws.specs.Lists.Few.{no-more}
 use Rattle.laws.specs.Running.Leaves.{Told, Leaves, leaves-derives}

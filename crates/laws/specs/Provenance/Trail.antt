@@ -1,9 +1,8 @@
--- The trail of fresh ids: each entry has the next id of its kind and an owner that was there before; and the ids of a
--- copy are those that its entries record.
+-- The trail of fresh ids: each entry has the next id of its kind and an owner that was there before.
 use Prim.Native.Nat.{ℕ, zero, suc, _^_, _≤_, _<_}
 use mathlib.Core.Path.{_≡_, refl, sym, ap, _∙_}
 use mathlib.Core.Logic.{⊎-elim}
-use mathlib.Core.List.{List, [], _∷_, _++_, append-assoc, append-nil, List·Memᴰ, List·Memᴰ·head, Memᴰ·append-left, Memᴰ·append-right, List·Memᴰ·tail, List·Memᴰ·not-nil, List·Memᴰ·append-cases, List·Memᴰ·eq-of-singleton}
+use mathlib.Core.List.{List, [], _∷_, _++_, append-nil, List·Memᴰ, List·Memᴰ·head, Memᴰ·append-left, Memᴰ·append-right, List·Memᴰ·tail, List·Memᴰ·not-nil, List·Memᴰ·append-cases, List·Memᴰ·eq-of-singleton}
 use mathlib.Core.Bool.{Bool, true, false}
 use native.Mathlib.Omega.{arith}
 use lib.Dec.{eqb}
@@ -14,6 +13,7 @@ use Rattle.grammar.specs.Ids.{only, labelIds, headIds, leafIds, elementIds, alt
 use Rattle.grammar.specs.Laws.Parse.{either}
 use Rattle.reference.specs.Apply.{Entry, boundary, Fresh, freshEach, moved, past, renumberLabel, renumberHead, renumberLeaf, renumberElement, renumberElements, renumberAlternative, renumberBlock}
 use Rattle.reference.specs.Run.{encodeEntry}
+use Rattle.laws.specs.Demands.{numbersAt}
 use Rattle.laws.specs.Lists.Count.{count, between, between-one, between-none, between-join}
 
 -- The sorts of ids with a counter.
@@ -100,18 +100,12 @@ trail-up (t-rule h l t) s = trail-up t s
 trail-up (t-fresh {c = c} k b o l t) s = let h = trail-up t s in let g = past-up (number k) c s in omega arith
 
 -- The ids that entries of a kind record.
-unfoldable pub idsAt : ℕ → List Entry → List ℕ
-idsAt k [] = []
-idsAt k (e ∷ es) = only (eqb k (e .kind)) (e .id) ++ idsAt k es
-
-pub idsAt-append : (k : ℕ) (es fs : List Entry) → idsAt k (es ++ fs) ≡ idsAt k es ++ idsAt k fs
-unfolding idsAt
-idsAt-append k [] fs = refl
-idsAt-append k (e ∷ es) fs = ap (λ l. only (eqb k (e .kind)) (e .id) ++ l) (idsAt-append k es fs) ∙ sym (append-assoc (only (eqb k (e .kind)) (e .id)) (idsAt k es) (idsAt k fs))
+abbrev pub idsAt : ℕ → List Entry → List ℕ
+idsAt = numbersAt (λ e. e .id)
 
 -- They are the numbers from one counter up to the other, each once.
 pub trail-count : {c c′ : Counters} {es : List Entry} → Trail c es c′ → (s : Sort) (x : ℕ) → count x (idsAt (number s) es) ≡ between (counterAt s c) (counterAt s c′) x
-unfolding idsAt count
+unfolding numbersAt count
 trail-count {c} t-end s x = sym (between-none (counterAt s c) x)
 trail-count (t-rule h l t) s x = rw (number-one s) (trail-count t s x)
 trail-count {c} {c′} (t-fresh {es = es} k b o l t) s x =
@@ -167,93 +161,63 @@ Below c ids x = (s : Sort) (i : ℕ) → List·Memᴰ i (ids (number s) x) → i
 pub below-up : {A : Type 0} {c c′ : Counters} (ids : ℕ → A → List ℕ) (x : A) → Up c c′ → Below c ids x → Below c′ ids x
 below-up ids x u h s i m = let a = h s i m in let b = u s in omega arith
 
--- A copy: its ids are those recorded, and the entries are a trail.
-pub record Copied {A : Type 0} (ids : ℕ → A → List ℕ) (old : A) (c : Counters) (f : Fresh A) : Type 0 where
-  pub same : (k : ℕ) → ids k (f .node) ≡ idsAt k (f .entries)
-  pub trail : Below c ids old → Trail c (f .entries) (f .counters)
+-- The entries of a copy are a trail.
+abbrev pub Copied : {A : Type 0} → (ℕ → A → List ℕ) → A → Counters → Fresh A → Type 0
+Copied ids old c f = Below c ids old → Trail c (f .entries) (f .counters)
 
 copied-label : (l : Label) (c : Counters) → Copied labelIds l c (renumberLabel l c)
-unfolding renumberLabel labelIds idsAt
-copied-label unlabelled c = record { same = λ k. refl; trail = λ h. t-end }
-copied-label (labelled i n) c =
-    record { same = λ k. sym (append-nil (only (eqb k 4) (c .label))); trail = λ h. t-fresh ofLabel true i (h ofLabel i (List·Memᴰ·head refl)) t-end }
+unfolding renumberLabel labelIds
+copied-label unlabelled c h = t-end
+copied-label (labelled i n) c h = t-fresh ofLabel true i (h ofLabel i (List·Memᴰ·head refl)) t-end
 
 copied-leaf : (l : Leaf) (c : Counters) → Copied leafIds l c (renumberLeaf l c)
-unfolding renumberLeaf leafIds idsAt
-copied-leaf epsilon c = record { same = λ k. refl; trail = λ h. t-end }
-copied-leaf (action i rs) c =
-    record { same = λ k. sym (append-nil (only (eqb k 5) (c .action))); trail = λ h. t-fresh ofAction true i (h ofAction i (List·Memᴰ·head refl)) t-end }
-copied-leaf (predicate i rs) c =
-    record { same = λ k. sym (append-nil (only (eqb k 6) (c .predicate))); trail = λ h. t-fresh ofPredicate true i (h ofPredicate i (List·Memᴰ·head refl)) t-end }
-copied-leaf (call n a) c = record { same = λ k. refl; trail = λ h. t-end }
-copied-leaf (token n) c = record { same = λ k. refl; trail = λ h. t-end }
-copied-leaf terminal c = record { same = λ k. refl; trail = λ h. t-end }
+unfolding renumberLeaf leafIds
+copied-leaf epsilon c h = t-end
+copied-leaf (action i rs) c h = t-fresh ofAction true i (h ofAction i (List·Memᴰ·head refl)) t-end
+copied-leaf (predicate i rs) c h = t-fresh ofPredicate true i (h ofPredicate i (List·Memᴰ·head refl)) t-end
+copied-leaf (call n a) c h = t-end
+copied-leaf (token n) c h = t-end
+copied-leaf terminal c h = t-end
 
 copied-head : (h : ElementHead) (c : Counters) → Copied headIds h c (renumberHead h c)
-unfolding renumberHead headIds idsAt
-copied-head h c =
-    let l = copied-label (h .label) (past 3 c) in
-    record {
-      same = λ k. rw (append-nil (renumberLabel (h .label) (past 3 c) .entries), l .same k) refl;
-      trail = λ b.
-          t-fresh ofElement true (h .id) (b ofElement (h .id) (List·Memᴰ·head refl))
-          (trail-nil (l .trail (below-up labelIds (h .label) (past-up 3 c) (λ s i m. b s i (Memᴰ·append-right (only (eqb (number s) 3) (h .id)) m)))));
-    }
+unfolding renumberHead headIds
+copied-head h c b =
+    t-fresh ofElement true (h .id) (b ofElement (h .id) (List·Memᴰ·head refl))
+    (trail-nil (copied-label (h .label) (past 3 c) (below-up labelIds (h .label) (past-up 3 c) (λ s i m. b s i (Memᴰ·append-right (only (eqb (number s) 3) (h .id)) m)))))
 
 -- One after the other.
-module _ {A B : Type 0} (idsA : ℕ → A → List ℕ) (idsB : ℕ → B → List ℕ) {a : A} {b : B} (c : Counters) (f : Fresh A) (g : Counters → Fresh B)
-    (p : Copied idsA a c f) (q : (c₁ : Counters) → Copied idsB b c₁ (g c₁)) where
-  both-same : (k : ℕ) → idsA k (f .node) ++ idsB k (g (f .counters) .node) ≡ idsAt k (f .entries ++ (g (f .counters) .entries ++ []))
-  both-same k =
-      rw (append-nil (g (f .counters) .entries), idsAt-append k (f .entries) (g (f .counters) .entries), p .same k, q (f .counters) .same k) refl
-
-  both-trail : Below c idsA a → Below c idsB b → Trail c (f .entries ++ (g (f .counters) .entries ++ [])) (g (f .counters) .counters)
-  both-trail h k = let t = p .trail h in trail-append t (trail-nil (q (f .counters) .trail (below-up idsB b (trail-up t) k)))
+both-trail : {A B : Type 0} (idsA : ℕ → A → List ℕ) (idsB : ℕ → B → List ℕ) {a : A} {b : B} (c : Counters) (f : Fresh A) (g : Counters → Fresh B)
+    → Copied idsA a c f → ((c₁ : Counters) → Copied idsB b c₁ (g c₁)) → Below c idsA a → Below c idsB b
+    → Trail c (f .entries ++ (g (f .counters) .entries ++ [])) (g (f .counters) .counters)
+both-trail idsA idsB {b = b} c f g p q h k = let t = p h in trail-append t (trail-nil (q (f .counters) (below-up idsB b (trail-up t) k)))
 
 copied-each : {A : Type 0} (ids : ℕ → A → List ℕ) (g : A → Counters → Fresh A) → ((a : A) (c : Counters) → Copied ids a c (g a c)) → (as′ : List A) (c : Counters)
     → Copied (λ k. each (ids k)) as′ c (freshEach g as′ c)
-unfolding freshEach idsAt
-copied-each ids g h [] c = record { same = λ k. refl; trail = λ b. t-end }
-copied-each ids g h (a ∷ as′) c =
-    record {
-      same = both-same ids (λ k. each (ids k)) {a = a} {b = as′} c (g a c) (freshEach g as′) (h a c) (copied-each ids g h as′);
-      trail = λ b.
-          both-trail ids (λ k. each (ids k)) {a = a} {b = as′} c (g a c) (freshEach g as′) (h a c) (copied-each ids g h as′)
-          (λ s i m. b s i (Memᴰ·append-left (each (ids (number s)) as′) m)) (λ s i m. b s i (Memᴰ·append-right (ids (number s) a) m));
-    }
+unfolding freshEach
+copied-each ids g h [] c b = t-end
+copied-each ids g h (a ∷ as′) c b =
+    both-trail ids (λ k. each (ids k)) {a = a} {b = as′} c (g a c) (freshEach g as′) (h a c) (copied-each ids g h as′) (λ s i m. b s i (Memᴰ·append-left (each (ids (number s)) as′) m))
+    (λ s i m. b s i (Memᴰ·append-right (ids (number s) a) m))
 
 module _ {B : Type 0} (renumber : B → Counters → Fresh B) (ids : ℕ → B → List ℕ) (h : (b : B) (c : Counters) → Copied ids b c (renumber b c)) where
-  pub copied-element : (e : Element B) (c : Counters) → Copied (λ k. elementIds k (ids k)) e c (renumberElement renumber e c)
+  copied-element : (e : Element B) (c : Counters) → Copied (λ k. elementIds k (ids k)) e c (renumberElement renumber e c)
   unfolding renumberElement elementIds
-  copied-element (leaf x l) c =
-      record {
-        same = both-same headIds leafIds {a = x} {b = l} c (renumberHead x c) (renumberLeaf l) (copied-head x c) (copied-leaf l);
-        trail = λ b.
-            both-trail headIds leafIds {a = x} {b = l} c (renumberHead x c) (renumberLeaf l) (copied-head x c) (copied-leaf l)
-            (λ s i m. b s i (Memᴰ·append-left (leafIds (number s) l) m)) (λ s i m. b s i (Memᴰ·append-right (headIds (number s) x) m));
-      }
-  copied-element (block x y) c =
-      record {
-        same = both-same headIds ids {a = x} {b = y} c (renumberHead x c) (renumber y) (copied-head x c) (h y);
-        trail = λ b.
-            both-trail headIds ids {a = x} {b = y} c (renumberHead x c) (renumber y) (copied-head x c) (h y)
-            (λ s i m. b s i (Memᴰ·append-left (ids (number s) y) m)) (λ s i m. b s i (Memᴰ·append-right (headIds (number s) x) m));
-      }
+  copied-element (leaf x l) c b =
+      both-trail headIds leafIds {a = x} {b = l} c (renumberHead x c) (renumberLeaf l) (copied-head x c) (copied-leaf l) (λ s i m. b s i (Memᴰ·append-left (leafIds (number s) l) m))
+      (λ s i m. b s i (Memᴰ·append-right (headIds (number s) x) m))
+  copied-element (block x y) c b =
+      both-trail headIds ids {a = x} {b = y} c (renumberHead x c) (renumber y) (copied-head x c) (h y) (λ s i m. b s i (Memᴰ·append-left (ids (number s) y) m))
+      (λ s i m. b s i (Memᴰ·append-right (headIds (number s) x) m))
 
   pub copied-elements : (es : List (Element B)) (c : Counters) → Copied (λ k. each (elementIds k (ids k))) es c (renumberElements renumber es c)
   unfolding renumberElements
-  copied-elements es c = copied-each (λ k. elementIds k (ids k)) (renumberElement renumber) copied-element es c
+  copied-elements = copied-each (λ k. elementIds k (ids k)) (renumberElement renumber) copied-element
 
-  pub copied-alternative : (a : AlternativeOf B) (c : Counters) → Copied (λ k. alternativeIds k (ids k)) a c (renumberAlternative renumber a c)
-  unfolding renumberAlternative alternativeIds idsAt
-  copied-alternative a c =
-      let l = copied-elements (a .elements) (past 2 c) in
-      record {
-        same = λ k. rw (append-nil (renumberElements renumber (a .elements) (past 2 c) .entries), l .same k) refl;
-        trail = λ b.
-            t-fresh ofAlternative true (a .id) (b ofAlternative (a .id) (List·Memᴰ·head refl))
-            (trail-nil (l .trail (below-up (λ k. each (elementIds k (ids k))) (a .elements) (past-up 2 c) (λ s i m. b s i (Memᴰ·append-right (only (eqb (number s) 2) (a .id)) m)))));
-      }
+  copied-alternative : (a : AlternativeOf B) (c : Counters) → Copied (λ k. alternativeIds k (ids k)) a c (renumberAlternative renumber a c)
+  unfolding renumberAlternative alternativeIds
+  copied-alternative a c b =
+      t-fresh ofAlternative true (a .id) (b ofAlternative (a .id) (List·Memᴰ·head refl))
+      (trail-nil (copied-elements (a .elements) (past 2 c) (below-up (λ k. each (elementIds k (ids k))) (a .elements) (past-up 2 c) (λ s i m. b s i (Memᴰ·append-right (only (eqb (number s) 2) (a .id)) m)))))
 
 pub copied-block : (d : ℕ) (b : Block d) (c : Counters) → Copied (λ k. blockIds k d) b c (renumberBlock d b c)
 unfolding renumberBlock blockIds
