@@ -64,6 +64,21 @@ fn no_sheet_has_two_records_and_all_examples_have_one() {
 }
 
 #[test]
+fn no_origin_list_has_two_entries() {
+    let mut lists = 0;
+    for file in &FILES {
+        for line in stored(file.name)
+            .lines()
+            .filter(|line| line.starts_with("o "))
+        {
+            assert_eq!(line.split(' ').count(), 5, "{}: {line}", file.name);
+            lists += 1;
+        }
+    }
+    assert!(lists > 6_000, "{lists}");
+}
+
+#[test]
 fn records_are_counted_by_their_lines() {
     let mut counts = Counts::default();
     count(
