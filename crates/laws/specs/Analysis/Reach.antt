@@ -90,9 +90,6 @@ module _ (rows : List Row) where
       keep-in (λ i. member i (found ++ leadFrom rows found)) k
       (in-member (⊎-elim (λ l. Memᴰ·append-left (leadFrom rows found) l) (λ r. Memᴰ·append-right found r) m))
 
-  lead-more : (xs ys : List ℕ) → ((i : ℕ) → List·Memᴰ i xs → List·Memᴰ i ys) → {j : ℕ} → List·Memᴰ j (leadFrom rows xs) → List·Memᴰ j (leadFrom rows ys)
-  lead-more xs ys h m = let (i, k, e) = in-leadFrom xs m in leadFrom-in ys (h i k) e
-
   grows : (xs : List ℕ) → Sublistᴰ xs (reachRound rows xs) → Sublistᴰ (reachRound rows xs) (reachRound rows (reachRound rows xs))
   unfolding reachRound
   grows xs s =

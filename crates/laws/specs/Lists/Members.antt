@@ -2,7 +2,7 @@
 use Prim.Native.Nat.{ℕ}
 use mathlib.Core.Path.{_≡_, refl, sym, ap, _∙_, subst}
 use mathlib.Core.Logic.{_⊎_, inl, inr, ⊎-elim}
-use mathlib.Core.List.{List, [], _∷_, _++_, map, List·Memᴰ, List·Memᴰ·head, List·Memᴰ·tail, List·Memᴰ·not-nil, List·Memᴰ·append-cases, Memᴰ·append-left, Memᴰ·append-right, Sublistᴰ, Sublistᴰ·slnil, Sublistᴰ·cons, Sublistᴰ·cons-cons}
+use mathlib.Core.List.{List, [], _∷_, map, List·Memᴰ, List·Memᴰ·head, List·Memᴰ·tail, List·Memᴰ·not-nil, List·Memᴰ·append-cases, Memᴰ·append-left, Memᴰ·append-right, Sublistᴰ, Sublistᴰ·slnil, Sublistᴰ·cons, Sublistᴰ·cons-cons}
 use mathlib.Core.Bool.{Bool, true, false, not, false≢true, true≢false}
 use lib.Dec.{eqb}
 use borrow.Author.Tests.{eqb-true, not-true}
@@ -44,15 +44,6 @@ module _ {A : Type 0} where
       let u : test x ≡ true = ap test (sym e) ∙ t in
       rw u (List·Memᴰ·head e)
   keep-in test (List·Memᴰ·tail {x = x} m) t = push-tail x (test x) (keep-in test m t)
-
-  pub keep-append : (test : A → Bool) (xs ys : List A) → keep test (xs ++ ys) ≡ keep test xs ++ keep test ys
-  unfolding keep
-  keep-append test [] ys = refl
-  keep-append test (x ∷ xs) ys = ap (push (test x) x) (keep-append test xs ys) ∙ pushed (test x)
-    where
-      pushed : (b : Bool) → push b x (keep test xs ++ keep test ys) ≡ push b x (keep test xs) ++ keep test ys
-      pushed true = refl
-      pushed false = refl
 
   -- A stricter test keeps part of what the other keeps.
   pub keep-part : (p q : A → Bool) (xs : List A) → ((a : A) → List·Memᴰ a xs → p a ≡ true → q a ≡ true) → Sublistᴰ (keep p xs) (keep q xs)

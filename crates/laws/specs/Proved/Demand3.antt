@@ -131,10 +131,6 @@ module _ (limits : Limits) (corners : Corners) (s : Sheet) (told : Told (s .rule
   rules-behind : (front : List Stage) (t : Stage) (us : List Stage) → rulesAfter (t .after .node) us ≡ rulesOf s (front ++ (t ∷ us))
   rules-behind front t us = sym (rules-append (s .rules) front (t ∷ us)) ∙ sym (sheet-after s (front ++ (t ∷ us)))
 
-  -- Every grammar of the run tells its rules apart.
-  pub told-after : (front rest : List Stage) → front ++ rest ≡ ts → Told (rulesOf s front)
-  told-after front rest w = subst Told (first-is front [] rest w) (between-told front [] rest w)
-
   whole-run : [] ++ (ts ++ []) ≡ ts
   whole-run = append-nil ts
 

@@ -2,7 +2,7 @@
 use Prim.Native.Nat.{ℕ}
 use mathlib.Core.Path.{_≡_, refl, sym, ap, _∙_, subst}
 use mathlib.Core.List.{List, [], _∷_, Memᴰ·of-map}
-use mathlib.Core.Bool.{Bool, true, false, _&&_, _||_, not, true≢false}
+use mathlib.Core.Bool.{Bool, true, false, _&&_, _||_, not, or-true, true≢false}
 use lib.Dec.{eqb}
 use Rattle.grammar.specs.Tree.{Rule, Sheet}
 use Rattle.grammar.specs.Ids.{member}
@@ -19,10 +19,6 @@ use Rattle.laws.specs.Planning.OnePlan.{goneIds, rulesLeft, applied-rule
 use Rattle.laws.specs.Running.Leaves.{Told}
 use Rattle.laws.specs.Running.Stages.{rulesAfter, sheet-after, known, Happened, Chain, last, next, stage-made, stage-leaves}
 
-either-true : (a b : Bool) → b ≡ true → (a || b) ≡ true
-either-true true b t = refl
-either-true false b t = t
-
 not-both : (a b : Bool) → (a ≡ true → b ≡ true) → (a && not b) ≡ false
 not-both true b h = ap not (h refl)
 not-both false b h = refl
@@ -37,7 +33,8 @@ module _ (limits : Limits) (corners : Corners) (preserved : List ℕ) (i : ℕ) 
       either (member (r .id) gone)
       (λ u.
       let s = removable-satellite _ _ (t .before) (x .hub .id) (t .plan .alternatives) (t .cycle) preserved (member-in gone u) in
-      absurd (true≢false (sym (either-true (eqb (r .id) (x .hub .id)) (member (r .id) preserved) (ap (λ j. member j preserved) e ∙ p)) ∙ s .1)))
+      let kept : member (r .id) preserved ≡ true = ap (λ j. member j preserved) e ∙ p in
+      absurd (true≢false (sym (ap (λ b. eqb (r .id) (x .hub .id) || b) kept ∙ or-true (eqb (r .id) (x .hub .id))) ∙ s .1)))
       (λ f. f) in
       let left = in-member (left-in (known (t .before) k) x (h .counters) there stays) in
       let here : member i (idsOf (rulesLeft (known (t .before) k) x (h .counters))) ≡ true = subst (λ j. member j (idsOf (rulesLeft (known (t .before) k) x (h .counters))) ≡ true) e left in

@@ -243,16 +243,6 @@ module _ {c : Corners} {d : ℕ} {rs : List (RuleOf (Block (suc d)))} {g : Gramm
       (λ u. r-last (subst (λ n. Leads o now n m) (sym (s .name) ∙ e) (leads-from (s .rule) (s .isRule) (kept-corner i (u .1) j))))
       (s .body)
 
-  pub other-leads : {n m : ℕ} → (n ≡ x .hub .name → ⊥) → Leads o then n m → Leads o now n m
-  other-leads {n} {m} ne l =
-      let (q, i, e, b) = found-rule (suc d) (λ r. r .name) (rulesLeft k x counters) n (l .found) in
-      let s = left-stems k x counters i in
-      let j : Corner o then (eraseBlock (suc d) (q .body)) m = subst (λ t. Corner o then t m) (sym b) (l .corner) in
-      ⊎-elim
-      (λ h. absurd (ne (sym e ∙ s .name ∙ ap (λ r. r .name) (one-with (λ r. r .id) rs (k .ids) (s .isRule) (x .isRule) (h .0)))))
-      (λ u. subst (λ n. Leads o now n m) (sym (s .name) ∙ e) (leads-from (s .rule) (s .isRule) (kept-corner i (u .1) j)))
-      (s .body)
-
 -- Of paths.
 pub reaches-map : {o : Corners} {G K : Shapes} → ((n m : ℕ) → Leads o K n m → Reaches o G n m) → {n m : ℕ} → Reaches o K n m → Reaches o G n m
 reaches-map f (r-last {n = n} {m = m} l) = f n m l

@@ -67,9 +67,6 @@ but-for-refl H G = record { others = λ n ne. refl }
 pub but-for-sym : {H : ℕ} {G K : Shapes} → ButFor H G K → ButFor H K G
 but-for-sym o = record { others = λ n ne. sym (o .others n ne) }
 
-pub but-for-trans : {H : ℕ} {G K L : Shapes} → ButFor H G K → ButFor H K L → ButFor H G L
-but-for-trans o p = record { others = λ n ne. p .others n ne ∙ o .others n ne }
-
 module _ {H : ℕ} {G K : Shapes} {b c : Shape} (o : ButFor H G K) (g : find G H ≡ some b) (k : find K H ≡ some c) where
   replaced-covers : Within K b K c → Covers G K
   replaced-covers into =
