@@ -1,13 +1,12 @@
--- The words of a tree: document 01's records, written from left to right.
+-- The words of a tree: the records of SPECIFICATION 2.7, written from left to right.
 use Prim.Native.Nat.{ℕ, zero, suc, _+_, _*_}
 use mathlib.Core.List.{List, [], _∷_, _++_}
 use lib.ListN.{length}
-use Rattle.grammar.specs.Tree.{OptionDecl, Reference, Label, unlabelled, labelled, ElementHead, Leaf, epsilon, action, predicate, call, token, terminal, Element, leaf, block, AlternativeOf, Block, RuleOf, Rule, bodyDepth, Counters, Sheet}
-
--- The words of each item, one after the other.
-abbrev pub each : {A : Type 0} → (A → List ℕ) → List A → List ℕ
-each enc [] = []
-each enc (a ∷ as′) = enc a ++ each enc as′
+use Rattle.grammar.specs.Lists.{each}
+use Rattle.grammar.specs.Numbers.{epsilonKind, actionKind, predicateKind, callKind, tokenKind, terminalKind, blockKind, kindEnd}
+use Rattle.grammar.specs.Tree.{OptionDecl, Reference, Label, unlabelled, labelled, ElementHead, Leaf, epsilon, action, predicate}
+use Rattle.grammar.specs.Tree.{call, token, terminal, Element, leaf, block, AlternativeOf, Block, RuleOf, Rule, bodyDepth, Counters}
+use Rattle.grammar.specs.Tree.{Sheet}
 
 abbrev pub encodeOption : OptionDecl → List ℕ
 encodeOption o = o .name ∷ o .value ∷ []
@@ -26,32 +25,43 @@ labelName (labelled i n) = n
 -- The fixed words of an element, its kind packed with its quantifier, and its options.
 unfoldable pub encodeHead : ElementHead → ℕ → List ℕ
 encodeHead h kind =
-    h .id ∷ h .carried ∷ (kind + 256 * h .quantifier) ∷ labelId (h .label) ∷ labelName (h .label) ∷ length (h .options) ∷ each encodeOption (h .options)
+    h .id
+    ∷ h .carried
+    ∷ (kind + kindEnd * h .quantifier)
+    ∷ labelId (h .label)
+    ∷ labelName (h .label)
+    ∷ length (h .options)
+    ∷ each encodeOption (h .options)
 
 unfoldable pub leafKind : Leaf → ℕ
-leafKind epsilon = 0
-leafKind (action i rs) = 1
-leafKind (predicate i rs) = 2
-leafKind (call n a) = 3
-leafKind (token n) = 4
-leafKind terminal = 5
+leafKind epsilon = epsilonKind
+leafKind (action a) = actionKind
+leafKind (predicate p) = predicateKind
+leafKind (call c) = callKind
+leafKind (token n) = tokenKind
+leafKind terminal = terminalKind
 
 unfoldable pub encodeLeaf : Leaf → List ℕ
 encodeLeaf epsilon = []
-encodeLeaf (action i rs) = i ∷ length rs ∷ each encodeReference rs
-encodeLeaf (predicate i rs) = i ∷ length rs ∷ each encodeReference rs
-encodeLeaf (call n a) = n ∷ a ∷ []
+encodeLeaf (action a) = a .id ∷ length (a .references) ∷ each encodeReference (a .references)
+encodeLeaf (predicate p) = p .id ∷ length (p .references) ∷ each encodeReference (p .references)
+encodeLeaf (call c) = c .name ∷ c .arguments ∷ []
 encodeLeaf (token n) = n ∷ []
 encodeLeaf terminal = []
 
 module _ {B : Type 0} (enc : B → List ℕ) where
   unfoldable pub encodeElement : Element B → List ℕ
   encodeElement (leaf h l) = encodeHead h (leafKind l) ++ encodeLeaf l
-  encodeElement (block h b) = encodeHead h 6 ++ enc b
+  encodeElement (block h b) = encodeHead h blockKind ++ enc b
 
   unfoldable pub encodeAlternative : AlternativeOf B → List ℕ
   encodeAlternative a =
-      a .id ∷ a .carried ∷ a .flag ∷ length (a .options) ∷ length (a .elements) ∷ each encodeOption (a .options) ++ each encodeElement (a .elements)
+      a .id
+      ∷ a .carried
+      ∷ a .flag
+      ∷ length (a .options)
+      ∷ length (a .elements)
+      ∷ each encodeOption (a .options) ++ each encodeElement (a .elements)
 
   unfoldable pub encodeRule : RuleOf B → List ℕ
   encodeRule r = r .id ∷ r .name ∷ r .flags ∷ enc (r .body)

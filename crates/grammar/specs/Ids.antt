@@ -1,30 +1,26 @@
--- The ids of a tree by sort, nested ones too, in the order in which they stand in the sheet.
--- A sort is numbered as in the trail: 1 rule, 2 alternative, 3 element, 4 label, 5 action, 6 predicate.
+-- The ids of a tree by sort, nested ones too, in the order in which they stand in the sheet (SPECIFICATION 2.18).
 use Prim.Native.Nat.{ℕ, zero, suc}
 use mathlib.Core.List.{List, [], _∷_, _++_, map}
-use mathlib.Core.Bool.{Bool, true, false, _&&_, _||_, not}
-use lib.Dec.{eqb, ltb}
-use Rattle.grammar.specs.Tree.{Label, unlabelled, labelled, ElementHead, Leaf, epsilon, action, predicate, call, token, terminal, Element, leaf, block, AlternativeOf, Block, Rule, bodyDepth, Counters}
-use Rattle.grammar.specs.Encode.{each}
-
--- The id, where a test holds.
-abbrev pub only : Bool → ℕ → List ℕ
-only true i = i ∷ []
-only false i = []
+use mathlib.Core.Bool.{Bool, true, false, _&&_}
+use lib.Dec.{eqb}
+use Rattle.grammar.specs.Tree.{Label, unlabelled, labelled, ElementHead, Leaf, epsilon, action, predicate, call, token, terminal}
+use Rattle.grammar.specs.Tree.{Element, leaf, block, AlternativeOf, Block, Rule, bodyDepth, Counters}
+use Rattle.grammar.specs.Numbers.{alternativeSort, elementSort, labelSort, actionSort, predicateSort}
+use Rattle.grammar.specs.Lists.{each, only, distinct, below}
 
 module _ (sort : ℕ) where
   unfoldable pub labelIds : Label → List ℕ
   labelIds unlabelled = []
-  labelIds (labelled i n) = only (eqb sort 4) i
+  labelIds (labelled i n) = only (eqb sort labelSort) i
 
   unfoldable pub headIds : ElementHead → List ℕ
-  headIds h = only (eqb sort 3) (h .id) ++ labelIds (h .label)
+  headIds h = only (eqb sort elementSort) (h .id) ++ labelIds (h .label)
 
   unfoldable pub leafIds : Leaf → List ℕ
   leafIds epsilon = []
-  leafIds (action i rs) = only (eqb sort 5) i
-  leafIds (predicate i rs) = only (eqb sort 6) i
-  leafIds (call n a) = []
+  leafIds (action a) = only (eqb sort actionSort) (a .id)
+  leafIds (predicate p) = only (eqb sort predicateSort) (p .id)
+  leafIds (call c) = []
   leafIds (token n) = []
   leafIds terminal = []
 
@@ -34,7 +30,7 @@ module _ (sort : ℕ) where
     elementIds (block h b) = headIds h ++ blockIds b
 
     unfoldable pub alternativeIds : AlternativeOf B → List ℕ
-    alternativeIds a = only (eqb sort 2) (a .id) ++ each elementIds (a .elements)
+    alternativeIds a = only (eqb sort alternativeSort) (a .id) ++ each elementIds (a .elements)
 
   unfoldable pub blockIds : (d : ℕ) → Block d → List ℕ
   blockIds zero b = absurd b
@@ -49,30 +45,19 @@ ruleIds = map λ r. r .id
 abbrev pub ruleNames : List Rule → List ℕ
 ruleNames = map λ r. r .name
 
-unfoldable pub member : ℕ → List ℕ → Bool
-member x [] = false
-member x (y ∷ ys) = eqb x y || member x ys
-
--- No two are equal.
-unfoldable pub distinct : List ℕ → Bool
-distinct [] = true
-distinct (x ∷ xs) = not (member x xs) && distinct xs
-
--- Each is below the counter.
-unfoldable pub below : ℕ → List ℕ → Bool
-below c [] = true
-below c (x ∷ xs) = ltb x c && below c xs
-
--- What refusal 5 excludes.
+-- What refusal 5 excludes (SPECIFICATION 4.5).
 unfoldable pub isDistinct : List Rule → Bool
 isDistinct rs =
     distinct (ruleIds rs)
     && (distinct (ruleNames rs)
-    && (distinct (bodyIds 2 rs) && (distinct (bodyIds 3 rs) && (distinct (bodyIds 4 rs) && (distinct (bodyIds 5 rs) && distinct (bodyIds 6 rs))))))
+    && (distinct (bodyIds alternativeSort rs)
+    && (distinct (bodyIds elementSort rs)
+    && (distinct (bodyIds labelSort rs) && (distinct (bodyIds actionSort rs) && distinct (bodyIds predicateSort rs))))))
 
--- What refusal 6 excludes.
+-- What refusal 6 excludes (SPECIFICATION 4.6).
 unfoldable pub isBelow : Counters → List Rule → Bool
 isBelow c rs =
-    below (c .alternative) (bodyIds 2 rs)
-    && (below (c .element) (bodyIds 3 rs)
-    && (below (c .label) (bodyIds 4 rs) && (below (c .action) (bodyIds 5 rs) && below (c .predicate) (bodyIds 6 rs))))
+    below (c .alternative) (bodyIds alternativeSort rs)
+    && (below (c .element) (bodyIds elementSort rs)
+    && (below (c .label) (bodyIds labelSort rs)
+    && (below (c .action) (bodyIds actionSort rs) && below (c .predicate) (bodyIds predicateSort rs))))

@@ -1,3 +1,5 @@
+pub mod Numbers
+pub mod Lists
 pub mod Tree
 pub mod Words
 pub mod Encode
@@ -7,9 +9,7 @@ pub mod Ids
 pub mod Valid
 pub mod Reading
 pub mod Stands
-pub mod Shape
-pub mod Derive
+pub mod Found
+pub mod Fold
 pub mod Corners
-pub mod Cycles
-pub mod Lists
 pub mod Laws

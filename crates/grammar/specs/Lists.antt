@@ -1,12 +1,11 @@
 -- Functions on lists. Sets are lists here, and only membership in them is asked.
 use Prim.Native.Nat.{ℕ, zero, suc, _+_}
 use mathlib.Core.Logic.{_⊎_}
-use mathlib.Core.List.{List, [], _∷_}
+use mathlib.Core.List.{List, [], _∷_, _++_}
 use mathlib.Core.Option.{Option, none, some}
-use mathlib.Core.Bool.{Bool, true, false, _||_}
+use mathlib.Core.Bool.{Bool, true, false, _&&_, _||_, not}
 use lib.ListN.{length}
-use lib.Dec.{leb, eqb}
-use Rattle.grammar.specs.Ids.{member}
+use lib.Dec.{leb, ltb, eqb}
 
 abbrev pub isEmpty : {A : Type 0} → List A → Bool
 isEmpty [] = true
@@ -16,9 +15,44 @@ isEmpty (a ∷ as′) = false
 abbrev pub nothing : {A B : Type 0} → A → List B
 nothing a = []
 
+-- What each item gives, one after the other.
+abbrev pub each : {A : Type 0} → (A → List ℕ) → List A → List ℕ
+each f [] = []
+each f (a ∷ as′) = f a ++ each f as′
+
+-- The number, where a test holds.
+abbrev pub only : Bool → ℕ → List ℕ
+only true i = i ∷ []
+only false i = []
+
+unfoldable pub all : {A : Type 0} → (A → Bool) → List A → Bool
+all test [] = true
+all test (a ∷ as′) = test a && all test as′
+
 unfoldable pub any : {A : Type 0} → (A → Bool) → List A → Bool
 any test [] = false
 any test (a ∷ as′) = test a || any test as′
+
+unfoldable pub member : ℕ → List ℕ → Bool
+member x [] = false
+member x (y ∷ ys) = eqb x y || member x ys
+
+-- Whether two lists are the same, number by number.
+unfoldable pub same : List ℕ → List ℕ → Bool
+same [] [] = true
+same [] (y ∷ ys) = false
+same (x ∷ xs) [] = false
+same (x ∷ xs) (y ∷ ys) = elim (eqb x y) [ true ↦ same xs ys | false ↦ false ]
+
+-- No two are equal.
+unfoldable pub distinct : List ℕ → Bool
+distinct [] = true
+distinct (x ∷ xs) = not (member x xs) && distinct xs
+
+-- Each is below the counter.
+unfoldable pub below : ℕ → List ℕ → Bool
+below c [] = true
+below c (x ∷ xs) = ltb x c && below c xs
 
 -- The item in front, where a test holds.
 abbrev pub push : {A : Type 0} → Bool → A → List A → List A
@@ -51,6 +85,12 @@ insert x (y ∷ ys) = elim (leb x y) [ true ↦ x ∷ y ∷ ys | false ↦ y ∷
 unfoldable pub sorted : List ℕ → List ℕ
 sorted [] = []
 sorted (x ∷ xs) = insert x (sorted xs)
+
+-- Strictly rising.
+unfoldable pub rising : List ℕ → Bool
+rising [] = true
+rising (x ∷ []) = true
+rising (x ∷ y ∷ ys) = ltb x y && rising (y ∷ ys)
 
 -- Rounds, until one leaves the length as it was or n are made.
 unfoldable pub rounds : (List ℕ → List ℕ) → ℕ → List ℕ → List ℕ

@@ -1,15 +1,16 @@
--- The reader as a function of the words: what document 01's table refuses by 3 and 4, and the tree that stands there else.
+-- The reader as a function of the words: what is refused by 4 (SPECIFICATION 4.4), and the tree that stands there else.
 use Prim.Native.Nat.{ℕ, zero, suc, _+_, _-_, _/_, _%_}
 use mathlib.Core.List.{List, [], _∷_}
 use mathlib.Core.Bool.{Bool, true, false, _&&_, _||_}
 use lib.ListN.{getD}
 use lib.Dec.{leb, eqb}
-use Rattle.grammar.specs.Tree.{OptionDecl, Reference, Label, unlabelled, labelled, ElementHead, Leaf, epsilon, action, predicate, call, token, terminal, Element, leaf, block, AlternativeOf, Block, RuleOf, Rule, bodyDepth}
+use Rattle.grammar.specs.Numbers.{mostName, nonLocal, kindEnd, blockKind, oneOrMoreNongreedy, mostAlternativeFlag, mostRuleFlags}
+use Rattle.grammar.specs.Tree.{OptionDecl, Reference, Label, unlabelled, labelled, ElementHead, Leaf, epsilon, action, predicate}
+use Rattle.grammar.specs.Tree.{call, token, terminal, Element, leaf, block, AlternativeOf, Block, RuleOf, Rule, bodyDepth}
 use Rattle.grammar.specs.Parse.{Got, got, bad, _then_, given, many}
 
--- Names run from 1 to 65,535.
 abbrev pub isName : ℕ → Bool
-isName n = leb 1 n && leb n 65535
+isName n = leb 1 n && leb n mostName
 
 -- Both words 0, or a name with any id.
 abbrev pub isLabel : ℕ → ℕ → Bool
@@ -17,6 +18,12 @@ isLabel i n = isName n || (eqb n 0 && eqb i 0)
 
 abbrev pub labelOf : ℕ → ℕ → Label
 labelOf i n = elim (eqb n 0) [ true ↦ unlabelled | false ↦ labelled i n ]
+
+abbrev pub actionOf : ℕ → List Reference → Leaf
+actionOf i rs = action (record { id = i; references = rs })
+
+abbrev pub predicateOf : ℕ → List Reference → Leaf
+predicateOf i rs = predicate (record { id = i; references = rs })
 
 module _ (ws : List ℕ) (end : ℕ) where
   abbrev pub word : ℕ → ℕ
@@ -31,23 +38,26 @@ module _ (ws : List ℕ) (end : ℕ) where
 
   unfoldable pub referenceAt : ℕ → Got Reference
   referenceAt at =
-      given (room 2 at && (leb (word at) 2 && isName (word (at + 1)))) λ _. got (record { kind = word at; name = word (at + 1) }) (at + 2)
+      given (room 2 at && (leb (word at) nonLocal && isName (word (at + 1)))) λ _.
+      got (record { kind = word at; name = word (at + 1) }) (at + 2)
 
-  -- The id and the references of an action or a predicate.
+  -- An action or a predicate, made of its id and its references.
   unfoldable pub bodyAt : (ℕ → List Reference → Leaf) → ℕ → Got Leaf
   bodyAt make at =
       given (room 2 at) λ _. many referenceAt (word (at + 1)) (at + 2) then λ rs q. got (make (word at) rs) q
 
   unfoldable pub callAt : ℕ → Got Leaf
-  callAt at = given (room 2 at && isName (word at)) λ _. got (call (word at) (word (at + 1))) (at + 2)
+  callAt at =
+      given (room 2 at && isName (word at)) λ _. got (call (record { name = word at; arguments = word (at + 1) })) (at + 2)
 
   unfoldable pub tokenAt : ℕ → Got Leaf
   tokenAt at = given (room 1 at && isName (word at)) λ _. got (token (word at)) (at + 1)
 
+  -- Of a kind, in the order of leafKind.
   unfoldable pub leafAt : ℕ → ℕ → Got Leaf
   leafAt zero at = got epsilon at
-  leafAt (suc zero) at = bodyAt action at
-  leafAt (suc (suc zero)) at = bodyAt predicate at
+  leafAt (suc zero) at = bodyAt actionOf at
+  leafAt (suc (suc zero)) at = bodyAt predicateOf at
   leafAt (suc (suc (suc zero))) at = callAt at
   leafAt (suc (suc (suc (suc zero)))) at = tokenAt at
   leafAt (suc (suc (suc (suc (suc zero))))) at = got terminal at
@@ -55,33 +65,41 @@ module _ (ws : List ℕ) (end : ℕ) where
 
   -- The six fixed words of an element.
   unfoldable pub isHead : ℕ → Bool
-  isHead at = room 6 at && (leb (word (at + 2) / 256) 6 && isLabel (word (at + 3)) (word (at + 4)))
+  isHead at = room 6 at && (leb (word (at + 2) / kindEnd) oneOrMoreNongreedy && isLabel (word (at + 3)) (word (at + 4)))
 
   unfoldable pub headAt : ℕ → Got ElementHead
   headAt at =
       given (isHead at) λ _. many optionAt (word (at + 5)) (at + 6) then λ os q.
-      got (record { id = word at; carried = word (at + 1); quantifier = word (at + 2) / 256; label = labelOf (word (at + 3)) (word (at + 4)); options = os }) q
+      got
+      (record {
+        id = word at;
+        carried = word (at + 1);
+        quantifier = word (at + 2) / kindEnd;
+        label = labelOf (word (at + 3)) (word (at + 4));
+        options = os;
+      })
+      q
 
   module _ {B : Type 0} (blockAt : ℕ → Got B) where
     unfoldable pub payloadAt : ElementHead → ℕ → ℕ → Got (Element B)
     payloadAt h kind at =
-        elim (eqb kind 6) [
+        elim (eqb kind blockKind) [
           | true ↦ blockAt at then λ b q. got (block h b) q
           | false ↦ leafAt kind at then λ l q. got (leaf h l) q
         ]
 
     unfoldable pub elementAt : ℕ → Got (Element B)
-    elementAt at = headAt at then λ h p. payloadAt h (word (at + 2) % 256) p
+    elementAt at = headAt at then λ h p. payloadAt h (word (at + 2) % kindEnd) p
 
     unfoldable pub alternativeAt : ℕ → Got (AlternativeOf B)
     alternativeAt at =
-        given (room 5 at && leb (word (at + 2)) 1) λ _. many optionAt (word (at + 3)) (at + 5) then λ os p.
+        given (room 5 at && leb (word (at + 2)) mostAlternativeFlag) λ _. many optionAt (word (at + 3)) (at + 5) then λ os p.
         many elementAt (word (at + 4)) p then λ es q.
         got (record { id = word at; carried = word (at + 1); flag = word (at + 2); options = os; elements = es }) q
 
     unfoldable pub ruleAt : ℕ → Got (RuleOf B)
     ruleAt at =
-        given (room 3 at && (isName (word (at + 1)) && leb (word (at + 2)) 3)) λ _. blockAt (at + 3) then λ b q.
+        given (room 3 at && (isName (word (at + 1)) && leb (word (at + 2)) mostRuleFlags)) λ _. blockAt (at + 3) then λ b q.
         got (record { id = word at; name = word (at + 1); flags = word (at + 2); body = b }) q
 
   -- The count and the alternatives of a block that may nest blocks less than d deep.

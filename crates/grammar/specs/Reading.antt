@@ -1,29 +1,36 @@
--- The whole reader: from a sheet's bytes to a refusal of document 01's table or the tree that stands there.
+-- The whole reader: from a sheet's bytes to a refusal (SPECIFICATION 4) or the tree that stands there.
 -- Refusal 2 is about lent buffers and belongs to the entry that lends them.
 use Prim.Native.Nat.{ℕ, _+_, _-_, _%_}
-use mathlib.Core.List.{List}
+use mathlib.Core.List.{List, [], _∷_}
 use mathlib.Core.Bool.{Bool, true, false, _&&_}
 use lib.ListN.{length, getD, take, drop}
 use lib.Dec.{leb, eqb}
+use Rattle.grammar.specs.Numbers.{leastBytes, mostBytes, trailerWords}
+use Rattle.grammar.specs.Numbers.{badLength, badTrailer, badRecord, sharedNumber, idPastCounter}
 use Rattle.grammar.specs.Tree.{Rule, Counters, Sheet}
 use Rattle.grammar.specs.Words.{words}
 use Rattle.grammar.specs.Parse.{Got, got, bad, _then_, given}
 use Rattle.grammar.specs.Read.{rulesAt}
 use Rattle.grammar.specs.Ids.{isDistinct, isBelow}
-use Rattle.grammar.specs.Valid.{rising, ruleLimit, isKind}
+use Rattle.grammar.specs.Valid.{ruleLimit, isKind}
+use Rattle.grammar.specs.Lists.{rising}
 
 pub data Reading : Type 0 where
   refused : (number : ℕ) → Reading
   sheet : Sheet → Reading
 
+-- The reader's refusals.
+abbrev pub refusals : List ℕ
+refusals = badLength ∷ badTrailer ∷ badRecord ∷ sharedNumber ∷ idPastCounter ∷ []
+
 -- Refusal 1 excludes every other length in bytes.
 abbrev pub isLength : ℕ → Bool
-isLength n = leb 32 n && (leb n 32768 && eqb (n % 4) 0)
+isLength n = leb leastBytes n && (leb n mostBytes && eqb (n % 4) 0)
 
 module _ (ws : List ℕ) where
-  -- Where the trailer of 8 words begins.
+  -- Where the trailer begins.
   abbrev pub trailer : ℕ
-  trailer = length ws - 8
+  trailer = length ws - trailerWords
 
   abbrev pub unitKind : ℕ
   unitKind = getD ws trailer 0
@@ -47,7 +54,13 @@ module _ (ws : List ℕ) where
 
   unfoldable pub countersOf : Counters
   countersOf =
-      record { alternative = getD ws (trailer + 3) 0; element = getD ws (trailer + 4) 0; label = getD ws (trailer + 5) 0; action = getD ws (trailer + 6) 0; predicate = getD ws (trailer + 7) 0 }
+      record {
+        alternative = getD ws (trailer + 3) 0;
+        element = getD ws (trailer + 4) 0;
+        label = getD ws (trailer + 5) 0;
+        action = getD ws (trailer + 6) 0;
+        predicate = getD ws (trailer + 7) 0;
+      }
 
   -- The records in front of the trailer; `bad` is refusal 4.
   unfoldable pub rulesOf : Got (List Rule)
@@ -58,15 +71,15 @@ module _ (ws : List ℕ) where
 
   -- Refusals 5 and 6, the lower first.
   unfoldable pub judge : Got (List Rule) → Reading
-  judge bad = refused 4
+  judge bad = refused badRecord
   judge (got rs q) =
       elim (isDistinct rs) [
-        | false ↦ refused 5
-        | true ↦ elim (isBelow countersOf rs) [ false ↦ refused 6 | true ↦ sheet (sheetOf rs) ]
+        | false ↦ refused sharedNumber
+        | true ↦ elim (isBelow countersOf rs) [ false ↦ refused idPastCounter | true ↦ sheet (sheetOf rs) ]
       ]
 
   unfoldable pub readWords : Reading
-  readWords = elim isTrailer [ false ↦ refused 3 | true ↦ judge rulesOf ]
+  readWords = elim isTrailer [ false ↦ refused badTrailer | true ↦ judge rulesOf ]
 
 unfoldable pub read : List ℕ → Reading
-read bs = elim (isLength (length bs)) [ false ↦ refused 1 | true ↦ readWords (words bs) ]
+read bs = elim (isLength (length bs)) [ false ↦ refused badLength | true ↦ readWords (words bs) ]

@@ -1,4 +1,4 @@
--- 32-bit words in bytes, low byte first.
+-- 32-bit words in bytes, low byte first (SPECIFICATION 2.1).
 use Prim.Native.Nat.{ℕ, _+_, _*_, _/_, _%_}
 use mathlib.Core.List.{List, [], _∷_}
 

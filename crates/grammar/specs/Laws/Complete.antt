@@ -7,15 +7,30 @@ use native.Mathlib.Omega.{arith}
 use lib.ListN.{length, getD}
 use lib.Dec.{leb, eqb}
 use borrow.Author.Tests.{le-leb, eq-eqb, ne-eqb}
+use Rattle.grammar.specs.Numbers.{mostRuleFlags, mostAlternativeFlag, oneOrMoreNongreedy, blockKind, kindEnd}
 use Rattle.grammar.specs.Stands.{Spans, Stands}
-use Rattle.grammar.specs.Tree.{Reference, ElementHead, Leaf, epsilon, action, predicate, call, token, terminal, leaf, block, Rule, bodyDepth}
-use Rattle.grammar.specs.Encode.{each, encodeOption, encodeReference, encodeHead, leafKind, encodeLeaf, encodeElement, encodeAlternative, encodeRule, encodeBlock, encodeRules}
+use Rattle.grammar.specs.Tree.{Reference, ElementHead, Leaf, epsilon, action, predicate, call, token, terminal, leaf, block, Rule}
+use Rattle.grammar.specs.Tree.{bodyDepth}
+use Rattle.grammar.specs.Encode.{encodeOption, encodeReference, encodeHead, leafKind, encodeLeaf, encodeElement, encodeAlternative}
+use Rattle.grammar.specs.Encode.{encodeRule, encodeBlock, encodeRules}
+use Rattle.grammar.specs.Lists.{each, all}
 use Rattle.grammar.specs.Parse.{Got, got, given}
-use Rattle.grammar.specs.Read.{isName, isLabel, labelOf, room, optionAt, referenceAt, bodyAt, callAt, tokenAt, leafAt, isHead, headAt, payloadAt, elementAt, alternativeAt, ruleAt, blockAt, rulesAt}
-use Rattle.grammar.specs.Valid.{all, okOption, okReference, okLabel, okHead, okLeaf, okElement, okAlternative, okRule, okBlock}
+use Rattle.grammar.specs.Read.{isName, isLabel, labelOf, actionOf, predicateOf, room, optionAt, referenceAt, bodyAt, callAt, tokenAt}
+use Rattle.grammar.specs.Read.{leafAt, isHead, headAt, payloadAt, elementAt, alternativeAt, ruleAt, blockAt, rulesAt}
+use Rattle.grammar.specs.Valid.{okOption, okReference, okLabel, okHead, okLeaf, okElement, okAlternative, okRule, okBlock}
 use Rattle.grammar.specs.Laws.Stands.{run-stands, stands-head, stands-length, stands-split}
 use Rattle.grammar.specs.Laws.Label.{is-label, label-of}
 use Rattle.grammar.specs.Laws.Parse.{both-true, left-true, right-true, then-got, given-got, Complete, many-complete}
+
+-- A leaf is no block.
+pub leaf-kind : (l : Leaf) → leafKind l < blockKind
+unfolding leafKind
+leaf-kind epsilon = omega arith
+leaf-kind (action a) = omega arith
+leaf-kind (predicate p) = omega arith
+leaf-kind (call c) = omega arith
+leaf-kind (token n) = omega arith
+leaf-kind terminal = omega arith
 
 module _ (ws : List ℕ) (end : ℕ) where
   given-room : {A : Type 0} (n at : ℕ) (f : Unit {0} → Got A) {r : Got A} → at + n ≤ end → f tt ≡ r → given (room ws end n at) f ≡ r
@@ -38,7 +53,8 @@ module _ (ws : List ℕ) (end : ℕ) where
   reference-complete at r q s =
       let w = s .stands .run in
       let e = stands-head (s .stands) in
-      given-room-and 2 at _ _ (omega arith) (rw (e, w .1 .0) (s .fine)) λ i. got (record { kind = e i; name = w .1 .0 i }) (sym (w .1 .1 .0) i)
+      given-room-and 2 at _ _ (omega arith) (rw (e, w .1 .0) (s .fine)) λ i. got (record { kind = e i; name = w .1 .0 i })
+      (sym (w .1 .1 .0) i)
 
   body-complete : (make : ℕ → List Reference → Leaf) (i : ℕ) (rs : List Reference) (at q : ℕ)
       → Stands ws end (i ∷ length rs ∷ each encodeReference rs) at q → all okReference rs ≡ true → bodyAt ws end make at ≡ got (make i rs) q
@@ -46,60 +62,62 @@ module _ (ws : List ℕ) (end : ℕ) where
   body-complete make i rs at q s t =
       let l = stands-length s in
       given-room 2 at _ (omega arith) (
-      then-got _ (many-complete _ _ _ reference-complete rs _ (at + 2) q (s .run .1 .0) (record { stands = run-stands at 2 (s .run .1 .1); fine = t })) (
+      then-got _ (many-complete _ _ _ reference-complete rs _ (at + 2) q (s .run .1 .0)
+      (record { stands = run-stands at 2 (s .run .1 .1); fine = t })) (
       ap (λ j. got (make j rs) q) (stands-head s)))
 
   pub leaf-complete : (l : Leaf) (at q : ℕ) → Spans ws end encodeLeaf okLeaf at l q → leafAt ws end (leafKind l) at ≡ got l q
   unfolding leafAt callAt tokenAt encodeLeaf okLeaf leafKind
   leaf-complete epsilon at q s = let h = stands-length (s .stands) in ap (got epsilon) (omega arith)
-  leaf-complete (action i rs) at q s = body-complete action i rs at q (s .stands) (s .fine)
-  leaf-complete (predicate i rs) at q s = body-complete predicate i rs at q (s .stands) (s .fine)
-  leaf-complete (call n a) at q s =
+  leaf-complete (action a) at q s = body-complete actionOf (a .id) (a .references) at q (s .stands) (s .fine)
+  leaf-complete (predicate p) at q s = body-complete predicateOf (p .id) (p .references) at q (s .stands) (s .fine)
+  leaf-complete (call c) at q s =
       let w = s .stands .run in
       let e = stands-head (s .stands) in
-      given-room-and 2 at _ _ (omega arith) (rw e (s .fine)) λ i. got (call (e i) (w .1 .0 i)) (sym (w .1 .1 .0) i)
+      given-room-and 2 at _ _ (omega arith) (rw e (s .fine)) λ i. got (call (record { name = e i; arguments = w .1 .0 i }))
+      (sym (w .1 .1 .0) i)
   leaf-complete (token n) at q s =
       let w = s .stands .run in
       let e = stands-head (s .stands) in
       given-room-and 1 at _ _ (omega arith) (rw e (s .fine)) λ i. got (token (e i)) (sym (w .1 .0) i)
   leaf-complete terminal at q s = let h = stands-length (s .stands) in ap (got terminal) (omega arith)
 
-  pub head-complete : (h : ElementHead) (kind at p : ℕ) → kind < 256 → Spans ws end (λ e. encodeHead e kind) okHead at h p
-      → (headAt ws end at ≡ got h p) × (getD ws (at + 2) 0 % 256 ≡ kind)
+  pub head-complete : (h : ElementHead) (kind at p : ℕ) → kind < kindEnd → Spans ws end (λ e. encodeHead e kind) okHead at h p
+      → (headAt ws end at ≡ got h p) × (getD ws (at + 2) 0 % kindEnd ≡ kind)
   unfolding headAt isHead encodeHead okHead
   head-complete h kind at p k s =
       let w = s .stands .run .1 in
       let l = stands-length (s .stands) in
-      let q : getD ws (at + 2) 0 / 256 ≡ h .quantifier = omega arith in
-      let tq : leb (getD ws (at + 2) 0 / 256) 6 ≡ true = rw q (left-true (leb (h .quantifier) 6) _ (s .fine)) in
-      let f = right-true (leb (h .quantifier) 6) (okLabel (h .label) && all okOption (h .options)) (s .fine) in
+      let q : getD ws (at + 2) 0 / kindEnd ≡ h .quantifier = omega arith in
+      let tq : leb (getD ws (at + 2) 0 / kindEnd) oneOrMoreNongreedy ≡ true =
+      rw q (left-true (leb (h .quantifier) oneOrMoreNongreedy) _ (s .fine)) in
+      let f = right-true (leb (h .quantifier) oneOrMoreNongreedy) (okLabel (h .label) && all okOption (h .options)) (s .fine) in
       let fl = left-true (okLabel (h .label)) (all okOption (h .options)) f in
       let tl = ap₂ isLabel (w .1 .1 .0) (w .1 .1 .1 .0) ∙ is-label (h .label) fl in
       let nl = ap₂ labelOf (w .1 .1 .0) (w .1 .1 .1 .0) ∙ label-of (h .label) fl in (
         given-room-and 6 at _ _ (omega arith) (both-true _ _ tq tl) (
             then-got _ (many-complete _ _ _ option-complete (h .options) _ (at + 6) p (w .1 .1 .1 .1 .0)
             (record { stands = run-stands at 6 (w .1 .1 .1 .1 .1); fine = right-true (okLabel (h .label)) _ f })) (
-            λ i. got (record { id = stands-head (s .stands) i; carried = w .0 i; quantifier = q i; label = nl i; options = h .options }) p)),
+            λ i. got (record {
+              id = stands-head (s .stands) i;
+              carried = w .0 i;
+              quantifier = q i;
+              label = nl i;
+              options = h .options;
+            }) p)),
         omega arith,
       )
 
-  leaf-kind : (l : Leaf) → leafKind l < 6
-  unfolding leafKind
-  leaf-kind epsilon = omega arith
-  leaf-kind (action i rs) = omega arith
-  leaf-kind (predicate i rs) = omega arith
-  leaf-kind (call n a) = omega arith
-  leaf-kind (token n) = omega arith
-  leaf-kind terminal = omega arith
-
   module _ {B : Type 0} (blockAt : ℕ → Got B) (enc : B → List ℕ) (ok : B → Bool) (complete : Complete ws end blockAt enc ok) where
-    leaf-payload : (h : ElementHead) (l : Leaf) (at q : ℕ) → Spans ws end encodeLeaf okLeaf at l q → payloadAt ws end blockAt h (leafKind l) at ≡ got (leaf h l) q
+    leaf-payload : (h : ElementHead) (l : Leaf) (at q : ℕ) → Spans ws end encodeLeaf okLeaf at l q
+        → payloadAt ws end blockAt h (leafKind l) at ≡ got (leaf h l) q
     unfolding payloadAt
     leaf-payload h l at q s =
         let k = leaf-kind l in
-        rw (ne-eqb (leafKind l) 6 (λ z. omega arith), payloadAt) (then-got _ (leaf-complete l at q s) refl)
+        rw (ne-eqb (leafKind l) blockKind (λ z. omega arith), payloadAt) (then-got _ (leaf-complete l at q s) refl)
 
-    block-payload : (h : ElementHead) (b : B) (at q : ℕ) → Spans ws end enc ok at b q → payloadAt ws end blockAt h 6 at ≡ got (block h b) q
+    block-payload : (h : ElementHead) (b : B) (at q : ℕ) → Spans ws end enc ok at b q
+        → payloadAt ws end blockAt h blockKind at ≡ got (block h b) q
     unfolding payloadAt
     block-payload h b at q s = then-got _ (complete at b q s) refl
 
@@ -108,11 +126,14 @@ module _ (ws : List ℕ) (end : ℕ) where
     element-complete at (leaf h l) q s =
         let (p, x, y) = stands-split (encodeHead h (leafKind l)) (encodeLeaf l) (s .stands) in
         let k = leaf-kind l in
-        let (e, m) = head-complete h (leafKind l) at p (omega arith) (record { stands = x; fine = left-true (okHead h) (okLeaf l) (s .fine) }) in
+        let (e, m) = head-complete h (leafKind l) at p (omega arith) (record {
+          stands = x;
+          fine = left-true (okHead h) (okLeaf l) (s .fine);
+        }) in
         then-got _ e (rw m (leaf-payload h l p q (record { stands = y; fine = right-true (okHead h) (okLeaf l) (s .fine) })))
     element-complete at (block h b) q s =
-        let (p, x, y) = stands-split (encodeHead h 6) (enc b) (s .stands) in
-        let (e, m) = head-complete h 6 at p (omega arith) (record { stands = x; fine = left-true (okHead h) (ok b) (s .fine) }) in
+        let (p, x, y) = stands-split (encodeHead h blockKind) (enc b) (s .stands) in
+        let (e, m) = head-complete h blockKind at p (omega arith) (record { stands = x; fine = left-true (okHead h) (ok b) (s .fine) }) in
         then-got _ e (rw m (block-payload h b p q (record { stands = y; fine = right-true (okHead h) (ok b) (s .fine) })))
 
     pub alternative-complete : Complete ws end (alternativeAt ws end blockAt) (encodeAlternative enc) (okAlternative ok)
@@ -120,24 +141,34 @@ module _ (ws : List ℕ) (end : ℕ) where
     alternative-complete at a q s =
         let w = s .stands .run .1 in
         let l = stands-length (s .stands) in
-        let f = right-true (leb (a .flag) 1) (all okOption (a .options) && all (okElement ok) (a .elements)) (s .fine) in
-        let (p, x, y) = stands-split (each encodeOption (a .options)) (each (encodeElement enc) (a .elements)) (run-stands at 5 (w .1 .1 .1 .1)) in
-        given-room-and 5 at _ _ (omega arith) (rw (w .1 .0) (left-true (leb (a .flag) 1) _ (s .fine))) (
+        let f = right-true (leb (a .flag) mostAlternativeFlag) (all okOption (a .options) && all (okElement ok) (a .elements)) (s .fine) in
+        let (p, x, y) =
+        stands-split (each encodeOption (a .options)) (each (encodeElement enc) (a .elements)) (run-stands at 5 (w .1 .1 .1 .1)) in
+        given-room-and 5 at _ _ (omega arith) (rw (w .1 .0) (left-true (leb (a .flag) mostAlternativeFlag) _ (s .fine))) (
         then-got _ (many-complete _ _ _ option-complete (a .options) _ (at + 5) p (w .1 .1 .0)
         (record { stands = x; fine = left-true (all okOption (a .options)) _ f })) (
         then-got _ (many-complete _ _ _ element-complete (a .elements) _ p q (w .1 .1 .1 .0)
         (record { stands = y; fine = right-true (all okOption (a .options)) _ f })) (
-        λ i. got (record { id = stands-head (s .stands) i; carried = w .0 i; flag = w .1 .0 i; options = a .options; elements = a .elements }) q)))
+        λ i. got (record {
+          id = stands-head (s .stands) i;
+          carried = w .0 i;
+          flag = w .1 .0 i;
+          options = a .options;
+          elements = a .elements;
+        }) q)))
 
     pub rule-complete : Complete ws end (ruleAt ws end blockAt) (encodeRule enc) (okRule ok)
     unfolding ruleAt encodeRule okRule
     rule-complete at r q s =
         let w = s .stands .run .1 in
         let l = stands-length (s .stands) in
-        let f = right-true (isName (r .name)) (leb (r .flags) 3 && ok (r .body)) (s .fine) in
+        let f = right-true (isName (r .name)) (leb (r .flags) mostRuleFlags && ok (r .body)) (s .fine) in
         given-room-and 3 at _ _ (omega arith)
-        (rw (w .0, w .1 .0) (both-true _ _ (left-true (isName (r .name)) _ (s .fine)) (left-true (leb (r .flags) 3) _ f))) (
-        then-got _ (complete (at + 3) (r .body) q (record { stands = run-stands at 3 (w .1 .1); fine = right-true (leb (r .flags) 3) _ f })) (
+        (rw (w .0, w .1 .0) (both-true _ _ (left-true (isName (r .name)) _ (s .fine)) (left-true (leb (r .flags) mostRuleFlags) _ f))) (
+        then-got _ (complete (at + 3) (r .body) q (record {
+          stands = run-stands at 3 (w .1 .1);
+          fine = right-true (leb (r .flags) mostRuleFlags) _ f;
+        })) (
         λ i. got (record { id = stands-head (s .stands) i; name = w .0 i; flags = w .1 .0 i; body = r .body }) q))
 
   pub block-complete : (d : ℕ) → Complete ws end (blockAt ws end d) (encodeBlock d) (okBlock d)
@@ -167,5 +198,6 @@ module _ (ws : List ℕ) (end : ℕ) where
       let lx = stands-length x in
       let ly = stands-length y in
       rw (ne-eqb at end (λ z. omega arith), rulesAt) (
-      then-got _ (rule-complete _ _ _ (block-complete bodyDepth) at r p (record { stands = x; fine = left-true (ok r) (all ok rs) (s .fine) })) (
+      then-got _ (rule-complete _ _ _ (block-complete bodyDepth) at r p
+      (record { stands = x; fine = left-true (ok r) (all ok rs) (s .fine) })) (
       then-got _ (rules-complete n p rs (omega arith) (record { stands = y; fine = right-true (ok r) (all ok rs) (s .fine) })) refl))

@@ -7,8 +7,7 @@ use native.Mathlib.Omega.{arith}
 use lib.ListN.{length}
 use Rattle.grammar.specs.Stands.{Spans}
 use Rattle.grammar.specs.Parse.{Got, got, bad, _then_, given, many}
-use Rattle.grammar.specs.Encode.{each}
-use Rattle.grammar.specs.Valid.{all}
+use Rattle.grammar.specs.Lists.{each, all}
 use Rattle.grammar.specs.Laws.Stands.{stands-none, stands-length, stands-append, stands-split}
 
 pub both-true : (a b : Bool) → a ≡ true → b ≡ true → (a && b) ≡ true
@@ -77,7 +76,13 @@ module _ {ws : List ℕ} {end : ℕ} {A : Type 0} (one : ℕ → Got A) (enc : A
   many-sound s (suc n) at h =
       yields-then (s at h) λ a p x.
       yields-then (many-sound s n p (stands-length (x .stands) .1)) λ as′ q y.
-      yields (record { stands = stands-append (x .stands) (y .0 .stands); fine = both-true (ok a) (all ok as′) (x .fine) (y .0 .fine) }, ap suc (y .1))
+      yields (
+        record {
+          stands = stands-append (x .stands) (y .0 .stands);
+          fine = both-true (ok a) (all ok as′) (x .fine) (y .0 .fine);
+        },
+        ap suc (y .1),
+      )
 
   pub many-complete : Complete ws end one enc ok → (as′ : List A) (n at q : ℕ) → n ≡ length as′ → Spans ws end (each enc) (all ok) at as′ q
       → many one n at ≡ got as′ q

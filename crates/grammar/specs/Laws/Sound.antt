@@ -7,15 +7,20 @@ use native.Mathlib.Omega.{arith}
 use lib.ListN.{length, getD}
 use lib.Dec.{leb, eqb}
 use borrow.Author.Tests.{leb-true, eqb-true}
+use Rattle.grammar.specs.Numbers.{oneOrMoreNongreedy, actionKind, predicateKind, blockKind, kindEnd}
 use Rattle.grammar.specs.Stands.{Spans, Stands}
-use Rattle.grammar.specs.Tree.{Reference, ElementHead, Leaf, action, predicate, Rule, bodyDepth}
-use Rattle.grammar.specs.Encode.{each, encodeOption, encodeReference, encodeHead, leafKind, encodeLeaf, encodeElement, encodeAlternative, encodeRule, encodeBlock, encodeRules}
+use Rattle.grammar.specs.Tree.{Reference, ElementHead, Leaf, Rule, bodyDepth}
+use Rattle.grammar.specs.Encode.{encodeOption, encodeReference, encodeHead, leafKind, encodeLeaf, encodeElement, encodeAlternative}
+use Rattle.grammar.specs.Encode.{encodeRule, encodeBlock, encodeRules}
+use Rattle.grammar.specs.Lists.{each, all}
 use Rattle.grammar.specs.Parse.{Got, given}
-use Rattle.grammar.specs.Read.{isName, isLabel, room, optionAt, referenceAt, bodyAt, callAt, tokenAt, leafAt, isHead, headAt, payloadAt, elementAt, alternativeAt, ruleAt, blockAt, rulesAt}
-use Rattle.grammar.specs.Valid.{all, okOption, okReference, okHead, okLeaf, okElement, okAlternative, okRule, okBlock}
+use Rattle.grammar.specs.Read.{isName, isLabel, actionOf, predicateOf, room, optionAt, referenceAt, bodyAt, callAt, tokenAt, leafAt}
+use Rattle.grammar.specs.Read.{isHead, headAt, payloadAt, elementAt, alternativeAt, ruleAt, blockAt, rulesAt}
+use Rattle.grammar.specs.Valid.{okOption, okReference, okHead, okLeaf, okElement, okAlternative, okRule, okBlock}
 use Rattle.grammar.specs.Laws.Stands.{first, stands-none, stands-two, stands-run, stands-length, stands-append}
 use Rattle.grammar.specs.Laws.Label.{label-fine, label-id, label-name}
-use Rattle.grammar.specs.Laws.Parse.{both-true, left-true, right-true, either, Yields, nothing, yields, yields-map, yields-then, yields-given, Sound, many-sound}
+use Rattle.grammar.specs.Laws.Parse.{both-true, left-true, right-true, either, Yields, nothing, yields, yields-map, yields-then}
+use Rattle.grammar.specs.Laws.Parse.{yields-given, Sound, many-sound}
 
 module _ (ws : List ℕ) (end : ℕ) where
   yields-room : {A : Type 0} {P : A → ℕ → Type 0} (n at : ℕ) (f : Unit {0} → Got A)
@@ -40,8 +45,10 @@ module _ (ws : List ℕ) (end : ℕ) where
     pub spans : Spans ws end encodeLeaf okLeaf at l q
     pub sort : leafKind l ≡ kind
 
-  body-sound : (make : ℕ → List Reference → Leaf) (kind : ℕ) → ((i : ℕ) (rs : List Reference) → encodeLeaf (make i rs) ≡ i ∷ length rs ∷ each encodeReference rs)
-      → ((i : ℕ) (rs : List Reference) → okLeaf (make i rs) ≡ all okReference rs) → ((i : ℕ) (rs : List Reference) → leafKind (make i rs) ≡ kind)
+  body-sound : (make : ℕ → List Reference → Leaf) (kind : ℕ)
+      → ((i : ℕ) (rs : List Reference) → encodeLeaf (make i rs) ≡ i ∷ length rs ∷ each encodeReference rs)
+      → ((i : ℕ) (rs : List Reference) → okLeaf (make i rs) ≡ all okReference rs)
+      → ((i : ℕ) (rs : List Reference) → leafKind (make i rs) ≡ kind)
       → (at : ℕ) → at ≤ end → Yields (LeafAt kind at) (bodyAt ws end make at)
   unfolding bodyAt
   body-sound make kind e o s at h =
@@ -54,28 +61,43 @@ module _ (ws : List ℕ) (end : ℕ) where
   pub leaf-sound : (kind at : ℕ) → at ≤ end → Yields (LeafAt kind at) (leafAt ws end kind at)
   unfolding leafAt callAt tokenAt encodeLeaf okLeaf leafKind
   leaf-sound zero at h = yields (record { spans = record { stands = stands-none h; fine = refl }; sort = refl })
-  leaf-sound (suc zero) at h = body-sound action 1 (λ i rs. refl) (λ i rs. refl) (λ i rs. refl) at h
-  leaf-sound (suc (suc zero)) at h = body-sound predicate 2 (λ i rs. refl) (λ i rs. refl) (λ i rs. refl) at h
+  leaf-sound (suc zero) at h = body-sound actionOf actionKind (λ i rs. refl) (λ i rs. refl) (λ i rs. refl) at h
+  leaf-sound (suc (suc zero)) at h = body-sound predicateOf predicateKind (λ i rs. refl) (λ i rs. refl) (λ i rs. refl) at h
   leaf-sound (suc (suc (suc zero))) at h =
       yields-room-and 2 at _ _ h λ r t.
       yields (record { spans = record { stands = stands-two ws end at r; fine = t }; sort = refl })
   leaf-sound (suc (suc (suc (suc zero)))) at h =
       yields-room-and 1 at _ _ h λ r t.
       yields (record { spans = record { stands = record { run = (first ws at, (refl, r)) }; fine = t }; sort = refl })
-  leaf-sound (suc (suc (suc (suc (suc zero))))) at h = yields (record { spans = record { stands = stands-none h; fine = refl }; sort = refl })
+  leaf-sound (suc (suc (suc (suc (suc zero))))) at h = yields (record {
+    spans = record { stands = stands-none h; fine = refl };
+    sort = refl;
+  })
   leaf-sound (suc (suc (suc (suc (suc (suc kind)))))) at h = nothing
 
-  pub head-sound : (at : ℕ) → at ≤ end → Yields (Spans ws end (λ h. encodeHead h (getD ws (at + 2) 0 % 256)) okHead at) (headAt ws end at)
+  pub head-sound : (at : ℕ) → at ≤ end → Yields (Spans ws end (λ h. encodeHead h (getD ws (at + 2) 0 % kindEnd)) okHead at)
+      (headAt ws end at)
   unfolding headAt isHead encodeHead okHead
   head-sound at h =
       yields-room-and 6 at _ _ h λ r t.
       yields-then (many-sound _ _ _ option-sound (getD ws (at + 5) 0) (at + 6) r) λ os q x.
       let i = getD ws (at + 3) 0 in
       let n = getD ws (at + 4) 0 in
-      let l = right-true (leb (getD ws (at + 2) 0 / 256) 6) (isLabel i n) t in
+      let l = right-true (leb (getD ws (at + 2) 0 / kindEnd) oneOrMoreNongreedy) (isLabel i n) t in
       yields (record {
-        stands = record { run = (first ws at, (refl, (omega arith, (label-id i n l, (label-name i n, (sym (x .1), stands-run at 6 (x .0 .stands))))))) };
-        fine = both-true _ _ (left-true (leb (getD ws (at + 2) 0 / 256) 6) (isLabel i n) t) (both-true _ _ (label-fine i n l) (x .0 .fine));
+        stands =
+            record {
+              run = (
+                first ws at,
+                (
+                  refl,
+                  (omega arith, (label-id i n l, (label-name i n, (sym (x .1), stands-run at 6 (x .0 .stands))))),
+                ),
+              );
+            };
+        fine =
+            both-true _ _ (left-true (leb (getD ws (at + 2) 0 / kindEnd) oneOrMoreNongreedy) (isLabel i n) t)
+            (both-true _ _ (label-fine i n l) (x .0 .fine));
       })
 
   module _ {B : Type 0} (blockAt : ℕ → Got B) (enc : B → List ℕ) (ok : B → Bool) (sound : Sound ws end blockAt enc ok) where
@@ -84,15 +106,21 @@ module _ (ws : List ℕ) (end : ℕ) where
     unfolding payloadAt encodeElement okElement
     payload-sound e kind at p x =
         let h = stands-length (x .stands) .1 in
-        either (eqb kind 6)
+        either (eqb kind blockKind)
         (λ t. rw (t, payloadAt) (yields-then (sound p h) λ b q y.
-        yields (record { stands = stands-append (rw (eqb-true kind 6 t) at (x .stands)) (y .stands); fine = both-true _ _ (x .fine) (y .fine) })))
+        yields (record {
+          stands = stands-append (rw (eqb-true kind blockKind t) at (x .stands)) (y .stands);
+          fine = both-true _ _ (x .fine) (y .fine);
+        })))
         (λ t. rw (t, payloadAt) (yields-then (leaf-sound kind p h) λ l q y.
-        yields (record { stands = stands-append (rw (← (y .sort)) at (x .stands)) (y .spans .stands); fine = both-true _ _ (x .fine) (y .spans .fine) })))
+        yields (record {
+          stands = stands-append (rw (← (y .sort)) at (x .stands)) (y .spans .stands);
+          fine = both-true _ _ (x .fine) (y .spans .fine);
+        })))
 
     pub element-sound : Sound ws end (elementAt ws end blockAt) (encodeElement enc) (okElement ok)
     unfolding elementAt
-    element-sound at h = yields-then (head-sound at h) λ e p x. payload-sound e (getD ws (at + 2) 0 % 256) at p x
+    element-sound at h = yields-then (head-sound at h) λ e p x. payload-sound e (getD ws (at + 2) 0 % kindEnd) at p x
 
     pub alternative-sound : Sound ws end (alternativeAt ws end blockAt) (encodeAlternative enc) (okAlternative ok)
     unfolding alternativeAt encodeAlternative okAlternative
@@ -101,7 +129,16 @@ module _ (ws : List ℕ) (end : ℕ) where
         yields-then (many-sound _ _ _ option-sound (getD ws (at + 3) 0) (at + 5) r) λ os p x.
         yields-then (many-sound _ _ _ element-sound (getD ws (at + 4) 0) p (stands-length (x .0 .stands) .1)) λ es q y.
         yields (record {
-          stands = record { run = (first ws at, (refl, (refl, (sym (x .1), (sym (y .1), stands-run at 5 (stands-append (x .0 .stands) (y .0 .stands))))))) };
+          stands =
+              record {
+                run = (
+                  first ws at,
+                  (
+                    refl,
+                    (refl, (sym (x .1), (sym (y .1), stands-run at 5 (stands-append (x .0 .stands) (y .0 .stands))))),
+                  ),
+                );
+              };
           fine = both-true _ _ t (both-true _ _ (x .0 .fine) (y .0 .fine));
         })
 
@@ -112,7 +149,9 @@ module _ (ws : List ℕ) (end : ℕ) where
         yields-then (sound (at + 3) r) λ b q x.
         yields (record {
           stands = record { run = (first ws at, (refl, (refl, stands-run at 3 (x .stands)))) };
-          fine = both-true _ _ (left-true (isName (getD ws (at + 1) 0)) _ t) (both-true _ _ (right-true (isName (getD ws (at + 1) 0)) _ t) (x .fine));
+          fine =
+              both-true _ _ (left-true (isName (getD ws (at + 1) 0)) _ t)
+              (both-true _ _ (right-true (isName (getD ws (at + 1) 0)) _ t) (x .fine));
         })
 
   pub block-sound : (d : ℕ) → Sound ws end (blockAt ws end d) (encodeBlock d) (okBlock d)

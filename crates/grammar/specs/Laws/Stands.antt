@@ -82,7 +82,8 @@ module _ {ws : List ℕ} {end : ℕ} {xs : List ℕ} {q : ℕ} where
 
 pub stands-split : {ws : List ℕ} {end : ℕ} (xs ys : List ℕ) {at q : ℕ} → Stands ws end (xs ++ ys) at q
     → (p : ℕ) × Stands ws end xs at p × Stands ws end ys p q
-stands-split {ws} {end} xs ys {at} {q} s = let t = run-split ws end xs ys at 0 q (s .run) in (t .0, record { run = t .1 }, record { run = t .2 })
+stands-split {ws} {end} xs ys {at} {q} s =
+    let t = run-split ws end xs ys at 0 q (s .run) in (t .0, record { run = t .1 }, record { run = t .2 })
 
 -- A slice of ws stands in ws.
 pub slice-stands : (ws : List ℕ) (end n at q : ℕ) → q ≡ at + n → q ≤ length ws → q ≤ end → Stands ws end (take n (drop at ws)) at q

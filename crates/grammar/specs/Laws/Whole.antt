@@ -7,21 +7,23 @@ use native.Mathlib.Omega.{arith}
 use lib.ListN.{length, take, drop}
 use lib.Dec.{leb, eqb}
 use borrow.Author.Tests.{leb-true, eqb-true, le-leb, eq-eqb}
+use Rattle.grammar.specs.Numbers.{trailerWords}
 use Rattle.grammar.specs.Stands.{Stands}
 use Rattle.grammar.specs.Tree.{Rule, Sheet, bodyDepth}
 use Rattle.grammar.specs.Encode.{encode, encodeRules, encodeCounters}
 use Rattle.grammar.specs.Parse.{Got, got}
-use Rattle.grammar.specs.Ids.{member, isDistinct, isBelow}
-use Rattle.grammar.specs.Valid.{all, okRule, okBlock, okRules, rising, ruleLimit, isKind, valid}
-use Rattle.grammar.specs.Reading.{Reading, refused, sheet, trailer, unitKind, firstDistance, secondDistance, isTrailer, rulesEnd, preservedIds, countersOf, rulesOf, sheetOf, judge, readWords}
-use Rattle.grammar.specs.Laws.Stands.{first, stands-head, stands-length, stands-append, stands-within, stands-slice, slice-stands, stands-split, stands-whole}
-use Rattle.grammar.specs.Laws.Parse.{both-true, left-true, right-true, either, Yields, found, nothing, yields, yields-then, yields-given, then-got, given-got}
+use Rattle.grammar.specs.Ids.{isDistinct, isBelow}
+use Rattle.grammar.specs.Lists.{member, all, rising}
+use Rattle.grammar.specs.Valid.{okRule, okBlock, okRules, ruleLimit, isKind, valid}
+use Rattle.grammar.specs.Reading.{Reading, refused, sheet, refusals, trailer, unitKind, firstDistance, secondDistance, isTrailer}
+use Rattle.grammar.specs.Reading.{rulesEnd}
+use Rattle.grammar.specs.Reading.{preservedIds, countersOf, rulesOf, sheetOf, judge, readWords}
+use Rattle.grammar.specs.Laws.Stands.{first, stands-head, stands-length, stands-append, stands-within, stands-slice, slice-stands}
+use Rattle.grammar.specs.Laws.Stands.{stands-split, stands-whole}
+use Rattle.grammar.specs.Laws.Parse.{both-true, left-true, right-true, either, Yields, found, nothing, yields, yields-then}
+use Rattle.grammar.specs.Laws.Parse.{yields-given, then-got, given-got}
 use Rattle.grammar.specs.Laws.Sound.{RulesAt, rules-sound}
 use Rattle.grammar.specs.Laws.Complete.{rules-complete}
-
--- The numbers of the reader's refusals.
-abbrev pub refusals : List ℕ
-refusals = 1 ∷ 3 ∷ 4 ∷ 5 ∷ 6 ∷ []
 
 -- A sheet that is found has the property P, and a refusal has one of the numbers.
 pub data Reads (P : Sheet → Type 0) : Reading → Type 0 where
@@ -52,7 +54,8 @@ pub record Parts (s : Sheet) : Type 0 where
 pub parts-valid : (s : Sheet) → Parts s → valid s ≡ true
 unfolding valid okRules
 parts-valid s v =
-    both-true _ _ (v .kind) (both-true _ _ (both-true _ _ (both-true _ _ (v .few) (v .rules)) (v .preserved)) (both-true _ _ (v .distinct) (v .below)))
+    both-true _ _ (v .kind) (both-true _ _ (both-true _ _ (both-true _ _ (v .few) (v .rules)) (v .preserved))
+    (both-true _ _ (v .distinct) (v .below)))
 
 pub valid-parts : (s : Sheet) → valid s ≡ true → Parts s
 unfolding valid okRules
@@ -72,7 +75,8 @@ valid-parts s v =
 
 module _ (ws : List ℕ) where
   judge-reads : {Q : List Rule → ℕ → Type 0} {P : Sheet → Type 0} {g : Got (List Rule)} → Yields Q g
-      → ((rs : List Rule) (q : ℕ) → Q rs q → isDistinct rs ≡ true → isBelow (countersOf ws) rs ≡ true → P (sheetOf ws rs)) → Reads P (judge ws g)
+      → ((rs : List Rule) (q : ℕ) → Q rs q → isDistinct rs ≡ true → isBelow (countersOf ws) rs ≡ true → P (sheetOf ws rs))
+      → Reads P (judge ws g)
   unfolding judge member
   judge-reads nothing k = refuses refl
   judge-reads (found {a = rs} {q = q} x) k =
@@ -93,7 +97,8 @@ module _ (ws : List ℕ) where
       yields-given (rising (preservedIds ws)) _ λ t.
       yields (record { rules = x; preserved = t })
 
-  whole : 8 ≤ length ws → firstDistance ws ≡ trailer ws → secondDistance ws ≤ trailer ws → (rs : List Rule) (q : ℕ) → Found rs q → encode (sheetOf ws rs) ≡ ws
+  whole : trailerWords ≤ length ws → firstDistance ws ≡ trailer ws → secondDistance ws ≤ trailer ws → (rs : List Rule) (q : ℕ)
+      → Found rs q → encode (sheetOf ws rs) ≡ ws
   unfolding encode sheetOf countersOf preservedIds
   whole h f g rs q x =
       let a : Stands ws (length ws) (encodeRules rs) 0 (rulesEnd ws) =
@@ -103,14 +108,20 @@ module _ (ws : List ℕ) where
       let ab = stands-append a b in
       let lb = stands-length b in
       let lab = stands-length ab in
-      stands-whole (stands-append ab (record { run = (first ws (trailer ws), (omega arith, (omega arith, (refl, (refl, (refl, (refl, (refl, (omega arith, omega arith))))))))) }))
+      stands-whole (stands-append ab (record {
+        run = (
+          first ws (trailer ws),
+          (omega arith, (omega arith, (refl, (refl, (refl, (refl, (refl, (omega arith, omega arith)))))))),
+        );
+      }))
 
   -- What is found is valid and encoded by these very words.
   pub record IsSheet (s : Sheet) : Type 0 where
     pub words : encode s ≡ ws
     pub parts : Parts s
 
-  sheet-found : 8 ≤ length ws → isTrailer ws ≡ true → (rs : List Rule) (q : ℕ) → Found rs q → isDistinct rs ≡ true → isBelow (countersOf ws) rs ≡ true
+  sheet-found : trailerWords ≤ length ws → isTrailer ws ≡ true → (rs : List Rule) (q : ℕ) → Found rs q → isDistinct rs ≡ true
+      → isBelow (countersOf ws) rs ≡ true
       → IsSheet (sheetOf ws rs)
   unfolding isTrailer sheetOf
   sheet-found h t rs q x d b =
@@ -129,7 +140,7 @@ module _ (ws : List ℕ) where
         };
       }
 
-  pub words-sound : 8 ≤ length ws → Reads IsSheet (readWords ws)
+  pub words-sound : trailerWords ≤ length ws → Reads IsSheet (readWords ws)
   unfolding readWords member
   words-sound h =
       either (isTrailer ws) (λ t. rw (t, readWords) (judge-reads rulesOf-sound (sheet-found h t))) (λ t. rw (t, readWords) (refuses refl))
@@ -144,7 +155,8 @@ module _ (ws : List ℕ) where
     counters : countersOf ws ≡ s .counters
 
   placed-at : (s : Sheet) (o p : ℕ) → Stands ws (length ws) (encodeRules (s .rules)) 0 o → Stands ws (length ws) (s .preserved) o p
-      → Stands ws (length ws) (s .kind ∷ length (encodeRules (s .rules) ++ s .preserved) ∷ length (s .preserved) ∷ encodeCounters (s .counters)) p (length ws)
+      → Stands ws (length ws)
+      (s .kind ∷ length (encodeRules (s .rules) ++ s .preserved) ∷ length (s .preserved) ∷ encodeCounters (s .counters)) p (length ws)
       → Placed s
   unfolding preservedIds countersOf
   placed-at s o p a b c =
@@ -162,7 +174,13 @@ module _ (ws : List ℕ) where
         kind = stands-head d;
         first-distance = omega (arith, w .0);
         second-distance = omega (arith, w .0, w .1 .0);
-        counters = λ i. record { alternative = k .0 i; element = k .1 .0 i; label = k .1 .1 .0 i; action = k .1 .1 .1 .0 i; predicate = k .1 .1 .1 .1 .0 i };
+        counters = λ i. record {
+          alternative = k .0 i;
+          element = k .1 .0 i;
+          label = k .1 .1 .0 i;
+          action = k .1 .1 .1 .0 i;
+          predicate = k .1 .1 .1 .1 .0 i;
+        };
       }
 
   placed : (s : Sheet) → Stands ws (length ws) (encode s) 0 (length ws) → Placed s
@@ -183,7 +201,8 @@ module _ (ws : List ℕ) where
     rulesOf-complete : rulesOf ws ≡ got (s .rules) (rulesEnd ws)
     unfolding rulesOf
     rulesOf-complete =
-        then-got _ (rules-complete ws (rulesEnd ws) ruleLimit 0 (s .rules) (leb-true _ _ (v .few)) (record { stands = p .rules; fine = v .rules }))
+        then-got _ (rules-complete ws (rulesEnd ws) ruleLimit 0 (s .rules) (leb-true _ _ (v .few))
+        (record { stands = p .rules; fine = v .rules }))
         (given-got (rising (preservedIds ws)) _ (rw (p .preserved) (v .preserved)) refl)
 
     sheetOf-complete : sheetOf ws (s .rules) ≡ s

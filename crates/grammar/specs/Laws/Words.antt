@@ -1,9 +1,10 @@
 -- Words and bytes: each way round is the identity, where a word stands in bytes, and what it is to write one.
-use Prim.Native.Nat.{ℕ, zero, suc, _+_, _*_, _/_, _%_, _^_, _≤_, _<_}
+use Prim.Native.Nat.{ℕ, zero, suc, _+_, _*_, _/_, _%_, _≤_, _<_}
 use mathlib.Core.Path.{_≡_, refl, ap, ap₂}
 use mathlib.Core.List.{List, [], _∷_}
 use native.Mathlib.Omega.{arith}
 use lib.ListN.{length, getD, set}
+use Rattle.grammar.specs.Numbers.{wordEnd}
 use Rattle.grammar.specs.Words.{wordOf, words, bytes}
 
 -- Every byte of a list is a byte, and every word of a list has 32 bits.
@@ -11,7 +12,7 @@ abbrev pub AreBytes : List ℕ → Type 0
 AreBytes bs = (i : ℕ) → getD bs i 0 < 256
 
 abbrev pub AreWords : List ℕ → Type 0
-AreWords ws = (i : ℕ) → getD ws i 0 < 2 ^ 32
+AreWords ws = (i : ℕ) → getD ws i 0 < wordEnd
 
 four : (i : ℕ) → 4 * suc i ≡ suc (suc (suc (suc (4 * i))))
 four i = omega arith
@@ -30,7 +31,7 @@ mod-lt : (a : ℕ) → a < 256 → a % 256 ≡ a
 mod-lt a h = omega arith
 
 -- Four bytes make a word, and what stands in bytes are words.
-pub wordOf-bound : (a b c d : ℕ) → a < 256 → b < 256 → c < 256 → d < 256 → wordOf a b c d < 2 ^ 32
+pub wordOf-bound : (a b c d : ℕ) → a < 256 → b < 256 → c < 256 → d < 256 → wordOf a b c d < wordEnd
 wordOf-bound a b c d ha hb hc hd = omega arith
 
 pub words-bound : (bs : List ℕ) → AreBytes bs → AreWords (words bs)
@@ -76,7 +77,8 @@ words-set (_ ∷ _ ∷ []) i a b c d h = absurd (omega arith)
 words-set (_ ∷ _ ∷ _ ∷ []) i a b c d h = absurd (omega arith)
 words-set (_ ∷ _ ∷ _ ∷ _ ∷ bs) zero a b c d h = refl
 words-set (x ∷ y ∷ z ∷ w ∷ bs) (suc i) a b c d h =
-    rw (four-more i 1, four-more i 2, four-more i 3, four i) (ap {B = List ℕ} (λ l. wordOf x y z w ∷ l) (words-set bs i a b c d (omega arith)))
+    rw (four-more i 1, four-more i 2, four-more i 3, four i)
+    (ap {B = List ℕ} (λ l. wordOf x y z w ∷ l) (words-set bs i a b c d (omega arith)))
 
 -- Each way round is the identity.
 pub words-bytes : (ws : List ℕ) → AreWords ws → words (bytes ws) ≡ ws

@@ -2,8 +2,10 @@
 use Prim.Native.Nat.{ℕ, zero, suc}
 use mathlib.Core.Path.{_≡_, refl, sym, ap, ap₂, _∙_}
 use mathlib.Core.List.{List, [], _∷_, map}
-use Rattle.grammar.specs.Tree.{Label, unlabelled, labelled, ElementHead, Leaf, epsilon, action, predicate, call, token, terminal, Element, leaf, block, AlternativeOf, Block}
-use Rattle.grammar.specs.Shape.{Shape, seqs, alts, eraseLeaf, eraseElement, eraseElements, eraseBlock}
+use Rattle.grammar.specs.Tree.{Label, unlabelled, labelled, ElementHead, Leaf, epsilon, action, predicate, call, token, terminal, Element}
+use Rattle.grammar.specs.Tree.{leaf, block, AlternativeOf, Block, withActionId, withPredicateId, withHeadId, withLabel, withAlternativeId}
+use Rattle.grammar.specs.Tree.{withElements}
+use Rattle.language.specs.Shape.{Shape, seqs, alts, eraseLeaf, eraseElement, eraseElements, eraseBlock}
 
 -- A change of nodes one by one.
 pub record Change : Type 0 where
@@ -25,8 +27,7 @@ module _ (f : Change) where
     changeElement (block h b) = block (f .onHead h) (onBlock b)
 
     unfoldable pub changeAlternative : AlternativeOf B → AlternativeOf B
-    changeAlternative a =
-        record { id = f .onAlternative (a .id); carried = a .carried; flag = a .flag; options = a .options; elements = map changeElement (a .elements) }
+    changeAlternative a = withAlternativeId (f .onAlternative (a .id)) (withElements (map changeElement (a .elements)) a)
 
   unfoldable pub changeBlock : (d : ℕ) → Block d → Block d
   changeBlock zero b = absurd b
@@ -52,7 +53,8 @@ module _ {f : Change} (k : KeepsShape f) where
   unfolding eraseBlock changeBlock changeAlternative
   block-shape zero b = absurd b
   block-shape (suc d) as′ =
-      ap alts (map-unseen (changeAlternative f (changeBlock f d)) (λ a. eraseElements (eraseBlock d) (a .elements)) (λ a. elements-shape (changeBlock f d) (eraseBlock d) (block-shape d) (a .elements)) as′)
+      ap alts (map-unseen (changeAlternative f (changeBlock f d)) (λ a. eraseElements (eraseBlock d) (a .elements))
+      (λ a. elements-shape (changeBlock f d) (eraseBlock d) (block-shape d) (a .elements)) as′)
 
 -- All ids 0: of two trees alike but for their ids the same is left.
 abbrev pub dropLabelId : Label → Label
@@ -61,9 +63,9 @@ dropLabelId (labelled i n) = labelled 0 n
 
 abbrev pub dropLeafId : Leaf → Leaf
 dropLeafId epsilon = epsilon
-dropLeafId (action i rs) = action 0 rs
-dropLeafId (predicate i rs) = predicate 0 rs
-dropLeafId (call n a) = call n a
+dropLeafId (action a) = action (withActionId 0 a)
+dropLeafId (predicate p) = predicate (withPredicateId 0 p)
+dropLeafId (call c) = call c
 dropLeafId (token n) = token n
 dropLeafId terminal = terminal
 
@@ -71,16 +73,16 @@ abbrev pub dropIds : Change
 dropIds =
     record {
       onAlternative = λ i. 0;
-      onHead = λ h. record { id = 0; carried = h .carried; quantifier = h .quantifier; label = dropLabelId (h .label); options = h .options };
+      onHead = λ h. withHeadId 0 (withLabel (dropLabelId (h .label)) h);
       onLeaf = dropLeafId;
     }
 
 drop-leaf : (c : ℕ) (l : Leaf) → eraseLeaf c (dropLeafId l) ≡ eraseLeaf c l
 unfolding eraseLeaf
 drop-leaf c epsilon = refl
-drop-leaf c (action i rs) = refl
-drop-leaf c (predicate i rs) = refl
-drop-leaf c (call n a) = refl
+drop-leaf c (action a) = refl
+drop-leaf c (predicate p) = refl
+drop-leaf c (call k) = refl
 drop-leaf c (token n) = refl
 drop-leaf c terminal = refl
 

@@ -1,13 +1,14 @@
--- What a grammar derives (document 01, "How demand 3 reads a grammar"), as a type of derivation trees: a string is derived
+-- What a grammar derives (SPECIFICATION 13), as a type of derivation trees: a string is derived
 -- where it has a tree, and two trees are different where they choose differently.
 use Prim.Native.Nat.{ℕ}
 use mathlib.Core.Path.{_≡_}
 use mathlib.Core.List.{List, [], _∷_, _++_, map}
 use mathlib.Core.Option.{none, some}
 use mathlib.Core.Bool.{Bool, _&&_, not}
 use Rattle.grammar.specs.Tree.{Block, RuleOf}
-use Rattle.grammar.specs.Ids.{member}
-use Rattle.grammar.specs.Shape.{Symbol, unknownSymbol, Word, Shape, eps, symbol, callOf, seq, alt, opt, star, plus, Shapes, find, eraseRules, bodiesBy}
+use Rattle.grammar.specs.Lists.{member}
+use Rattle.language.specs.Shape.{Symbol, unknownSymbol, Word, Shape, eps, symbol, callOf, seq, alt, opt, star, plus, Shapes, find}
+use Rattle.language.specs.Shape.{eraseRules, bodiesBy}
 
 -- The trees by which a shape, read in a grammar, derives a string. Nothing derives `fail`.
 pub data Der (G : Shapes) : Shape → Word → Type 0 where
@@ -25,7 +26,7 @@ pub data Der (G : Shapes) : Shape → Word → Type 0 where
   d-more : {s : Shape} {u v w : Word} → u ++ v ≡ w → Der G s u → Der G (star s) v → Der G (star s) w
   d-some : {s : Shape} {u v w : Word} → u ++ v ≡ w → Der G s u → Der G (star s) v → Der G (plus s) w
 
--- What derives the empty string can be empty.
+-- What can be empty (SPECIFICATION 13.9).
 abbrev pub CanBeEmpty : Shapes → Shape → Type 0
 CanBeEmpty G s = Der G s []
 
@@ -36,7 +37,7 @@ pub record RuleDerives (d : ℕ) (rs : List (RuleOf (Block d))) (i : ℕ) (w : W
   pub tree : Der (eraseRules d rs) body w
 
 module _ {B : Type 0} (before after : List (RuleOf B)) (i : ℕ) where
-  -- A rule handed in is kept if a rule of the result has its id, else removed.
+  -- Whether the rule with an id is kept, and whether it is removed (SPECIFICATION 13.12).
   abbrev pub isKept : Bool
   isKept = member i (map (λ r. r .id) before) && member i (map (λ r. r .id) after)
 

@@ -4,25 +4,17 @@ use mathlib.Core.Path.{_≡_, refl, sym, ap, _∙_, subst}
 use mathlib.Core.Logic.{_↔_}
 use mathlib.Core.List.{List, [], _∷_, map, List·Memᴰ, List·Memᴰ·head, List·Memᴰ·tail}
 use mathlib.Core.Option.{some, Option·none-ne-some, Option·some-injective}
-use mathlib.Core.Bool.{true, false, _||_, not, or-true, true≢false}
+use mathlib.Core.Bool.{true, false, not, true≢false}
 use lib.Dec.{eqb}
 use borrow.Author.Tests.{eqb-true, eq-eqb, ne-eqb, not-true}
 use Rattle.grammar.specs.Tree.{Block, RuleOf}
-use Rattle.grammar.specs.Ids.{member, distinct}
-use Rattle.grammar.specs.Shape.{Word, Shape, callOf, NamedShape, find, eraseBlock, bodiesBy, eraseRules}
-use Rattle.grammar.specs.Derive.{Der, d-call, RuleDerives}
+use Rattle.grammar.specs.Lists.{member, distinct}
+use Rattle.language.specs.Shape.{Word, Shape, callOf, NamedShape, find, eraseBlock, bodiesBy, eraseRules}
+use Rattle.language.specs.Derive.{Der, d-call, RuleDerives}
+use Rattle.grammar.specs.Laws.Lists.{in-member, in-map}
 use Rattle.grammar.specs.Laws.Parse.{left-true, right-true, either}
-use Rattle.grammar.specs.Laws.Derive.Cover.{find-here, find-next}
-use Rattle.grammar.specs.Laws.Derive.Steps.{call-same}
-
-pub in-member : {x : ℕ} {xs : List ℕ} → List·Memᴰ x xs → member x xs ≡ true
-unfolding member
-in-member {x} (List·Memᴰ·head {x = y} {xs = ys} e) = ap (λ b. b || member x ys) (eq-eqb x y e)
-in-member {x} (List·Memᴰ·tail {x = y} m) = ap (λ b. eqb x y || b) (in-member m) ∙ or-true (eqb x y)
-
-pub in-map : {A B : Type 0} (f : A → B) {a : A} {as′ : List A} → List·Memᴰ a as′ → List·Memᴰ (f a) (map f as′)
-in-map f (List·Memᴰ·head e) = List·Memᴰ·head (ap f e)
-in-map f (List·Memᴰ·tail m) = List·Memᴰ·tail (in-map f m)
+use Rattle.language.specs.Laws.Cover.{find-here, find-next}
+use Rattle.language.specs.Laws.Steps.{call-same}
 
 module _ (d : ℕ) (key : RuleOf (Block d) → ℕ) where
   bodyOf : RuleOf (Block d) → NamedShape
@@ -33,7 +25,8 @@ module _ (d : ℕ) (key : RuleOf (Block d) → ℕ) where
       → find (bodiesBy d key rs) (key r) ≡ some (eraseBlock d (r .body))
   unfolding distinct bodyOf
   rule-found (q ∷ rs) t {r} (List·Memᴰ·head e) =
-      find-here (bodyOf q) (bodiesBy d key rs) (key r) (eq-eqb (key q) (key r) (ap key (sym e))) ∙ ap (λ x. some (eraseBlock d (x .body))) (sym e)
+      find-here (bodyOf q) (bodiesBy d key rs) (key r) (eq-eqb (key q) (key r) (ap key (sym e)))
+      ∙ ap (λ x. some (eraseBlock d (x .body))) (sym e)
   rule-found (q ∷ rs) t {r} (List·Memᴰ·tail m) =
       let f = not-true (member (key q) (map key rs)) (left-true (not (member (key q) (map key rs))) _ t) in
       let other : eqb (key q) (key r) ≡ false =
@@ -57,9 +50,11 @@ module _ (d : ℕ) (key : RuleOf (Block d) → ℕ) where
       let x = found-rule rs n (sym (find-next (bodyOf q) (bodiesBy d key rs) n f) ∙ e) in
       (x .0, List·Memᴰ·tail (x .1), x .2, x .3))
 
-module _ (d : ℕ) (rs : List (RuleOf (Block d))) (ids : distinct (map (λ r. r .id) rs) ≡ true) (names : distinct (map (λ r. r .name) rs) ≡ true) where
+module _ (d : ℕ) (rs : List (RuleOf (Block d))) (ids : distinct (map (λ r. r .id) rs) ≡ true)
+    (names : distinct (map (λ r. r .name) rs) ≡ true) where
   -- A rule, known by its id, derives what a call of its name does.
-  pub rule-derives : {r : RuleOf (Block d)} → List·Memᴰ r rs → (w : Word) → RuleDerives d rs (r .id) w ↔ Der (eraseRules d rs) (callOf (r .name)) w
+  pub rule-derives : {r : RuleOf (Block d)} → List·Memᴰ r rs → (w : Word)
+      → RuleDerives d rs (r .id) w ↔ Der (eraseRules d rs) (callOf (r .name)) w
   rule-derives {r} m w =
       let i = rule-found d (λ r. r .id) rs ids m in
       let n = rule-found d (λ r. r .name) rs names m in (

@@ -1,14 +1,15 @@
--- What is left of a tree when derivation is asked for (document 01, "How demand 3 reads a grammar"): ids, labels, options,
+-- What is left of a tree when derivation is asked for (SPECIFICATION 13): ids, labels, options,
 -- flags and arguments are gone, and so is whether a quantifier is greedy.
 use Prim.Native.Nat.{ℕ, zero, suc}
 use mathlib.Core.List.{List, [], _∷_, map}
 use mathlib.Core.Option.{Option, none, some}
 use mathlib.Core.Bool.{true, false}
 use lib.Dec.{leb, eqb}
 use Rattle.grammar.specs.Lists.{AllOf}
+use Rattle.grammar.specs.Numbers.{once, optionalNongreedy, zeroOrMoreNongreedy}
 use Rattle.grammar.specs.Tree.{Leaf, epsilon, action, predicate, call, token, terminal, ElementHead, Element, leaf, block, Block, RuleOf}
 
--- A token, or a call whose name no rule has, each with its name, or a kind 5 element with its carried number.
+-- A symbol (SPECIFICATION 13.2): a token or an unknown call, by its name; a kind 5 element, by its carried number.
 pub data Symbol : Type 0 where
   tokenSymbol : (name : ℕ) → Symbol
   unknownSymbol : (name : ℕ) → Symbol
@@ -40,20 +41,24 @@ abbrev pub alts : List Shape → Shape
 alts [] = fail
 alts (s ∷ ss) = alt s (alts ss)
 
--- By its quantifier an element counts exactly once, at most once, any number of times or at least once.
+-- How often an element is taken, by its quantifier (SPECIFICATION 13.6).
 unfoldable pub quantified : ℕ → Shape → Shape
 quantified q s =
-    elim (eqb q 0) [
+    elim (eqb q once) [
       | true ↦ s
-      | false ↦ elim (leb q 2) [ true ↦ opt s | false ↦ elim (leb q 4) [ true ↦ star s | false ↦ plus s ] ]
+      | false ↦
+          elim (leb q optionalNongreedy) [
+            | true ↦ opt s
+            | false ↦ elim (leb q zeroOrMoreNongreedy) [ true ↦ star s | false ↦ plus s ]
+          ]
     ]
 
 -- Of a leaf and its element's carried number.
 unfoldable pub eraseLeaf : ℕ → Leaf → Shape
 eraseLeaf c epsilon = eps
-eraseLeaf c (action i rs) = eps
-eraseLeaf c (predicate i rs) = eps
-eraseLeaf c (call n a) = callOf n
+eraseLeaf c (action a) = eps
+eraseLeaf c (predicate p) = eps
+eraseLeaf c (call k) = callOf (k .name)
 eraseLeaf c (token n) = symbol (tokenSymbol n)
 eraseLeaf c terminal = symbol (otherSymbol c)
 

@@ -1,24 +1,22 @@
--- Left corners, paths and cycles of rules, by ids and in document 01's words ("How demand 3 reads a grammar").
+-- Left corners, paths and cycles of rules, by ids (SPECIFICATION 6.6, 6.7 and 13.11).
 use Prim.Native.Nat.{ℕ, suc, _≤_}
 use mathlib.Core.Path.{_≡_}
 use mathlib.Core.List.{List, _∷_, _++_, List·Memᴰ}
 use mathlib.Core.Option.{some}
 use mathlib.Core.Bool.{true}
 use lib.ListN.{length}
-use Rattle.grammar.specs.Tree.{ElementHead, Element, leaf, block, call, AlternativeOf, Block, RuleOf}
-use Rattle.grammar.specs.Ids.{member}
-use Rattle.grammar.specs.Valid.{rising}
-use Rattle.grammar.specs.Lists.{AllOf}
-use Rattle.grammar.specs.Shape.{Shape, eraseElement, eraseBlock, Shapes, eraseRules, find}
-use Rattle.grammar.specs.Derive.{CanBeEmpty}
-use Rattle.grammar.specs.Corners.{Corners, Corner, Reaches}
+use Rattle.grammar.specs.Tree.{ElementHead, Call, Element, leaf, block, call, AlternativeOf, Block, RuleOf}
+use Rattle.grammar.specs.Lists.{member, rising, AllOf}
+use Rattle.language.specs.Shape.{Shape, eraseElement, eraseBlock, Shapes, eraseRules, find}
+use Rattle.language.specs.Derive.{CanBeEmpty}
+use Rattle.grammar.specs.Corners.{Corners}
+use Rattle.language.specs.LeftCorners.{Corner, Reaches}
 
--- "Its left corners are found where every element in front can be empty: the rule called there, or a left corner of an
--- alternative of the block there."
+-- The left corners of an alternative: behind elements that can be empty, a call's rule, or those of a block's alternatives.
 pub data LeftCorner (G : Shapes) : (d : ℕ) → List (Element (Block d)) → ℕ → Type 0 where
-  called : {d : ℕ} {es : List (Element (Block d))} (front rest : List (Element (Block d))) (h : ElementHead) {n : ℕ} (a : ℕ) {b : Shape}
-      → front ++ (leaf h (call n a) ∷ rest) ≡ es → AllOf (λ e. CanBeEmpty G (eraseElement (eraseBlock d) e)) front → find G n ≡ some b
-      → LeftCorner G d es n
+  called : {d : ℕ} {es : List (Element (Block d))} (front rest : List (Element (Block d))) (h : ElementHead) (k : Call) {b : Shape}
+      → front ++ (leaf h (call k) ∷ rest) ≡ es → AllOf (λ e. CanBeEmpty G (eraseElement (eraseBlock d) e)) front
+      → find G (k .name) ≡ some b → LeftCorner G d es (k .name)
   inside : {d : ℕ} {es : List (Element (Block (suc d)))} (front rest : List (Element (Block (suc d)))) (h : ElementHead) (b : Block (suc d))
       {a : AlternativeOf (Block d)} {n : ℕ}
       → front ++ (block h b ∷ rest) ≡ es → AllOf (λ e. CanBeEmpty G (eraseElement (eraseBlock (suc d)) e)) front → List·Memᴰ a b
@@ -41,8 +39,8 @@ pub record RuleReaches (c : Corners) (d : ℕ) (rs : List (RuleOf (Block d))) (i
   pub goal-id : goal .id ≡ j
   pub path : Reaches c (eraseRules d rs) (source .name) (goal .name)
 
--- A cycle, one of "the largest sets of more than one rule, each reaching each", its ids rising: with a rule it holds all
--- that reach it and are reached.
+-- A cycle, its ids rising: more than one rule, each reaching each; and with a rule it holds all that reach it and are
+-- reached.
 pub record IsLargest (c : Corners) (d : ℕ) (rs : List (RuleOf (Block d))) (cycle : List ℕ) : Type 0 where
   pub several : 2 ≤ length cycle
   pub rises : rising cycle ≡ true

@@ -2,17 +2,20 @@
 use Prim.Native.Nat.{ℕ}
 use mathlib.Core.Path.{_≡_, refl, sym, ap, _∙_, subst}
 use mathlib.Core.Logic.{_↔_, ⊎-elim}
-use mathlib.Core.List.{List, [], _∷_, _++_, List·Memᴰ, List·Memᴰ·head, List·Memᴰ·not-nil, List·Memᴰ·append-cases, List·Memᴰ·eq-of-singleton, Memᴰ·append-left, Memᴰ·append-right}
+use mathlib.Core.List.{List, [], _∷_, _++_, List·Memᴰ, List·Memᴰ·head, List·Memᴰ·not-nil, List·Memᴰ·append-cases, List·Memᴰ·eq-of-singleton}
+use mathlib.Core.List.{Memᴰ·append-left, Memᴰ·append-right}
 use mathlib.Core.Option.{Option, none, some}
 use mathlib.Core.Bool.{Bool, true, false, _&&_, not, false≢true}
 use borrow.Author.Tests.{not-true}
-use Rattle.grammar.specs.Shape.{Shape, eps, fail, symbol, callOf, seq, alt, opt, star, plus, quantified, Shapes, find, EachCall}
-use Rattle.grammar.specs.Derive.{CanBeEmpty}
-use Rattle.grammar.specs.Corners.{Corners, rust, textbook, isMissing, isSymbol, stops, Skippable, Corner, c-call, c-first, c-later, c-left, c-right, c-opt, c-star, c-plus, Reaches, r-last, r-more}
+use Rattle.language.specs.Shape.{Shape, eps, fail, symbol, callOf, seq, alt, opt, star, plus, quantified, Shapes, find, EachCall}
+use Rattle.language.specs.Derive.{CanBeEmpty}
+use Rattle.grammar.specs.Corners.{Corners, rust, textbook}
+use Rattle.language.specs.LeftCorners.{isMissing, isSymbol, stops, Skippable, Corner, c-call, c-first, c-later, c-left, c-right}
+use Rattle.language.specs.LeftCorners.{c-opt, c-star, c-plus, Reaches, r-last, r-more}
 use Rattle.grammar.specs.Laws.Parse.{left-true, right-true}
-use Rattle.grammar.specs.Laws.Derive.Quantifier.{quantified-cases}
-use Rattle.grammar.specs.Laws.Derive.Removal.{each-any, AlikeOn, alike-on-sym, removal}
-use Rattle.grammar.specs.Laws.Derive.Cover.{SameStrings}
+use Rattle.language.specs.Laws.Quantifier.{quantified-cases}
+use Rattle.language.specs.Laws.Removal.{each-any, AlikeOn, alike-on-sym, removal}
+use Rattle.language.specs.Laws.Cover.{SameStrings}
 
 module _ {c : Corners} {G : Shapes} where
   -- The quantifier of an element does not change its left corners, nor whether it is a symbol.
@@ -93,7 +96,10 @@ module _ (c : Corners) (G : Shapes) (empty : Shape → Bool) where
         (λ r.
         let g = in-given (not (stops c G s) && empty s) r in
         let o : Skippable c G s =
-        record { empty = exact s .0 (right-true (not (stops c G s)) (empty s) (g .0)); goesOn = not-true (stops c G s) (left-true (not (stops c G s)) (empty s) (g .0)) } in
+        record {
+          empty = exact s .0 (right-true (not (stops c G s)) (empty s) (g .0));
+          goesOn = not-true (stops c G s) (left-true (not (stops c G s)) (empty s) (g .0));
+        } in
         c-later o (listed t (g .1)))
         (List·Memᴰ·append-cases (cornersOf s) m)
     listed (alt s t) m = ⊎-elim (λ l. c-left (listed s l)) (λ r. c-right (listed t r)) (List·Memᴰ·append-cases (cornersOf s) m)
@@ -156,14 +162,16 @@ module _ {P : ℕ → Type 0} {G K : Shapes} (a : SeenAlike P G K) where
   corner-carries (c-plus k) p = c-plus (corner-carries k p)
 
 -- Where no rule kept calls one removed, left corners are the same before and after.
-pub removal-corner : {P : ℕ → Type 0} {G K : Shapes} → AlikeOn P G K → {c : Corners} (s : Shape) {n : ℕ} → EachCall P s → Corner c G s n ↔ Corner c K s n
+pub removal-corner : {P : ℕ → Type 0} {G K : Shapes} → AlikeOn P G K → {c : Corners} (s : Shape) {n : ℕ} → EachCall P s
+    → Corner c G s n ↔ Corner c K s n
 removal-corner {P} {G} {K} a s p = (λ k. corner-carries (seen a) k p, λ k. corner-carries (seen (alike-on-sym a)) k p)
   where
     seen : {G K : Shapes} → AlikeOn P G K → SeenAlike P G K
     seen b = record { known = λ n q. ap isMissing (b .found n q); empties = λ t q d. removal b t q .to [] d }
 
 -- Where both derive the same strings and the same names are rules', left corners of a shape are the same.
-pub same-corner : {G K : Shapes} → SameStrings G K → ((n : ℕ) → isMissing (find K n) ≡ isMissing (find G n)) → {c : Corners} (s : Shape) {n : ℕ}
+pub same-corner : {G K : Shapes} → SameStrings G K → ((n : ℕ) → isMissing (find K n) ≡ isMissing (find G n))
+    → {c : Corners} (s : Shape) {n : ℕ}
     → Corner c G s n ↔ Corner c K s n
 same-corner {G} {K} e k s = (λ x. corner-carries there x (each-any s), λ x. corner-carries back x (each-any s))
   where

@@ -7,9 +7,10 @@ use mathlib.Core.Bool.{true, false}
 use native.Mathlib.Decide.{ℕ-discrete}
 use lib.Dec.{eqb}
 use borrow.Author.Tests.{eqb-true, ne-eqb}
-use Rattle.grammar.specs.Shape.{Word, Shape, callOf, NamedShape, Shapes, find}
-use Rattle.grammar.specs.Derive.{Der, d-eps, d-symbol, d-call, d-unknown, d-seq, d-left, d-right, d-absent, d-present, d-none, d-more, d-some}
+use Rattle.language.specs.Shape.{Word, Shape, callOf, NamedShape, Shapes, find}
+use Rattle.language.specs.Derive.{Der, d-eps, d-symbol, d-call, d-unknown, d-seq, d-left, d-right, d-absent, d-present, d-none}
+use Rattle.language.specs.Derive.{d-more, d-some}
 use Rattle.grammar.specs.Laws.Parse.{either}
 
 -- s, read in G, derives only what t derives, read in K.
 abbrev pub Within : Shapes → Shape → Shapes → Shape → Type 0
@@ -33,8 +34,8 @@ same-trans e f = record { to = λ w d. f .to w (e .to w d); back = λ w d. e .ba
 abbrev pub SameStrings : Shapes → Shapes → Type 0
 SameStrings G K = (s : Shape) → Same G s K s
 
--- Each rule body of G, read in K, derives only what the call of that rule derives in K; what no rule of G has for a name, no
--- rule of K has.
+-- K covers G: what a rule has for a body in G derives in K no string that a call of the rule does not derive there; and a
+-- name that is unknown in G is unknown in K.
 pub record Covers (G K : Shapes) : Type 0 where
   pub bodies : (n : ℕ) (b : Shape) → find G n ≡ some b → Within K b K (callOf n)
   pub unknowns : (n : ℕ) → find G n ≡ none → find K n ≡ none
@@ -134,7 +135,8 @@ replaced-other H c (r ∷ rs) n ne =
     either (eqb (r .name) H)
     (λ t.
     let f : eqb (r .name) n ≡ false = ne-eqb (r .name) n (λ p. ne (sym p ∙ eqb-true (r .name) H t)) in
-    rw (t, replaceBody) (find-next (record { name = r .name; body = c }) (replaceBody H c rs) n f ∙ replaced-other H c rs n ne ∙ sym (find-next r rs n f)))
+    rw (t, replaceBody) (find-next (record { name = r .name; body = c }) (replaceBody H c rs) n f ∙ replaced-other H c rs n ne
+    ∙ sym (find-next r rs n f)))
     (λ f. rw (f, replaceBody) (find-behind r (replaceBody H c rs) rs n (replaced-other H c rs n ne)))
 
 pub replaced-others : (H : ℕ) (c : Shape) (G : Shapes) → ButFor H G (replaceBody H c G)

@@ -2,9 +2,10 @@
 use Prim.Native.Nat.{ℕ}
 use mathlib.Core.Logic.{_↔_, _⊎_, inl, inr, ⊎-map, ⊎-elim}
 use mathlib.Core.List.{List, [], _∷_, _++_}
 use Rattle.grammar.specs.Lists.{AllOf}
-use Rattle.grammar.specs.Shape.{Shape, eps, seqs, Shapes}
-use Rattle.grammar.specs.Corners.{Corners, Skippable, Corner, c-first, c-later}
+use Rattle.language.specs.Shape.{Shape, eps, seqs, Shapes}
+use Rattle.grammar.specs.Corners.{Corners}
+use Rattle.language.specs.LeftCorners.{Skippable, Corner, c-first, c-later}
 
 module _ {c : Corners} {G : Shapes} {n : ℕ} where
   no-corner : {R : Type 0} → Corner c G eps n → R
@@ -25,5 +26,6 @@ module _ {c : Corners} {G : Shapes} {n : ℕ} where
   behind (a ∷ α) β s k = c-later (s .0) (behind α β (s .1) k)
 
   -- Elements cut in two: a left corner of those in front or, if all of them are skippable, of those behind.
-  pub corner-append : (α β : List Shape) → Corner c G (seqs (α ++ β)) n ↔ (Corner c G (seqs α) n ⊎ (AllOf (Skippable c G) α × Corner c G (seqs β) n))
+  pub corner-append : (α β : List Shape) → Corner c G (seqs (α ++ β)) n
+      ↔ (Corner c G (seqs α) n ⊎ (AllOf (Skippable c G) α × Corner c G (seqs β) n))
   corner-append α β = (apart α β, ⊎-elim (in-front α β) (λ r. behind α β (r .0) (r .1)))

@@ -3,16 +3,17 @@ use Prim.Native.Nat.{ℕ}
 use mathlib.Core.Path.{_≡_, sym, ap, ap₂, _∙_, subst₂, fun-ext}
 use mathlib.Core.List.{List, [], _∷_, _++_, map, map-map, map-append}
 use mathlib.Core.Option.{some}
-use Rattle.grammar.specs.Shape.{Shape, callOf, opt, seqs, alts, Shapes, find}
-use Rattle.grammar.specs.Laws.Derive.Cover.{Alike}
-use Rattle.grammar.specs.Laws.Derive.Steps.{alike-splice, alike-split}
+use Rattle.language.specs.Shape.{Shape, callOf, opt, seqs, alts, Shapes, find}
+use Rattle.language.specs.Laws.Cover.{Alike}
+use Rattle.language.specs.Laws.Steps.{alike-splice, alike-split}
 
 module _ {A : Type 0} (shapeOf : A → Shape) where
   -- The shape of an alternative, its parts apart.
   cut : (α β : List A) → seqs (map shapeOf α ++ map shapeOf β) ≡ seqs (map shapeOf (α ++ β))
   cut α β = ap seqs (sym (map-append shapeOf α β))
 
-  cut-at : (α β : List A) {x : A} {s : Shape} → shapeOf x ≡ s → seqs (map shapeOf α ++ (s ∷ map shapeOf β)) ≡ seqs (map shapeOf (α ++ (x ∷ β)))
+  cut-at : (α β : List A) {x : A} {s : Shape} → shapeOf x ≡ s
+      → seqs (map shapeOf α ++ (s ∷ map shapeOf β)) ≡ seqs (map shapeOf (α ++ (x ∷ β)))
   cut-at α β {x} p = ap (λ s. seqs (map shapeOf α ++ (s ∷ map shapeOf β))) (sym p) ∙ cut α (x ∷ β)
 
   cut-twice : (α γ β : List A) → seqs (map shapeOf α ++ (map shapeOf γ ++ map shapeOf β)) ≡ seqs (map shapeOf (α ++ (γ ++ β)))

@@ -3,10 +3,11 @@ use Prim.Native.Nat.{ℕ}
 use mathlib.Core.Path.{_≡_, sym, _∙_, subst}
 use mathlib.Core.List.{List, [], _∷_, _++_, map, append-nil}
 use mathlib.Core.Option.{some, Option·some-injective, Option·none-ne-some}
-use Rattle.grammar.specs.Shape.{Shape, callOf, alt, opt, seqs, alts, Shapes, find}
-use Rattle.grammar.specs.Derive.{Der, d-eps, d-call, d-unknown, d-seq, d-left, d-right, d-absent, d-present}
-use Rattle.grammar.specs.Laws.Derive.Cover.{Within, Same, same-refl, same-sym, same-trans, SameStrings, Alike, alike-replaced, replaceBody, replaced-others, replaced-found}
-use Rattle.grammar.specs.Laws.Derive.Algebra.{seq-same, alt-same, seqs-append, alts-append, alts-same, distribute}
+use Rattle.language.specs.Shape.{Shape, callOf, alt, opt, seqs, alts, Shapes, find}
+use Rattle.language.specs.Derive.{Der, d-eps, d-call, d-unknown, d-seq, d-left, d-right, d-absent, d-present}
+use Rattle.language.specs.Laws.Cover.{Within, Same, same-refl, same-sym, same-trans, SameStrings, Alike, alike-replaced, replaceBody}
+use Rattle.language.specs.Laws.Cover.{replaced-others, replaced-found}
+use Rattle.language.specs.Laws.Algebra.{seq-same, alt-same, seqs-append, alts-append, alts-same, distribute}
 
 module _ {G : Shapes} where
   -- A call of a rule derives what its body does.

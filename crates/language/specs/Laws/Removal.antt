@@ -6,11 +6,13 @@ use mathlib.Core.Option.{some}
 use mathlib.Core.Bool.{Bool, true, false, true≢false}
 use lib.Dec.{eqb}
 use borrow.Author.Tests.{ne-eqb}
-use Rattle.grammar.specs.Shape.{Word, Shape, eps, fail, symbol, callOf, seq, alt, opt, star, plus, quantified, Shapes, find, EachCall}
-use Rattle.grammar.specs.Derive.{Der, d-eps, d-symbol, d-call, d-unknown, d-seq, d-left, d-right, d-absent, d-present, d-none, d-more, d-some}
+use Rattle.language.specs.Shape.{Word, Shape, eps, fail, symbol, callOf, seq, alt, opt, star, plus, quantified, Shapes, find}
+use Rattle.language.specs.Shape.{EachCall}
+use Rattle.language.specs.Derive.{Der, d-eps, d-symbol, d-call, d-unknown, d-seq, d-left, d-right, d-absent, d-present, d-none}
+use Rattle.language.specs.Derive.{d-more, d-some}
 use Rattle.grammar.specs.Laws.Parse.{either}
-use Rattle.grammar.specs.Laws.Derive.Quantifier.{quantified-cases}
-use Rattle.grammar.specs.Laws.Derive.Cover.{Same, find-next, find-behind}
+use Rattle.language.specs.Laws.Quantifier.{quantified-cases}
+use Rattle.language.specs.Laws.Cover.{Same, find-next, find-behind}
 
 pub each-quantified : (P : ℕ → Type 0) (q : ℕ) (s : Shape) → EachCall P s → EachCall P (quantified q s)
 each-quantified P q s p = quantified-cases (λ o t. EachCall P t) q s p p p p

@@ -5,13 +5,14 @@ use mathlib.Core.Logic.{_↔_, _⊎_, inl, inr, ⊎-map, ⊎-elim}
 use mathlib.Core.List.{List, [], _∷_, _++_, map, cons≢nil}
 use mathlib.Core.Option.{some}
 use mathlib.Core.Bool.{Bool, true, false, _&&_, _||_, false≢true, or-true}
-use Rattle.grammar.specs.Lists.{AllOf, AnyOf}
-use Rattle.grammar.specs.Shape.{Symbol, Word, Shape, eps, fail, symbol, callOf, seq, alt, opt, star, plus, seqs, alts, quantified, Shapes, find}
-use Rattle.grammar.specs.Derive.{Der, d-eps, d-symbol, d-call, d-unknown, d-seq, d-left, d-right, d-absent, d-present, d-none, d-more, d-some, CanBeEmpty}
-use Rattle.grammar.specs.Valid.{all}
+use Rattle.grammar.specs.Lists.{AllOf, AnyOf, all}
+use Rattle.language.specs.Shape.{Symbol, Word, Shape, eps, fail, symbol, callOf, seq, alt, opt, star, plus, seqs, alts, quantified}
+use Rattle.language.specs.Shape.{Shapes, find}
+use Rattle.language.specs.Derive.{Der, d-eps, d-symbol, d-call, d-unknown, d-seq, d-left, d-right, d-absent, d-present, d-none}
+use Rattle.language.specs.Derive.{d-more, d-some, CanBeEmpty}
 use Rattle.grammar.specs.Laws.Parse.{both-true, left-true, right-true, either}
-use Rattle.grammar.specs.Laws.Derive.Quantifier.{isOptionalQuantifier, quantified-cases}
-use Rattle.grammar.specs.Laws.Derive.Algebra.{fails}
+use Rattle.language.specs.Laws.Quantifier.{isOptionalQuantifier, quantified-cases}
+use Rattle.language.specs.Laws.Algebra.{fails}
 
 left-empty : (u v : Word) → u ++ v ≡ [] → u ≡ []
 left-empty [] v e = refl
@@ -115,7 +116,8 @@ module _ (N : ℕ → Bool) where
     emptyIf-sound h (symbol a) t = absurd (false≢true t)
     emptyIf-sound h (callOf n) t = h n t
     emptyIf-sound h (seq s r) t =
-        d-seq refl (emptyIf-sound h s (left-true (emptyIf N s) (emptyIf N r) t)) (emptyIf-sound h r (right-true (emptyIf N s) (emptyIf N r) t))
+        d-seq refl (emptyIf-sound h s (left-true (emptyIf N s) (emptyIf N r) t))
+        (emptyIf-sound h r (right-true (emptyIf N s) (emptyIf N r) t))
     emptyIf-sound h (alt s r) t =
         either (emptyIf N s)
         (λ u. d-left (emptyIf-sound h s u))
@@ -125,7 +127,8 @@ module _ (N : ℕ → Bool) where
     emptyIf-sound h (plus s) t = d-some refl (emptyIf-sound h s t) d-none
 
     -- If N names every rule whose body the test finds, the test finds all that can be empty.
-    emptyIf-finds : ((n : ℕ) (b : Shape) → find G n ≡ some b → emptyIf N b ≡ true → N n ≡ true) → {s : Shape} {w : Word} → Der G s w → w ≡ []
+    emptyIf-finds : ((n : ℕ) (b : Shape) → find G n ≡ some b → emptyIf N b ≡ true → N n ≡ true) → {s : Shape} {w : Word} → Der G s w
+        → w ≡ []
         → emptyIf N s ≡ true
     unfolding emptyIf
     emptyIf-finds h d-eps e = refl
@@ -147,6 +150,7 @@ module _ (N : ℕ → Bool) where
     emptyIf-complete h s d = emptyIf-finds h d refl
 
     -- Both: the test is exact where N is sound and closed.
-    pub emptyIf-exact : ((n : ℕ) → N n ≡ true → CanBeEmpty G (callOf n)) → ((n : ℕ) (b : Shape) → find G n ≡ some b → emptyIf N b ≡ true → N n ≡ true)
+    pub emptyIf-exact : ((n : ℕ) → N n ≡ true → CanBeEmpty G (callOf n))
+        → ((n : ℕ) (b : Shape) → find G n ≡ some b → emptyIf N b ≡ true → N n ≡ true)
         → (s : Shape) → (emptyIf N s ≡ true) ↔ CanBeEmpty G s
     emptyIf-exact sound closed s = (emptyIf-sound sound s, emptyIf-complete closed s)

@@ -2,9 +2,9 @@
 -- the other.
 use mathlib.Core.Path.{_≡_, refl, sym, ap, _∙_, subst}
 use mathlib.Core.List.{List, [], _∷_, _++_, map, append-assoc}
-use Rattle.grammar.specs.Shape.{Word, Shape, eps, fail, seq, alt, seqs, alts, Shapes}
-use Rattle.grammar.specs.Derive.{Der, d-eps, d-seq, d-left, d-right}
-use Rattle.grammar.specs.Laws.Derive.Cover.{Within, Same, same-refl, same-sym, same-trans}
+use Rattle.language.specs.Shape.{Word, Shape, eps, fail, seq, alt, seqs, alts, Shapes}
+use Rattle.language.specs.Derive.{Der, d-eps, d-seq, d-left, d-right}
+use Rattle.language.specs.Laws.Cover.{Within, Same, same-refl, same-sym, same-trans}
 
 -- Three strings joined either way.
 regroup : (u v w : Word) {x y : Word} → v ++ w ≡ x → u ++ x ≡ y → (u ++ v) ++ w ≡ y
