@@ -1,4 +1,5 @@
--- What is found out about one grammar before anything is planned: names, nullability, left corners, cycles.
+-- What is found out about one grammar before anything is planned: names, nullability, left corners, cycles
+-- (SPECIFICATION 6).
 use Prim.Native.Nat.{ℕ, zero, suc}
 use mathlib.Core.List.{List, [], _∷_, _++_, map}
 use mathlib.Core.Option.{Option, none, some}
@@ -6,11 +7,8 @@ use mathlib.Core.Bool.{Bool, true, false, _&&_, _||_, not}
 use lib.ListN.{length}
 use lib.Dec.{eqb}
 use Rattle.grammar.specs.Tree.{Leaf, Element, leaf, block, Block, RuleOf}
-use Rattle.grammar.specs.Encode.{each}
-use Rattle.grammar.specs.Ids.{member}
-use Rattle.grammar.specs.Valid.{all}
+use Rattle.grammar.specs.Lists.{each, member, all, nothing, any, push, keep, first, sorted, rounds}
 use Rattle.grammar.specs.Corners.{Corners, rust, textbook}
-use Rattle.grammar.specs.Lists.{nothing, any, push, keep, first, sorted, rounds}
 use Rattle.reference.specs.Walks.{silent, consuming, calling, sortOf, isOptional, blockGives, elementsGive}
 
 -- A rule's name with its id.
@@ -23,9 +21,12 @@ pub record Grammar : Type 0 where
   pub names : List Name
   pub nullable : List ℕ
 
+abbrev pub nameOf : {B : Type 0} → RuleOf B → Name  -- An entry of rule_names, l. 1230.
+nameOf r = record { name = r .name; id = r .id }
+
 -- rule_names, l. 1227. Names are distinct, so it does not matter which entry of a name would win.
 unfoldable pub namesOf : {B : Type 0} → List (RuleOf B) → List Name
-namesOf rs = map (λ r. record { name = r .name; id = r .id }) rs
+namesOf rs = map nameOf rs
 
 abbrev pub idsOf : {B : Type 0} → List (RuleOf B) → List ℕ  -- The keys of rules_by_id, l. 1223, unsorted.
 idsOf = map λ r. r .id
@@ -41,7 +42,7 @@ target g n = elim (first (λ p. eqb (p .name) n) (g .names)) [ none ↦ none | s
 module _ (g : Grammar) where
   -- The rule that a leaf calls, if it is known: the arm of collect_calls_in_elements, l. 1212.
   unfoldable pub calls : Leaf → List ℕ
-  calls l = elim (sortOf l) [ silent ↦ [] | calling n a ↦ elim (target g n) [ none ↦ [] | some t ↦ t ∷ [] ] | consuming ↦ [] ]
+  calls l = elim (sortOf l) [ silent ↦ [] | calling c ↦ elim (target g (c .name)) [ none ↦ [] | some t ↦ t ∷ [] ] | consuming ↦ [] ]
 
   -- collect_calls_in_elements, l. 1205.
   unfoldable pub collectCallsInElements : (d : ℕ) → List (Element (Block d)) → List ℕ
@@ -52,7 +53,12 @@ module _ (g : Grammar) where
   collectCallsInto = blockGives nothing calls
 
   unfoldable pub leafNullable : Leaf → Bool  -- The arms of element_nullable for leaves, l. 1269 to 1274.
-  leafNullable l = elim (sortOf l) [ silent ↦ true | calling n a ↦ elim (target g n) [ none ↦ false | some t ↦ member t (g .nullable) ] | consuming ↦ false ]
+  leafNullable l =
+      elim (sortOf l) [
+        | silent ↦ true
+        | consuming ↦ false
+        | calling c ↦ elim (target g (c .name)) [ none ↦ false | some t ↦ member t (g .nullable) ]
+      ]
 
   -- element_nullable, l. 1257.
   unfoldable pub elementNullable : {B : Type 0} → (B → Bool) → Element B → Bool
@@ -83,7 +89,8 @@ module _ (d : ℕ) (rs : List (RuleOf (Block d))) where
 -- last arm, l. 1190. Only collectLeftCornerCalls asks for the reading.
 unfoldable pub isStop : Corners → Grammar → Leaf → Bool
 isStop textbook g l = false
-isStop rust g l = elim (sortOf l) [ silent ↦ false | consuming ↦ true | calling n a ↦ elim (target g n) [ none ↦ true | some t ↦ false ] ]
+isStop rust g l =
+    elim (sortOf l) [ silent ↦ false | consuming ↦ true | calling c ↦ elim (target g (c .name)) [ none ↦ true | some t ↦ false ] ]
 
 module _ (c : Corners) (g : Grammar) where
   module _ {B : Type 0} (blockCorners : B → List ℕ) (blockNullable : B → Bool) where
@@ -129,9 +136,13 @@ module _ (rows : List Row) where
   unfoldable pub reachFrom : List ℕ → List ℕ
   reachFrom found = rounds reachRound (length rows) (keep (λ i. member i found) (rowIds rows))
 
-  -- Each rule with all that it reaches in one step or more (for tarjan_scc, l. 1137).
+  -- A rule with all that it reaches in one step or more (for tarjan_scc, l. 1137).
+  abbrev pub reached : Row → Row
+  reached r = record { id = r .id; to = reachFrom (r .to) }
+
+  -- Each rule so (for tarjan_scc, l. 1137).
   unfoldable pub reach : List Row
-  reach = map (λ r. record { id = r .id; to = reachFrom (r .to) }) rows
+  reach = map reached rows
 
   -- A component (for tarjan_scc, l. 1137), where rows hold all that is reached: rule i itself, and each that it
   -- reaches and that reaches it.
@@ -153,8 +164,11 @@ cyclesFrom rows (i ∷ is) =
     let c = component rows i in
     push (isCycle i c) c (cyclesFrom rows is)
 
+-- A rule with its left corners: the edges from a node in left_corner_cycles, l. 1124 to 1134.
+abbrev pub rowOf : Corners → Grammar → (d : ℕ) → RuleOf (Block d) → Row
+rowOf c g d r = record { id = r .id; to = blockCorners c g d (r .body) }
+
 -- left_corner_cycles, l. 1118. The Rust takes the components from tarjan_scc; here they are those of the graph closed
 -- under reachability. Each has rising ids, and they come by their least ids.
 unfoldable pub leftCornerCycles : (c : Corners) (g : Grammar) (d : ℕ) → List (RuleOf (Block d)) → List (List ℕ)
-leftCornerCycles c g d rs =
-    cyclesFrom (reach (map (λ r. record { id = r .id; to = blockCorners c g d (r .body) }) rs)) (sorted (idsOf rs))
+leftCornerCycles c g d rs = cyclesFrom (reach (map (rowOf c g d) rs)) (sorted (idsOf rs))

@@ -1,7 +1,11 @@
+pub mod Numbers
 pub mod Walks
 pub mod Analysis
 pub mod Substitute
 pub mod Plan
 pub mod Apply
 pub mod Run
+pub mod Computed
+pub mod Written
+pub mod Worked
 pub mod Starred

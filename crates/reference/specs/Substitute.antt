@@ -1,20 +1,36 @@
--- The planner's answers and limits, and the substitution: the first alternative in need of work is replaced in its slot.
+-- The planner's answers and limits, and the substitution, one alternative after the other (SPECIFICATION 8).
 use Prim.Native.Nat.{ℕ, zero, suc, _*_, max}
 use mathlib.Core.List.{List, [], _∷_, _++_, map}
 use mathlib.Core.Option.{Option, none, some}
 use mathlib.Core.Bool.{Bool, true, false, _&&_, _||_, not}
 use lib.ListN.{length, take, drop}
 use lib.Dec.{leb, eqb}
-use Rattle.grammar.specs.Tree.{OptionDecl, ElementHead, Element, leaf, block, AlternativeOf, Block, RuleOf}
-use Rattle.grammar.specs.Ids.{member}
-use Rattle.grammar.specs.Lists.{nothing, keep, first, total, meet}
-use Rattle.reference.specs.Walks.{silent, consuming, calling, sortOf, isOne, bareReference, elementsGive, labelNames, leafNames, references}
+use Rattle.grammar.specs.Tree.{OptionDecl, ElementHead, Call, Element, leaf, block, AlternativeOf, Block, RuleOf, withQuantifier}
+use Rattle.grammar.specs.Lists.{member, nothing, keep, first, total, meet}
+use Rattle.grammar.specs.Numbers.{once, optionalGreedy, qualified}
+use Rattle.reference.specs.Numbers.{mostAlternatives, mostElements, mostOptions, leastBudget}
+use Rattle.reference.specs.Walks.{silent, consuming, calling, sortOf, isOne, bareReference, elementsGive, labelNames, leafNames}
+use Rattle.reference.specs.Walks.{references}
 use Rattle.reference.specs.Analysis.{Grammar, target, ruleWithId}
 
--- Why a cycle is left as it is, in the order of document 02's order 3, which numbers them 1 to 11.
+-- Why a cycle is left as it is.
 pub data Clause : Type 0 where
   noHub hubWithArguments satelliteNotInlinable budget danglingReference blockedCorner : Clause
   labelCollision bindingCollision optionCollision noSteps notDirectlyRewritable : Clause
+
+-- The clauses by number: the declines of plan_cycle, l. 325 to 416 (SPECIFICATION 10).
+unfoldable pub clauseNumber : Clause → ℕ
+clauseNumber noHub = 1
+clauseNumber hubWithArguments = 2
+clauseNumber satelliteNotInlinable = 3
+clauseNumber budget = 4
+clauseNumber danglingReference = 5
+clauseNumber blockedCorner = 6
+clauseNumber labelCollision = 7
+clauseNumber bindingCollision = 8
+clauseNumber optionCollision = 9
+clauseNumber noSteps = 10
+clauseNumber notDirectlyRewritable = 11
 
 -- Overfull is refusal 7: a planned list passed a limit.
 pub data Decided (A : Type 0) : Type 0 where
@@ -51,8 +67,14 @@ pub record Limits : Type 0 where
   pub elements : ℕ
   pub options : ℕ
 
-abbrev pub standard : Limits  -- 64 is substitution_budget's, l. 1111; the others are document 01's refusal 7.
-standard = record { budgetFloor = 64; alternatives = 1024; elements = 8192; options = 2048 }
+abbrev pub standard : Limits  -- The first is substitution_budget's, l. 1111; the others are SPECIFICATION 4.7's.
+standard =
+    record {
+      budgetFloor = leastBudget;
+      alternatives = mostAlternatives;
+      elements = mostElements;
+      options = mostOptions;
+    }
 
 -- PlannedAlternative, l. 180. In place of label_from stand the carried number and the flag of the hub's alternative in
 -- whose slot it is. The Rust looks them up by that id when the plan is applied, in an index of all alternatives
@@ -67,7 +89,15 @@ pub record PlannedAlternative (B : Type 0) : Type 0 where
 
 -- A new alternative in the slot of another, as in split_optional, l. 557, and splice_satellite, l. 634.
 abbrev pub inSlotOf : {B : Type 0} → PlannedAlternative B → List OptionDecl → ℕ → List (Element B) → PlannedAlternative B
-inSlotOf p os i es = record { carried = p .carried; flag = p .flag; options = os; origin = i; elements = es; verbatim = false }
+inSlotOf p os i es =
+    record {
+      carried = p .carried;
+      flag = p .flag;
+      options = os;
+      origin = i;
+      elements = es;
+      verbatim = false;
+    }
 
 -- PlannedCorner, l. 435.
 pub data PlannedCorner : Type 0 where
@@ -82,14 +112,14 @@ further blocked = blocked
 further settled = settled
 
 -- A call of a member of the cycle in planned_corner, l. 471 to 486.
-unfoldable pub memberCorner : (hub : ℕ) → ElementHead → ℕ → ℕ → PlannedCorner
-memberCorner hub h a t =
-    elim (eqb (h .quantifier) 1 && bareReference h a) [
+unfoldable pub memberCorner : (hub : ℕ) → ElementHead → Call → ℕ → PlannedCorner
+memberCorner hub h c t =
+    elim (eqb (h .quantifier) optionalGreedy && bareReference h c) [
       | true ↦ optional 0 t
       | false ↦
           elim (eqb t hub && isOne h) [
             | true ↦ settled
-            | false ↦ elim (isOne h && bareReference h a) [ true ↦ satellite 0 t | false ↦ blocked ]
+            | false ↦ elim (isOne h && bareReference h c) [ true ↦ satellite 0 t | false ↦ blocked ]
           ]
     ]
 
@@ -101,10 +131,10 @@ module _ (g : Grammar) (cycle : List ℕ) (hub : ℕ) where
       elim (sortOf l) [
         | silent ↦ further (plannedCorner es)
         | consuming ↦ settled
-        | calling n a ↦
-            elim (target g n) [
+        | calling c ↦
+            elim (target g (c .name)) [
               | none ↦ settled
-              | some t ↦ elim (member t cycle) [ true ↦ memberCorner hub h a t | false ↦ settled ]
+              | some t ↦ elim (member t cycle) [ true ↦ memberCorner hub h c t | false ↦ settled ]
             ]
       ]
   plannedCorner (block h b ∷ es) = settled
@@ -114,7 +144,7 @@ abbrev pub without : {A : Type 0} → ℕ → List A → List A
 without i es = take i es ++ drop (suc i) es
 
 abbrev pub plainHead : ElementHead → ElementHead  -- Quantifier::One in split_optional, l. 552.
-plainHead h = record { id = h .id; carried = h .carried; quantifier = 0; label = h .label; options = h .options }
+plainHead = withQuantifier once
 
 unfoldable pub plain : {B : Type 0} → Element B → Element B  -- The element in split_optional, l. 551.
 plain (leaf h l) = leaf (plainHead h) l
@@ -156,9 +186,9 @@ module _ (d : ℕ) where
   unfoldable pub collectLabels : Elements → List ℕ
   collectLabels = elementsGive labelNames nothing d
 
-  -- action_reference_names, l. 700: by attributes and qualified references, kinds 0 and 1.
+  -- action_reference_names, l. 700: by attributes and qualified references.
   unfoldable pub actionReferenceNames : Elements → List ℕ
-  actionReferenceNames = elementsGive nothing (λ l. map (λ r. r .name) (keep (λ r. leb (r .kind) 1) (references l))) d
+  actionReferenceNames = elementsGive nothing (λ l. map (λ r. r .name) (keep (λ r. leb (r .kind) qualified) (references l))) d
 
   -- bindable_names, l. 738.
   unfoldable pub bindableNames : Elements → List ℕ
@@ -189,7 +219,7 @@ module _ (d : ℕ) where
       require danglingReference (not (remainingActionsReference (p .elements) i (r .name))) λ _.
       decideEach (spliceAlternative p i) (r .body)
 
-  -- Document 01's refusal 7 excludes every other list after a step; plan_cycle's loop, l. 364, has no such limit.
+  -- SPECIFICATION 4.7 excludes every other list after a step; plan_cycle's loop, l. 364, has no such limit.
   unfoldable pub isWithin : Limits → List Planned → Bool
   isWithin limits ps =
       leb (length ps) (limits .alternatives)
@@ -212,7 +242,9 @@ module _ (d : ℕ) where
   replacement rs p (optional i t) =
       elim (ruleWithId rs t) [
         | none ↦ none
-        | some r ↦ some (require danglingReference (not (remainingActionsReference (p .elements) i (r .name))) λ _. decided (splitOptional p i))
+        | some r ↦
+            some
+            (require danglingReference (not (remainingActionsReference (p .elements) i (r .name))) λ _. decided (splitOptional p i))
       ]
   replacement rs p (satellite i t) = elim (ruleWithId rs t) [ none ↦ none | some r ↦ some (spliceSatellite p i r) ]
   replacement rs p blocked = some (declined blockedCorner)
@@ -229,8 +261,8 @@ module _ (d : ℕ) where
           | none ↦ elim (step ps) [ none ↦ none | some r ↦ some (r andThen λ qs. decided (p ∷ qs)) ]
         ]
 
-    -- The loop of plan_cycle, l. 362 to 405, with the steps that are left and those made: the step beyond the budget
-    -- declines.
+    -- The loop of plan_cycle, l. 362 to 405, with the steps that are left and those made: one more than there are in the
+    -- budget declines (SPECIFICATION 8.10).
     unfoldable pub substitute : Limits → ℕ → ℕ → List Planned → Decided Substituted
     substitute limits zero made ps =
         elim (step ps) [ none ↦ decided (record { alternatives = ps; steps = made }) | some r ↦ declined budget ]

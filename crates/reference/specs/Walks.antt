@@ -4,38 +4,39 @@ use Prim.Native.Nat.{ℕ, zero, suc}
 use mathlib.Core.List.{List, [], _∷_, _++_}
 use mathlib.Core.Bool.{Bool, true, false, _&&_}
 use lib.Dec.{leb, eqb}
-use Rattle.grammar.specs.Tree.{Reference, Label, unlabelled, labelled, ElementHead, Leaf, epsilon, action, predicate, call, token, terminal, Element, leaf, block, Block}
-use Rattle.grammar.specs.Encode.{each}
-use Rattle.grammar.specs.Lists.{isEmpty}
+use Rattle.grammar.specs.Tree.{Reference, Label, unlabelled, labelled, ElementHead, Call, Leaf, epsilon, action, predicate, call, token}
+use Rattle.grammar.specs.Tree.{terminal, Element, leaf, block, Block}
+use Rattle.grammar.specs.Lists.{each, isEmpty}
+use Rattle.grammar.specs.Numbers.{once, optionalGreedy, zeroOrMoreNongreedy}
 
 -- The arms of most matches, as in classify_corner, l. 259: what takes no input; tokens and kind 5; calls. Blocks are apart.
 pub data Sort : Type 0 where
   silent consuming : Sort
-  calling : (name arguments : ℕ) → Sort
+  calling : Call → Sort
 
 unfoldable pub sortOf : Leaf → Sort  -- That match, in classify_corner, l. 259.
 sortOf epsilon = silent
-sortOf (action i rs) = silent
-sortOf (predicate i rs) = silent
-sortOf (call n a) = calling n a
+sortOf (action a) = silent
+sortOf (predicate p) = silent
+sortOf (call c) = calling c
 sortOf (token n) = consuming
 sortOf terminal = consuming
 
 -- is_epsilon_only, l. 877.
 unfoldable pub isEpsilonOnly : {B : Type 0} → Element B → Bool
-isEpsilonOnly (leaf h l) = elim (sortOf l) [ silent ↦ true | consuming ↦ false | calling n a ↦ false ]
+isEpsilonOnly (leaf h l) = elim (sortOf l) [ silent ↦ true | consuming ↦ false | calling c ↦ false ]
 isEpsilonOnly (block h b) = false
 
 -- The first test of element_nullable, l. 1262: optional or zero or more, greedy or not.
 abbrev pub isOptional : ElementHead → Bool
-isOptional h = leb 1 (h .quantifier) && leb (h .quantifier) 4
+isOptional h = leb optionalGreedy (h .quantifier) && leb (h .quantifier) zeroOrMoreNongreedy
 
 abbrev pub isOne : ElementHead → Bool  -- Quantifier::One, as planned_corner asks for it, l. 480.
-isOne h = eqb (h .quantifier) 0
+isOne h = eqb (h .quantifier) once
 
--- bare_reference, l. 308: of an element's head and its call's arguments.
-unfoldable pub bareReference : ElementHead → ℕ → Bool
-bareReference h a = elim (h .label) [ unlabelled ↦ eqb a 0 && isEmpty (h .options) | labelled i n ↦ false ]
+-- bare_reference, l. 308: of an element's head and its call.
+unfoldable pub bareReference : ElementHead → Call → Bool
+bareReference h c = elim (h .label) [ unlabelled ↦ eqb (c .arguments) 0 && isEmpty (h .options) | labelled i n ↦ false ]
 
 -- One walk serves where the Rust has five, since they differ in what they take only: element_actions_reference, l. 511,
 -- collect_labels, l. 658, action_reference_names, l. 700, bindable_names, l. 738, and collect_calls_in_elements, l. 1205.
@@ -59,9 +60,9 @@ labelNames (labelled i n) = n ∷ []
 -- The names of calls and tokens, of bindable_names, l. 744 to 749.
 unfoldable pub leafNames : Leaf → List ℕ
 leafNames epsilon = []
-leafNames (action i rs) = []
-leafNames (predicate i rs) = []
-leafNames (call n a) = n ∷ []
+leafNames (action a) = []
+leafNames (predicate p) = []
+leafNames (call c) = c .name ∷ []
 leafNames (token n) = n ∷ []
 leafNames terminal = []
 
@@ -69,8 +70,8 @@ leafNames terminal = []
 -- predicate's `fail` too; here the sheet brings all its answers in one list.
 unfoldable pub references : Leaf → List Reference
 references epsilon = []
-references (action i rs) = rs
-references (predicate i rs) = rs
-references (call n a) = []
+references (action a) = a .references
+references (predicate p) = p .references
+references (call c) = []
 references (token n) = []
 references terminal = []
