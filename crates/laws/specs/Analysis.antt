@@ -1,10 +1,8 @@
 -- What the analysis finds: empty derivation, left corners, cycles.
-pub mod Fixpoint
 pub mod Names
 pub mod Nullable
 pub mod Empty
 pub mod Corners
 pub mod LeftCorners
 pub mod Textbook
-pub mod Reach
 pub mod Cycles

@@ -1,5 +1,6 @@
 -- The Rust's and the textbook's reading of left corners, side by side.
 pub mod Readings
+pub mod Later
 pub mod Symbols
 pub mod SameRun
 pub mod Sheets

@@ -1,6 +1,4 @@
 -- Lists and rules looked through: members, order, counts.
-pub mod Members
-pub mod Order
 pub mod Count
 pub mod Every
 pub mod Lookup

@@ -1,12 +1,26 @@
 -- One plan: its steps keep the strings, and what it removes is not called.
+pub mod Decisions
+pub mod Corner
+pub mod Options
+pub mod Steps
 pub mod Turns
+pub mod Halts
+pub mod Loop
 pub mod Substituted
+pub mod PlanCycle
+pub mod HubCorners
+pub mod Hub
+pub mod Inlinable
 pub mod Plans
 pub mod Calls
+pub mod Bodied
+pub mod Named
+pub mod Agreed
 pub mod Removed
 pub mod Renumber
+pub mod Erased
 pub mod OnePlan
-pub mod Budget
 pub mod Settled
 pub mod Chain
+pub mod Endless
 pub mod Applied

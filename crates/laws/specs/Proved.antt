@@ -1,6 +1,10 @@
 -- The statements of Demands, proved.
 pub mod Analysis
+pub mod Stages
 pub mod Demand3
+pub mod Applied
 pub mod Answered
 pub mod OtherUnits
+pub mod Refusals
+pub mod Table
 pub mod All

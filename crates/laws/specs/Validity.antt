@@ -2,5 +2,6 @@
 pub mod Kept
 pub mod Wordy
 pub mod Fits
+pub mod Parts
 pub mod Sound
 pub mod Result

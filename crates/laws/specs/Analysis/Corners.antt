@@ -1,16 +1,18 @@
 -- The definition's walk for left corners is the list that shapes have.
 use Prim.Native.Nat.{ℕ, zero, suc}
-use mathlib.Core.Path.{_≡_, refl, sym, ap, ap₂, _∙_}
-use mathlib.Core.List.{List, [], _∷_, _++_, append-assoc, append-nil}
+use mathlib.Core.Path.{_≡_, refl, ap, ap₂, _∙_}
+use mathlib.Core.List.{List, [], _∷_, _++_, append-nil}
 use mathlib.Core.Option.{Option, none, some}
 use mathlib.Core.Bool.{Bool, true, false, _&&_, not, true≢false}
 use Rattle.grammar.specs.Tree.{Leaf, epsilon, action, predicate, call, token, terminal, Element, leaf, block, Block}
-use Rattle.grammar.specs.Encode.{each}
-use Rattle.grammar.specs.Shape.{Shape, quantified, eraseLeaf, eraseElement, eraseElements, eraseBlock, Shapes, find}
-use Rattle.grammar.specs.Corners.{Corners, rust, textbook, isMissing, isSymbol, stops}
-use Rattle.grammar.specs.Laws.Derive.Quantifier.{quantified-cases}
-use Rattle.grammar.specs.Laws.Derive.Empty.{emptyIf}
-use Rattle.grammar.specs.Laws.Derive.Corner.{cornersOf, given, ifFound, symbol-quantified}
+use Rattle.grammar.specs.Lists.{each}
+use Rattle.grammar.specs.Laws.Lists.{each-append}
+use Rattle.language.specs.Shape.{Shape, quantified, eraseLeaf, eraseElement, eraseElements, eraseBlock, Shapes, find}
+use Rattle.grammar.specs.Corners.{Corners, rust, textbook}
+use Rattle.language.specs.LeftCorners.{isMissing, isSymbol, stops}
+use Rattle.language.specs.Laws.Quantifier.{quantified-cases}
+use Rattle.language.specs.Laws.Empty.{emptyIf}
+use Rattle.language.specs.Laws.Corner.{cornersOf, given, ifFound, symbol-quantified}
 use Rattle.reference.specs.Walks.{sortOf}
 use Rattle.reference.specs.Analysis.{Grammar, target, calls, isStop, blockIsNullable, collectLeftCornerCalls, blockCorners}
 use Rattle.laws.specs.Analysis.Names.{isUnknown}
@@ -19,10 +21,6 @@ use Rattle.laws.specs.Analysis.Nullable.{named, element-test, block-test
 abbrev pub toId : Option ℕ → List ℕ
 toId none = []
 toId (some t) = t ∷ []
-
-each-append : {A : Type 0} (f : A → List ℕ) (xs ys : List A) → each f (xs ++ ys) ≡ each f xs ++ each f ys
-each-append f [] ys = refl
-each-append f (x ∷ xs) ys = ap (λ l. f x ++ l) (each-append f xs ys) ∙ sym (append-assoc (f x) (each f xs) (each f ys))
 
 each-given : {A : Type 0} (f : A → List ℕ) (b : Bool) (xs : List A) → each f (given b xs) ≡ given b (each f xs)
 each-given f true xs = refl
@@ -56,9 +54,9 @@ module _ (c : Corners) (g : Grammar) (G : Shapes) (known : (n : ℕ) → isMissi
   leaf-list : (k : ℕ) (l : Leaf) → each ids (list (eraseLeaf k l)) ≡ calls g l
   unfolding cornersOf eraseLeaf calls sortOf
   leaf-list k epsilon = refl
-  leaf-list k (action i rs) = refl
-  leaf-list k (predicate i rs) = refl
-  leaf-list k (call n a) = found-ids n (find G n) (known n)
+  leaf-list k (action a) = refl
+  leaf-list k (predicate p) = refl
+  leaf-list k (call c) = found-ids (c .name) (find G (c .name)) (known (c .name))
   leaf-list k (token n) = refl
   leaf-list k terminal = refl
 
@@ -66,9 +64,9 @@ module _ (c : Corners) (g : Grammar) (G : Shapes) (known : (n : ℕ) → isMissi
   unfolding stops isStop isSymbol eraseLeaf sortOf
   leaf-stops textbook k l = refl
   leaf-stops rust k epsilon = refl
-  leaf-stops rust k (action i rs) = refl
-  leaf-stops rust k (predicate i rs) = refl
-  leaf-stops rust k (call n a) = known n
+  leaf-stops rust k (action a) = refl
+  leaf-stops rust k (predicate p) = refl
+  leaf-stops rust k (call c) = known (c .name)
   leaf-stops rust k (token n) = refl
   leaf-stops rust k terminal = refl
 
@@ -77,7 +75,8 @@ module _ (c : Corners) (g : Grammar) (G : Shapes) (known : (n : ℕ) → isMissi
   given-elim false xs = refl
 
   -- One element in front.
-  front-list : (s : Shape) (t : Bool) (ys : List ℕ) {front more : List ℕ} {u : Bool} → each ids (list s) ≡ front → t ≡ u → each ids ys ≡ more
+  front-list : (s : Shape) (t : Bool) (ys : List ℕ) {front more : List ℕ} {u : Bool} → each ids (list s) ≡ front → t ≡ u
+      → each ids ys ≡ more
       → each ids (list s ++ given t ys) ≡ front ++ elim u as (λ x. List ℕ) [ true ↦ more | false ↦ [] ]
   front-list s t ys {more = more} {u = u} p q r =
       each-append ids (list s) (given t ys) ∙ ap₂ _++_ p (each-given ids t ys ∙ ap₂ given q r ∙ given-elim u more)
@@ -98,12 +97,14 @@ module _ (c : Corners) (g : Grammar) (G : Shapes) (known : (n : ℕ) → isMissi
     elements-list (leaf x l ∷ es) =
         let s = eraseLeaf (x .carried) l in
         front-list (quantified (x .quantifier) s) _ _ (ap (each ids) (list-quantified (x .quantifier) s) ∙ leaf-list (x .carried) l)
-        (ap₂ (λ a b. not a && b) (stops-quantified c (x .quantifier) s ∙ leaf-stops c (x .carried) l) (element-test g (eraseBlock d) (blockIsNullable g d) (block-test g d) (leaf x l)))
+        (ap₂ (λ a b. not a && b) (stops-quantified c (x .quantifier) s ∙ leaf-stops c (x .carried) l)
+        (element-test g (eraseBlock d) (blockIsNullable g d) (block-test g d) (leaf x l)))
         (elements-list es)
     elements-list (block x b ∷ es) =
         let s = eraseBlock d b in
         front-list (quantified (x .quantifier) s) _ _ (ap (each ids) (list-quantified (x .quantifier) s) ∙ h b)
-        (ap₂ (λ a b. not a && b) (stops-quantified c (x .quantifier) s ∙ block-stops c d b) (element-test g (eraseBlock d) (blockIsNullable g d) (block-test g d) (block x b)))
+        (ap₂ (λ a b. not a && b) (stops-quantified c (x .quantifier) s ∙ block-stops c d b)
+        (element-test g (eraseBlock d) (blockIsNullable g d) (block-test g d) (block x b)))
         (elements-list es)
 
   -- The walk through a block or a body.

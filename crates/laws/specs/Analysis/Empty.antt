@@ -7,17 +7,16 @@ use mathlib.Core.Option.{Option, none, some}
 use mathlib.Core.Bool.{Bool, true, false≢true}
 use native.Mathlib.Omega.{arith}
 use lib.ListN.{length, length-map}
+use Rattle.grammar.specs.Laws.Lists.{in-member, member-in, in-map}
 use Rattle.grammar.specs.Tree.{Element, Block, RuleOf}
-use Rattle.grammar.specs.Ids.{member, distinct}
-use Rattle.grammar.specs.Valid.{all}
-use Rattle.grammar.specs.Lists.{keep}
-use Rattle.grammar.specs.Shape.{Shape, callOf, find, eraseElement, eraseElements, eraseBlock, eraseRules}
-use Rattle.grammar.specs.Derive.{d-call, CanBeEmpty, RuleDerives}
-use Rattle.grammar.specs.Laws.Derive.Empty.{emptyIf, emptyIf-sound, emptyIf-exact}
-use Rattle.grammar.specs.Laws.Derive.Rules.{in-member, in-map, rule-found, found-rule, rule-derives}
+use Rattle.grammar.specs.Lists.{member, distinct, all, keep}
+use Rattle.language.specs.Shape.{Shape, callOf, find, eraseElement, eraseElements, eraseBlock, eraseRules}
+use Rattle.language.specs.Derive.{d-call, CanBeEmpty, RuleDerives}
+use Rattle.language.specs.Laws.Empty.{emptyIf, emptyIf-sound, emptyIf-exact}
+use Rattle.language.specs.Laws.Rules.{rule-found, found-rule, rule-derives}
 use Rattle.reference.specs.Analysis.{Grammar, namesOf, target, elementNullable, blockIsNullable, nullableRound, nullableRules, grammarOf}
-use Rattle.laws.specs.Lists.Members.{member-in, in-keep, keep-in, one-with, keep-part, keep-is-part, part-in, part-map}
-use Rattle.laws.specs.Analysis.Fixpoint.{part-length, rounds-keep, rounds-grow}
+use Rattle.graph.specs.Members.{in-keep, keep-in, one-with, keep-part, keep-is-part, part-in, part-map}
+use Rattle.graph.specs.Fixpoint.{part-length, rounds-keep, rounds-grow}
 use Rattle.laws.specs.Analysis.Names.{Looked, looked, by-body}
 use Rattle.laws.specs.Analysis.Nullable.{isNull, named, element-test, elements-test, block-test, emptyIf-more}
 
@@ -39,11 +38,13 @@ module _ (d : ℕ) (rs : List (RuleOf (Block d))) where
   unfolding nullableRound
   round-in xs m t = in-map (λ r. r .id) (keep-in (λ r. blockIsNullable (given xs) d (r .body)) m t)
 
-  null-more : (xs ys : List ℕ) → ((i : ℕ) → List·Memᴰ i xs → List·Memᴰ i ys) → (o : Option ℕ) → isNull (given xs) o ≡ true → isNull (given ys) o ≡ true
+  null-more : (xs ys : List ℕ) → ((i : ℕ) → List·Memᴰ i xs → List·Memᴰ i ys) → (o : Option ℕ) → isNull (given xs) o ≡ true
+      → isNull (given ys) o ≡ true
   null-more xs ys h none t = t
   null-more xs ys h (some i) t = in-member (h i (member-in xs t))
 
-  named-more : (xs ys : List ℕ) → ((i : ℕ) → List·Memᴰ i xs → List·Memᴰ i ys) → (n : ℕ) → named (given xs) n ≡ true → named (given ys) n ≡ true
+  named-more : (xs ys : List ℕ) → ((i : ℕ) → List·Memᴰ i xs → List·Memᴰ i ys) → (n : ℕ) → named (given xs) n ≡ true
+      → named (given ys) n ≡ true
   unfolding named target
   named-more xs ys h n t = null-more xs ys h (target (given xs) n) t
 
@@ -53,7 +54,8 @@ module _ (d : ℕ) (rs : List (RuleOf (Block d))) where
       sym (block-test (given ys) d b)
       ∙ emptyIf-more (named (given xs)) (named (given ys)) (named-more xs ys h) (eraseBlock d b) (block-test (given xs) d b ∙ t)
 
-  grows : (xs : List ℕ) → Sublistᴰ xs (nullableRound d rs xs) → Sublistᴰ (nullableRound d rs xs) (nullableRound d rs (nullableRound d rs xs))
+  grows : (xs : List ℕ) → Sublistᴰ xs (nullableRound d rs xs)
+      → Sublistᴰ (nullableRound d rs xs) (nullableRound d rs (nullableRound d rs xs))
   unfolding nullableRound
   grows xs s =
       part-map (λ r. r .id) (keep-part _ _ rs λ r m t. block-more xs (nullableRound d rs xs) (λ i. part-in s) (r .body) t)
@@ -89,14 +91,16 @@ module _ (d : ℕ) (rs : List (RuleOf (Block d))) where
         let (q, k, e, t) = in-round xs i in
         let same = one-with (λ r. r .id) rs ids k m e in
         let u = subst (λ x. blockIsNullable (given xs) d (x .body) ≡ true) same t in
-        d-call (rule-found d (λ r. r .name) rs names m) (emptyIf-sound (named (given xs)) (named-sound xs s) (eraseBlock d (r .body)) (block-test (given xs) d (r .body) ∙ u))
+        d-call (rule-found d (λ r. r .name) rs names m)
+        (emptyIf-sound (named (given xs)) (named-sound xs s) (eraseBlock d (r .body)) (block-test (given xs) d (r .body) ∙ u))
 
     nullable-sound : Sound (nullableRules d rs)
     unfolding nullableRules
     nullable-sound = rounds-keep (nullableRound d rs) Sound sound-round (length rs) [] (λ r m i. absurd (List·Memᴰ·not-nil i))
 
     -- The fixpoint names every rule whose body its own test finds.
-    closed : (n : ℕ) (b : Shape) → find (eraseRules d rs) n ≡ some b → emptyIf (named (grammarOf d rs)) b ≡ true → named (grammarOf d rs) n ≡ true
+    closed : (n : ℕ) (b : Shape) → find (eraseRules d rs) n ≡ some b → emptyIf (named (grammarOf d rs)) b ≡ true
+        → named (grammarOf d rs) n ≡ true
     unfolding named grammarOf
     closed n b f t =
         let (i, u, o) = by-body (looked d rs (nullableRules d rs) n) f in
@@ -118,12 +122,15 @@ module _ (d : ℕ) (rs : List (RuleOf (Block d))) where
     block-empty k b = rewritten (block-test (grammarOf d rs) k b) (empty-exact (eraseBlock k b))
 
     pub element-empty : (k : ℕ) (e : Element (Block k))
-        → (elementNullable (grammarOf d rs) (blockIsNullable (grammarOf d rs) k) e ≡ true) ↔ CanBeEmpty (eraseRules d rs) (eraseElement (eraseBlock k) e)
+        → (elementNullable (grammarOf d rs) (blockIsNullable (grammarOf d rs) k) e ≡ true)
+        ↔ CanBeEmpty (eraseRules d rs) (eraseElement (eraseBlock k) e)
     element-empty k e =
-        rewritten (element-test (grammarOf d rs) (eraseBlock k) (blockIsNullable (grammarOf d rs) k) (block-test (grammarOf d rs) k) e) (empty-exact (eraseElement (eraseBlock k) e))
+        rewritten (element-test (grammarOf d rs) (eraseBlock k) (blockIsNullable (grammarOf d rs) k) (block-test (grammarOf d rs) k) e)
+        (empty-exact (eraseElement (eraseBlock k) e))
 
     pub elements-empty : (k : ℕ) (es : List (Element (Block k)))
-        → (all (elementNullable (grammarOf d rs) (blockIsNullable (grammarOf d rs) k)) es ≡ true) ↔ CanBeEmpty (eraseRules d rs) (eraseElements (eraseBlock k) es)
+        → (all (elementNullable (grammarOf d rs) (blockIsNullable (grammarOf d rs) k)) es ≡ true)
+        ↔ CanBeEmpty (eraseRules d rs) (eraseElements (eraseBlock k) es)
     elements-empty k es = rewritten (elements-test (grammarOf d rs) k es) (empty-exact (eraseElements (eraseBlock k) es))
 
     -- Of a rule, known by its id.
@@ -136,10 +143,12 @@ module _ (d : ℕ) (rs : List (RuleOf (Block d))) where
             let m = subst (List·Memᴰ i) (sym nullable-fixed) (member-in (nullableRules d rs) t) in
             let (r, k, e, u) = in-round (nullableRules d rs) m in
             subst (λ x. RuleDerives d rs x []) e
-            (rule-derives d rs ids names k [] .1 (nullable-sound r k (subst (λ x. List·Memᴰ x (nullableRules d rs)) (sym e) (member-in (nullableRules d rs) t))))
+            (rule-derives d rs ids names k [] .1
+            (nullable-sound r k (subst (λ x. List·Memᴰ x (nullableRules d rs)) (sym e) (member-in (nullableRules d rs) t))))
 
         finds : RuleDerives d rs i [] → member i (nullableRules d rs) ≡ true
         finds x =
             let (r, m, e, b) = found-rule d (λ r. r .id) rs i (x .found) in
             let v = block-empty d (r .body) .1 (subst (λ s. CanBeEmpty (eraseRules d rs) s) (sym b) (x .tree)) in
-            in-member (subst (List·Memᴰ i) nullable-fixed (subst (λ y. List·Memᴰ y (nullableRound d rs (nullableRules d rs))) e (round-in (nullableRules d rs) m v)))
+            in-member (subst (List·Memᴰ i) nullable-fixed
+            (subst (λ y. List·Memᴰ y (nullableRound d rs (nullableRules d rs))) e (round-in (nullableRules d rs) m v)))

@@ -8,20 +8,20 @@ use native.Mathlib.Omega.{arith}
 use lib.Dec.{eqb}
 use borrow.Author.Tests.{eqb-true}
 use Rattle.grammar.specs.Tree.{Block, RuleOf}
-use Rattle.grammar.specs.Ids.{distinct}
-use Rattle.grammar.specs.Shape.{Shape, find, eraseBlock, eraseRules}
-use Rattle.grammar.specs.Corners.{isMissing}
-use Rattle.grammar.specs.Lists.{first}
+use Rattle.grammar.specs.Lists.{distinct, first}
+use Rattle.language.specs.Shape.{Shape, find, eraseBlock, eraseRules}
+use Rattle.language.specs.LeftCorners.{isMissing}
 use Rattle.grammar.specs.Laws.Parse.{either}
 use Rattle.reference.specs.Analysis.{namesOf, target}
-use Rattle.laws.specs.Lists.Members.{one-with}
+use Rattle.graph.specs.Members.{one-with}
 
 -- Both find the body and the id of one rule, or both find nothing.
 pub data Looked (d : ℕ) (rs : List (RuleOf (Block d))) (n : ℕ) : Option Shape → Option ℕ → Type 0 where
   known : {r : RuleOf (Block d)} → List·Memᴰ r rs → r .name ≡ n → Looked d rs n (some (eraseBlock d (r .body))) (some (r .id))
   missing : Looked d rs n none none
 
-looked-later : {d : ℕ} {q : RuleOf (Block d)} {rs : List (RuleOf (Block d))} {n : ℕ} {b : Option Shape} {i : Option ℕ} → Looked d rs n b i → Looked d (q ∷ rs) n b i
+looked-later : {d : ℕ} {q : RuleOf (Block d)} {rs : List (RuleOf (Block d))} {n : ℕ} {b : Option Shape} {i : Option ℕ} → Looked d rs n b i
+    → Looked d (q ∷ rs) n b i
 looked-later (known m e) = known (List·Memᴰ·tail m) e
 looked-later missing = missing
 
@@ -39,7 +39,8 @@ abbrev pub isUnknown : Option ℕ → Bool
 isUnknown none = true
 isUnknown (some t) = false
 
-pub looked-alike : {d : ℕ} {rs : List (RuleOf (Block d))} {n : ℕ} {b : Option Shape} {i : Option ℕ} → Looked d rs n b i → isMissing b ≡ isUnknown i
+pub looked-alike : {d : ℕ} {rs : List (RuleOf (Block d))} {n : ℕ} {b : Option Shape} {i : Option ℕ} → Looked d rs n b i
+    → isMissing b ≡ isUnknown i
 looked-alike (known m e) = refl
 looked-alike missing = refl
 
@@ -52,7 +53,8 @@ pub record Of (d : ℕ) (rs : List (RuleOf (Block d))) (n : ℕ) (b : Shape) (i 
   pub id : rule .id ≡ i
 
 -- A body that is found has an id, and the other way.
-pub by-body : {d : ℕ} {rs : List (RuleOf (Block d))} {n : ℕ} {o : Option Shape} {t : Option ℕ} → Looked d rs n o t → {b : Shape} → o ≡ some b
+pub by-body : {d : ℕ} {rs : List (RuleOf (Block d))} {n : ℕ} {o : Option Shape} {t : Option ℕ} → Looked d rs n o t → {b : Shape}
+    → o ≡ some b
     → (i : ℕ) × (t ≡ some i) × Of d rs n b i
 by-body {d} (known {r = r} m e) {b} f =
     (r .id, refl, record { rule = r; there = m; name = e; body = Option·some-injective (eraseBlock d (r .body)) b f; id = refl })
@@ -66,7 +68,8 @@ by-id missing {i} f = absurd (Option·none-ne-some i f)
 
 -- Where names are not shared, a rule's own name leads to it.
 pub by-name : {d : ℕ} {rs : List (RuleOf (Block d))} → distinct (map (λ r. r .name) rs) ≡ true → {r : RuleOf (Block d)} → List·Memᴰ r rs
-    → {o : Option Shape} {t : Option ℕ} → Looked d rs (r .name) o t → isMissing o ≡ false → (o ≡ some (eraseBlock d (r .body))) × (t ≡ some (r .id))
+    → {o : Option Shape} {t : Option ℕ} → Looked d rs (r .name) o t → isMissing o ≡ false
+    → (o ≡ some (eraseBlock d (r .body))) × (t ≡ some (r .id))
 by-name {d} {rs} names {r} m (known {r = q} k e) f =
     let same = one-with (λ r. r .name) rs names k m e in
     (ap (λ x. some (eraseBlock d (x .body))) same, ap (λ x. some (x .id)) same)

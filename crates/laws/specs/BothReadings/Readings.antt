@@ -1,4 +1,4 @@
--- The two readings of left corners against document 01's words.
+-- The two readings of left corners against SPECIFICATION 13.11.
 use Prim.Native.Nat.{ℕ, zero, suc}
 use mathlib.Core.Path.{_≡_, refl, sym, _∙_, subst}
 use mathlib.Core.Logic.{_⊎_, inl, inr, ⊎-elim, ⊎-map}
@@ -6,24 +6,29 @@ use mathlib.Core.List.{List, [], _∷_, _++_, List·Memᴰ, List·Memᴰ·head, 
 use mathlib.Core.Option.{Option, none, some, Option·none-ne-some}
 use mathlib.Core.Bool.{true, false≢true}
 use Rattle.grammar.specs.Lists.{AllOf, AnyOf}
-use Rattle.grammar.specs.Tree.{Leaf, epsilon, action, predicate, call, token, terminal, Element, leaf, block, AlternativeOf, Block, Rule, bodyDepth, Sheet}
-use Rattle.grammar.specs.Shape.{Shape, callOf, eraseLeaf, eraseElement, eraseBlock, Shapes, find, eraseRules}
-use Rattle.grammar.specs.Derive.{CanBeEmpty}
-use Rattle.grammar.specs.Corners.{Corners, rust, textbook, isMissing, isSymbol, stops, Skippable, Corner, c-call, c-first, c-later, c-left, c-right, IsSymbol, is-token, is-terminal, is-unknown}
+use Rattle.grammar.specs.Tree.{Leaf, epsilon, action, predicate, call, token, terminal, Element, leaf, block, AlternativeOf, Block, Rule}
+use Rattle.grammar.specs.Tree.{bodyDepth, Sheet}
+use Rattle.language.specs.Shape.{Shape, callOf, eraseLeaf, eraseElement, eraseBlock, Shapes, find, eraseRules}
+use Rattle.language.specs.Derive.{CanBeEmpty}
+use Rattle.grammar.specs.Corners.{Corners, rust, textbook}
+use Rattle.language.specs.LeftCorners.{isMissing, isSymbol, stops, Skippable, Corner, c-call, c-first, c-later, c-left, c-right, IsSymbol}
+use Rattle.language.specs.LeftCorners.{is-token, is-terminal, is-unknown}
 use Rattle.grammar.specs.Laws.Parse.{either}
-use Rattle.grammar.specs.Laws.Derive.Empty.{symbol-empty, call-empty, quantified-empty}
-use Rattle.grammar.specs.Laws.Derive.Corner.{corner-quantified, symbol-quantified}
+use Rattle.language.specs.Laws.Empty.{symbol-empty, call-empty, quantified-empty}
+use Rattle.language.specs.Laws.Corner.{corner-quantified, symbol-quantified}
 use Rattle.reference.specs.Substitute.{Limits}
 use Rattle.reference.specs.Run.{innerDepth, Stage, ended, eliminateMutualLeftRecursion}
-use Rattle.grammar.specs.Cycles.{LeftCorner, called, inside}
+use Rattle.language.specs.Cycles.{LeftCorner, called, inside}
 use Rattle.laws.specs.Analysis.Textbook.{textbook-corner}
-use Rattle.laws.specs.Demands.{Elements, NoCorner, IsOptionalSymbol, PastSymbol, NoLeftCorner, OnlyPastSymbols, JoinedShape, Demand3}
+use Rattle.laws.specs.Demands.Shape.{Elements, NoCorner, IsOptionalSymbol, PastSymbol, NoLeftCorner, OnlyPastSymbols, SecondSort}
+use Rattle.laws.specs.Demands.Shape.{JoinedShape}
+use Rattle.laws.specs.Demands.Run.{Demand3}
 use Rattle.laws.specs.Running.Leaves.{Told}
 use Rattle.laws.specs.Planning.Turns.{Items}
 use Rattle.laws.specs.Planning.Substituted.{shapeOf}
 use Rattle.laws.specs.Proved.Demand3.{demand3}
 
--- The textbook's reading is document 01's.
+-- The textbook's reading is that of SPECIFICATION 13.11.
 pub no-left-corner : (rules : List Rule) (cycle : List ℕ) (es : Elements) → NoCorner textbook rules cycle es → NoLeftCorner rules cycle es
 no-left-corner rules cycle es n =
     record { none = λ q m i k. n .none q m i (textbook-corner (eraseRules bodyDepth rules) innerDepth es (q .name) .1 k) }
@@ -33,9 +38,9 @@ module _ (G : Shapes) where
   leaf-symbol : (c : ℕ) (l : Leaf) → isSymbol G (eraseLeaf c l) ≡ true → IsSymbol G l
   unfolding isSymbol eraseLeaf
   leaf-symbol c epsilon t = absurd (false≢true t)
-  leaf-symbol c (action i rs) t = absurd (false≢true t)
-  leaf-symbol c (predicate i rs) t = absurd (false≢true t)
-  leaf-symbol c (call n a) t = is-unknown (missing (find G n) t)
+  leaf-symbol c (action a) t = absurd (false≢true t)
+  leaf-symbol c (predicate p) t = absurd (false≢true t)
+  leaf-symbol c (call k) t = is-unknown (missing (find G (k .name)) t)
     where
       missing : (o : Option Shape) → isMissing o ≡ true → o ≡ none
       missing none t = refl
@@ -47,7 +52,7 @@ module _ (G : Shapes) where
   unfolding eraseLeaf
   symbol-full c (token n) is-token o = symbol-empty _ o
   symbol-full c terminal is-terminal o = symbol-empty _ o
-  symbol-full c (call n a) (is-unknown e) o = let (b, f, _) = call-empty n .0 o in Option·none-ne-some b (sym e ∙ f)
+  symbol-full c (call k) (is-unknown e) o = let (b, f, _) = call-empty (k .name) .0 o in Option·none-ne-some b (sym e ∙ f)
 
   block-symbol : (d : ℕ) (b : Block d) → isSymbol G (eraseBlock d b) ≡ true → ⊥
   unfolding isSymbol eraseBlock
@@ -60,13 +65,18 @@ module _ (G : Shapes) where
     Empties = AllOf (λ e. CanBeEmpty G (eraseElement (eraseBlock d) e))
 
     -- An element that can be empty is looked past, or is a symbol with quantifier 1 to 4.
-    past-element : (e : Element (Block d)) → CanBeEmpty G (eraseElement (eraseBlock d) e) → Skippable rust G (eraseElement (eraseBlock d) e) ⊎ IsOptionalSymbol G e
+    past-element : (e : Element (Block d)) → CanBeEmpty G (eraseElement (eraseBlock d) e)
+        → Skippable rust G (eraseElement (eraseBlock d) e) ⊎ IsOptionalSymbol G e
     unfolding eraseElement stops
     past-element (leaf h l) o =
         either (isSymbol G (eraseElement (eraseBlock d) (leaf h l)))
         (λ t.
         let s = leaf-symbol (h .carried) l (sym (symbol-quantified G (h .quantifier) (eraseLeaf (h .carried) l)) ∙ t) in
-        inr (s, ⊎-elim (λ p. p) (λ p. absurd (symbol-full (h .carried) l s p)) (quantified-empty (h .quantifier) (eraseLeaf (h .carried) l) .0 o)))
+        inr (
+          s,
+          ⊎-elim (λ p. p) (λ p. absurd (symbol-full (h .carried) l s p))
+              (quantified-empty (h .quantifier) (eraseLeaf (h .carried) l) .0 o),
+        ))
         (λ f. inl (record { empty = o; goesOn = f }))
     past-element (block h b) o =
         either (isSymbol G (eraseElement (eraseBlock d) (block h b)))
@@ -74,33 +84,38 @@ module _ (G : Shapes) where
         (λ f. inl (record { empty = o; goesOn = f }))
 
     -- Elements that can be empty: all are looked past, or there is such a symbol among them.
-    scan : (front : Items d) → Empties front → AllOf (λ e. Skippable rust G (eraseElement (eraseBlock d) e)) front ⊎ AnyOf (IsOptionalSymbol G) front
+    scan : (front : Items d) → Empties front → AllOf (λ e. Skippable rust G (eraseElement (eraseBlock d) e)) front
+        ⊎ AnyOf (IsOptionalSymbol G) front
     scan [] s = inl tt
     scan (e ∷ front) s = ⊎-elim (λ o. ⊎-map (λ r. (o, r)) inr (scan front (s .1))) (λ p. inr (inl p)) (past-element e (s .0))
 
-    rust-behind : (front : Items d) (x : Element (Block d)) (rest : Items d) {n : ℕ} → AllOf (λ e. Skippable rust G (eraseElement (eraseBlock d) e)) front
+    rust-behind : (front : Items d) (x : Element (Block d)) (rest : Items d) {n : ℕ}
+        → AllOf (λ e. Skippable rust G (eraseElement (eraseBlock d) e)) front
         → Corner rust G (eraseElement (eraseBlock d) x) n → Corner rust G (shapeOf d (front ++ (x ∷ rest))) n
     rust-behind [] x rest s k = c-first k
     rust-behind (e ∷ front) x rest s k = c-later (s .0) (rust-behind front x rest (s .1) k)
 
-  one-of : (d : ℕ) {as′ : Block (suc d)} {a : AlternativeOf (Block d)} {n : ℕ} → List·Memᴰ a as′ → Corner rust G (shapeOf d (a .elements)) n → Corner rust G (eraseBlock (suc d) as′) n
+  pub one-of : (d : ℕ) {as′ : Block (suc d)} {a : AlternativeOf (Block d)} {n : ℕ} → List·Memᴰ a as′
+      → Corner rust G (shapeOf d (a .elements)) n → Corner rust G (eraseBlock (suc d) as′) n
   unfolding eraseBlock
   one-of d {n = n} (List·Memᴰ·head e) k = c-left (subst (λ a. Corner rust G (shapeOf d (a .elements)) n) e k)
   one-of d (List·Memᴰ·tail m) k = c-right (one-of d m k)
 
-  -- What document 01 finds the Rust finds, or a symbol with quantifier 1 to 4 stands in front.
+  -- What SPECIFICATION 13.11 finds the Rust finds, or a symbol with quantifier 1 to 4 stands in front.
   pub found-or-past : {d : ℕ} {es : Items d} {n : ℕ} (k : LeftCorner G d es n) → Corner rust G (shapeOf d es) n ⊎ PastSymbol k
   unfolding eraseElement eraseLeaf PastSymbol
-  found-or-past {d} {es} {n} (called front rest h a w s f) =
+  found-or-past {d} {es} {n} (called front rest h c w s f) =
       ⊎-map
-      (λ o. subst (λ l. Corner rust G (shapeOf d l) n) w (rust-behind d front (leaf h (call n a)) rest o (corner-quantified (h .quantifier) (callOf n) .1 (c-call f))))
+      (λ o. subst (λ l. Corner rust G (shapeOf d l) n) w
+      (rust-behind d front (leaf h (call c)) rest o (corner-quantified (h .quantifier) (callOf n) .1 (c-call f))))
       (λ y. y)
       (scan d front s)
   found-or-past {es = es} {n = n} (inside {d = d} front rest h b w s m k) =
       ⊎-elim
       (λ c.
       ⊎-map
-      (λ o. subst (λ l. Corner rust G (shapeOf (suc d) l) n) w (rust-behind (suc d) front (block h b) rest o (corner-quantified (h .quantifier) (eraseBlock (suc d) b) .1 (one-of d m c))))
+      (λ o. subst (λ l. Corner rust G (shapeOf (suc d) l) n) w
+      (rust-behind (suc d) front (block h b) rest o (corner-quantified (h .quantifier) (eraseBlock (suc d) b) .1 (one-of d m c))))
       inl
       (scan (suc d) front s))
       (λ p. inr (inr p))
@@ -111,7 +126,8 @@ pub only-past-symbols : (rules : List Rule) (cycle : List ℕ) (es : Elements) �
 only-past-symbols rules cycle es n =
     record { past = λ q m i k. ⊎-elim (λ c. absurd (n .none q m i c)) (λ p. p) (found-or-past (eraseRules bodyDepth rules) k) }
 
-shape-map : {P Q : Elements → Type 0} → ((es : Elements) → P es → Q es) → {rules : List Rule} {hub : ℕ} → JoinedShape P rules hub → JoinedShape Q rules hub
+shape-map : {P Q : Elements → Type 0} → ((es : Elements) → P es → Q es) → {rules : List Rule} {hub : ℕ} → JoinedShape P rules hub
+    → JoinedShape Q rules hub
 shape-map f j =
     record {
       rule = j .rule;
@@ -122,9 +138,10 @@ shape-map f j =
       oneWithout = let (a, m, w) = j .oneWithout in (a, m, f (a .elements) w);
     }
 
-with-shape : (s : Sheet) (corners : Corners) {P Q : List Rule → List ℕ → Elements → Type 0} → ((rules : List Rule) (cycle : List ℕ) (es : Elements) → P rules cycle es → Q rules cycle es)
-    → {ts : List Stage} → Demand3 s corners P ts → Demand3 s corners Q ts
-with-shape s corners f x =
+with-shape : (s : Sheet) (limits : Limits) (corners : Corners) {P Q : List Rule → List ℕ → Elements → Type 0}
+    → ((rules : List Rule) (cycle : List ℕ) (es : Elements) → P rules cycle es → Q rules cycle es)
+    → {ts : List Stage} → Demand3 s limits corners P ts → Demand3 s limits corners Q ts
+with-shape s limits corners f x =
     record {
       sameStrings = x .sameStrings;
       sameBetween = x .sameBetween;
@@ -137,10 +154,16 @@ with-shape s corners f x =
     }
 
 module _ (limits : Limits) (s : Sheet) (told : Told (s .rules)) (ts : List Stage) where
-  -- Demand 3 whole, in document 01's words, of the textbook's run.
-  pub demand3-textbook : eliminateMutualLeftRecursion limits textbook s ≡ ended ts → Demand3 s textbook NoLeftCorner ts
-  demand3-textbook run = with-shape s textbook no-left-corner (demand3 limits textbook s told ts run)
+  -- Demand 3 whole, of the textbook's run.
+  pub demand3-textbook : eliminateMutualLeftRecursion limits textbook s ≡ ended ts → Demand3 s limits textbook NoLeftCorner ts
+  demand3-textbook run = with-shape s limits textbook no-left-corner (demand3 limits textbook s told ts run)
 
   -- Of the Rust's run, but for left corners behind a symbol with quantifier 1 to 4.
-  pub demand3-rust : eliminateMutualLeftRecursion limits rust s ≡ ended ts → Demand3 s rust OnlyPastSymbols ts
-  demand3-rust run = with-shape s rust only-past-symbols (demand3 limits rust s told ts run)
+  pub demand3-rust : eliminateMutualLeftRecursion limits rust s ≡ ended ts → Demand3 s limits rust OnlyPastSymbols ts
+  demand3-rust run = with-shape s limits rust only-past-symbols (demand3 limits rust s told ts run)
+
+-- In each reading's own words.
+pub demand3-own : (limits : Limits) (corners : Corners) (s : Sheet) → Told (s .rules) → (ts : List Stage)
+    → eliminateMutualLeftRecursion limits corners s ≡ ended ts → Demand3 s limits corners (SecondSort corners) ts
+demand3-own limits rust s told ts run = demand3-rust limits s told ts run
+demand3-own limits textbook s told ts run = demand3-textbook limits s told ts run

@@ -1,15 +1,18 @@
 -- How often a number stands in a list: distinct and bounded lists by counting, and the numbers of a range.
 use Prim.Native.Nat.{ℕ, suc, _+_, _≤_, _<_}
 use mathlib.Core.Path.{_≡_, refl, sym, ap, _∙_, subst}
-use mathlib.Core.List.{List, [], _∷_, _++_, List·Memᴰ, List·Memᴰ·head, List·Memᴰ·tail}
+use mathlib.Core.List.{List, [], _∷_, _++_, map, List·Memᴰ, List·Memᴰ·head, List·Memᴰ·tail, Sublistᴰ, Sublistᴰ·slnil, Sublistᴰ·cons}
+use mathlib.Core.List.{Sublistᴰ·cons-cons}
 use mathlib.Core.Bool.{Bool, true, false, and-false, _&&_, not, true≢false}
 use native.Mathlib.Omega.{arith}
 use lib.Dec.{leb, ltb, eqb}
-use borrow.Author.Tests.{eqb-true, eqb-false, eq-eqb, ne-eqb, ltb-true, lt-ltb, le-ltb, leb-true, le-leb, lt-leb, leb-false, ltb-false, not-true}
-use Rattle.grammar.specs.Ids.{member, distinct, below}
+use borrow.Author.Tests.{eqb-true, eqb-false, eq-eqb, ne-eqb, ltb-true, lt-ltb, le-ltb, leb-true, le-leb, lt-leb, leb-false, ltb-false}
+use borrow.Author.Tests.{not-true}
+use Rattle.grammar.specs.Lists.{member, distinct, below, keep}
 use Rattle.grammar.specs.Laws.Parse.{both-true, left-true, right-true, either}
-use Rattle.grammar.specs.Laws.Derive.Rules.{in-member}
-use Rattle.laws.specs.Lists.Members.{member-in}
+use Rattle.grammar.specs.Laws.Lists.{in-member}
+use Rattle.grammar.specs.Laws.Lists.{member-in}
+use Rattle.graph.specs.Members.{keep-is-part, part-map}
 
 abbrev pub one : Bool → ℕ
 one true = 1
@@ -135,3 +138,18 @@ between-one a x =
 
 pub between-none : (a x : ℕ) → between a a x ≡ 0
 between-none a x = either (ltb x a) (λ t. between-low a a x (ltb-true x a t)) (λ f. between-high a a x (ltb-false x a f))
+
+-- Of a part of a list.
+pub part-count : (x : ℕ) {xs ys : List ℕ} → Sublistᴰ xs ys → count x xs ≤ count x ys
+unfolding count
+part-count x Sublistᴰ·slnil = omega arith
+part-count x (Sublistᴰ·cons s) = let h = part-count x s in omega arith
+part-count x (Sublistᴰ·cons-cons {a = a} {b = b} e s) = let h = part-count x s in rw e (omega arith)
+
+pub part-distinct : {xs ys : List ℕ} → Sublistᴰ xs ys → distinct ys ≡ true → distinct xs ≡ true
+part-distinct {xs} {ys} s t = count-distinct xs λ x. let a = part-count x s in let b = distinct-count ys t x in omega arith
+
+-- Numbers that are not shared stay so where items are taken away.
+pub distinct-keep : {A : Type 0} (key : A → ℕ) (test : A → Bool) (as′ : List A) → distinct (map key as′) ≡ true
+    → distinct (map key (keep test as′)) ≡ true
+distinct-keep key test as′ t = part-distinct (part-map key (keep-is-part test as′)) t

@@ -8,7 +8,7 @@ use native.Mathlib.Omega.{arith}
 use lib.ListN.{length}
 use lib.Dec.{eqb}
 use borrow.Author.Tests.{not-true, eqb-true, eqb-false}
-use Rattle.grammar.specs.Ids.{member, distinct}
+use Rattle.grammar.specs.Lists.{member, distinct}
 use Rattle.grammar.specs.Laws.Parse.{left-true, right-true, either}
 use Rattle.laws.specs.Lists.Lookup.{not-in}
 
@@ -38,6 +38,8 @@ unfolding distinct
 no-more [] ys t h = omega arith
 no-more (x ∷ xs) ys t h =
     let fresh = not-true (member x xs) (left-true (not (member x xs)) (distinct xs) t) in
-    let ih = no-more xs (taken x ys) (right-true (not (member x xs)) (distinct xs) t) (λ z m. taken-other x ys (h z (List·Memᴰ·tail m)) (λ e. not-in x xs fresh (subst (λ y. List·Memᴰ y xs) e m))) in
+    let ih =
+    no-more xs (taken x ys) (right-true (not (member x xs)) (distinct xs) t)
+    (λ z m. taken-other x ys (h z (List·Memᴰ·tail m)) (λ e. not-in x xs fresh (subst (λ y. List·Memᴰ y xs) e m))) in
     let l = taken-length x ys (h x (List·Memᴰ·head refl)) in
     omega arith

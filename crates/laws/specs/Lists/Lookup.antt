@@ -2,21 +2,20 @@
 use Prim.Native.Nat.{ℕ, suc, _≤_}
 use mathlib.Core.Path.{_≡_, refl, sym, ap, _∙_, subst}
 use mathlib.Core.Logic.{⊎-elim}
-use mathlib.Core.List.{List, [], _∷_, map, List·Memᴰ, List·Memᴰ·head, List·Memᴰ·tail, List·Memᴰ·not-nil, List·Memᴰ·cases-cons, Memᴰ·of-map, Memᴰ·map}
+use mathlib.Core.List.{List, [], _∷_, map, List·Memᴰ, List·Memᴰ·head, List·Memᴰ·tail, List·Memᴰ·not-nil, List·Memᴰ·cases-cons, Memᴰ·of-map}
+use mathlib.Core.List.{Memᴰ·map}
 use mathlib.Core.Option.{Option, none, some, Option·some-injective, Option·none-ne-some}
 use mathlib.Core.Bool.{Bool, true, false, true≢false, false≢true}
 use native.Mathlib.Omega.{arith}
 use lib.ListN.{length}
 use lib.Dec.{eqb}
 use borrow.Author.Tests.{eqb-true, eq-eqb}
+use Rattle.grammar.specs.Laws.Lists.{in-member}
 use Rattle.grammar.specs.Tree.{RuleOf}
-use Rattle.grammar.specs.Ids.{member, distinct}
-use Rattle.grammar.specs.Valid.{all}
-use Rattle.grammar.specs.Lists.{any, keep, first}
+use Rattle.grammar.specs.Lists.{member, distinct, all, any, keep, first}
 use Rattle.grammar.specs.Laws.Parse.{left-true, right-true, either}
-use Rattle.grammar.specs.Laws.Derive.Rules.{in-member}
-use Rattle.reference.specs.Analysis.{Name, Grammar, namesOf, target, ruleWithId}
-use Rattle.laws.specs.Lists.Members.{one-with}
+use Rattle.reference.specs.Analysis.{Name, Grammar, nameOf, namesOf, target, ruleWithId}
+use Rattle.graph.specs.Members.{one-with}
 
 pub not-in : (x : ℕ) (xs : List ℕ) → member x xs ≡ false → List·Memᴰ x xs → ⊥
 not-in x xs f m = true≢false (sym (in-member m) ∙ f)
@@ -70,13 +69,15 @@ module _ {A : Type 0} (test : A → Bool) where
   keep-all [] e m = absurd (List·Memᴰ·not-nil m)
   keep-all (x ∷ as′) e {a} m =
       either (test x)
-      (λ t. ⊎-elim (λ p. ap test p ∙ t) (keep-all as′ (let h : suc (length (keep test as′)) ≡ suc (length as′) = rw t at e in omega arith)) (List·Memᴰ·cases-cons m))
+      (λ t. ⊎-elim (λ p. ap test p ∙ t)
+      (keep-all as′ (let h : suc (length (keep test as′)) ≡ suc (length as′) = rw t at e in omega arith)) (List·Memᴰ·cases-cons m))
       (λ f. absurd (let h : length (keep test as′) ≡ suc (length as′) = rw f at e in omega (arith, keep-short as′)))
 
 -- A call's target is a rule of that name.
 module _ {B : Type 0} (rs : List (RuleOf B)) (g : Grammar) (named : g .names ≡ namesOf rs) where
   target-found : (n : ℕ) (o : Option Name) {t : ℕ} → first (λ p. eqb (p .name) n) (g .names) ≡ o
-      → (elim o as (λ x. Option ℕ) [ none ↦ none | some p ↦ some (p .id) ]) ≡ some t → (p : Name) × List·Memᴰ p (namesOf rs) × (p .name ≡ n) × (p .id ≡ t)
+      → (elim o as (λ x. Option ℕ) [ none ↦ none | some p ↦ some (p .id) ]) ≡ some t
+      → (p : Name) × List·Memᴰ p (namesOf rs) × (p .name ≡ n) × (p .id ≡ t)
   target-found n none {t} e u = absurd (Option·none-ne-some t u)
   target-found n (some p) {t} e u =
       let r = first-some (λ p. eqb (p .name) n) (g .names) e in
@@ -86,22 +87,30 @@ module _ {B : Type 0} (rs : List (RuleOf B)) (g : Grammar) (named : g .names ≡
   unfolding target namesOf
   target-rule n {t} e =
       let p = target-found n (first (λ p. eqb (p .name) n) (g .names)) refl e in
-      let r = Memᴰ·of-map (λ r. record { name = r .name; id = r .id }) rs (p .1) in
+      let r = Memᴰ·of-map nameOf rs (p .1) in
       (r .0, r .1, ap (λ q. q .name) (r .2) ∙ p .2, ap (λ q. q .id) (r .2) ∙ p .3)
+
+  -- Where ids are not shared, a name that has a rule for its target is that rule's.
+  pub target-name : distinct (map (λ r. r .id) rs) ≡ true → {r : RuleOf B} → List·Memᴰ r rs → (n : ℕ) → target g n ≡ some (r .id)
+      → r .name ≡ n
+  target-name t m n e =
+      let (q, k, name, id) = target-rule n e in
+      ap (λ r. r .name) (one-with (λ r. r .id) rs t m k (sym id)) ∙ name
 
   -- Where names are not shared, a call of a rule's name has that rule for its target.
   pub rule-target : distinct (map (λ r. r .name) rs) ≡ true → {r : RuleOf B} → List·Memᴰ r rs → target g (r .name) ≡ some (r .id)
   unfolding target namesOf
   rule-target t {r} m = go (first (λ p. eqb (p .name) (r .name)) (g .names)) refl
     where
-      here : List·Memᴰ (record { name = r .name; id = r .id }) (g .names)
-      here = subst (λ l. List·Memᴰ (record { name = r .name; id = r .id }) l) (sym named) (Memᴰ·map (λ r. record { name = r .name; id = r .id }) m)
+      here : List·Memᴰ (nameOf r) (g .names)
+      here = subst (λ l. List·Memᴰ (nameOf r) l) (sym named) (Memᴰ·map nameOf m)
 
-      go : (o : Option Name) → first (λ p. eqb (p .name) (r .name)) (g .names) ≡ o → (elim o as (λ x. Option ℕ) [ none ↦ none | some p ↦ some (p .id) ]) ≡ some (r .id)
+      go : (o : Option Name) → first (λ p. eqb (p .name) (r .name)) (g .names) ≡ o
+          → (elim o as (λ x. Option ℕ) [ none ↦ none | some p ↦ some (p .id) ]) ≡ some (r .id)
       go none e = absurd (true≢false (sym (eq-eqb (r .name) (r .name) refl) ∙ first-none (λ p. eqb (p .name) (r .name)) e here))
       go (some p) e =
           let x = target-found (r .name) (some p) e refl in
-          let q = Memᴰ·of-map (λ r. record { name = r .name; id = r .id }) rs (x .1) in
+          let q = Memᴰ·of-map nameOf rs (x .1) in
           let same = one-with (λ r. r .name) rs t (q .1) m (ap (λ y. y .name) (q .2) ∙ x .2) in
           ap some (sym (x .3) ∙ sym (ap (λ y. y .id) (q .2)) ∙ ap (λ y. y .id) same)
 

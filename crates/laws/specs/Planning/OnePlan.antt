@@ -2,103 +2,48 @@
 use Prim.Native.Nat.{ℕ, suc}
 use mathlib.Core.Path.{_≡_, refl, sym, ap, ap₂, _∙_, subst}
 use mathlib.Core.Logic.{_⊎_, inl, inr, ⊎-elim, _↔_, Iff·trans}
-use mathlib.Core.List.{List, [], _∷_, _++_, map, map-map, List·Memᴰ, List·Memᴰ·head, List·Memᴰ·tail, Memᴰ·of-map, Memᴰ·map, Memᴰ·append-left, Memᴰ·append-right}
+use mathlib.Core.List.{List, [], _∷_, _++_, map, map-map, List·Memᴰ, Memᴰ·of-map, Memᴰ·map}
+use mathlib.Core.List.{Memᴰ·append-left, Memᴰ·append-right}
 use mathlib.Core.Option.{Option, none, some}
 use mathlib.Core.Bool.{Bool, true, false, not, _||_, true≢false}
 use native.Mathlib.Decide.{ℕ-discrete}
 use lib.Dec.{eqb}
 use borrow.Author.Tests.{eqb-true, eqb-false, eq-eqb, ne-eqb, not-true}
+use Rattle.grammar.specs.Laws.Lists.{member-in, in-map}
 use Rattle.grammar.specs.Tree.{Block, RuleOf, Counters}
-use Rattle.grammar.specs.Encode.{each}
-use Rattle.grammar.specs.Ids.{member, distinct}
-use Rattle.grammar.specs.Lists.{keep}
-use Rattle.grammar.specs.Corners.{Corners, isMissing, Corner}
-use Rattle.grammar.specs.Shape.{Shape, alts, Shapes, find, eraseBlock, eraseRules, EachCall}
-use Rattle.grammar.specs.Laws.Parse.{both-true, left-true, right-true, either}
-use Rattle.grammar.specs.Laws.Derive.Cover.{Alike, Same, same-trans, SameStrings, alike-replaced, replaceBody, replaced-others, replaced-found}
-use Rattle.grammar.specs.Laws.Derive.Copies.{map-unseen}
-use Rattle.grammar.specs.Laws.Derive.Removal.{AlikeOn, removal, without, without-found}
-use Rattle.grammar.specs.Laws.Derive.Corner.{same-corner, removal-corner}
-use Rattle.grammar.specs.Laws.Derive.Rules.{in-map, rule-found, found-rule}
+use Rattle.grammar.specs.Lists.{each, member, distinct, keep}
+use Rattle.grammar.specs.Corners.{Corners}
+use Rattle.language.specs.LeftCorners.{isMissing, Corner}
+use Rattle.language.specs.Shape.{Shape, alts, Shapes, find, eraseBlock, eraseRules, EachCall}
+use Rattle.grammar.specs.Laws.Parse.{either}
+use Rattle.language.specs.Laws.Cover.{Alike, Same, same-trans, SameStrings, alike-replaced, replaceBody, replaced-others, replaced-found}
+use Rattle.language.specs.Laws.Copies.{map-unseen}
+use Rattle.language.specs.Laws.Removal.{AlikeOn, removal, without, without-found}
+use Rattle.language.specs.Laws.Corner.{same-corner, removal-corner}
+use Rattle.language.specs.Laws.Rules.{rule-found, found-rule}
 use Rattle.reference.specs.Analysis.{Grammar, idsOf, target, collectCallsInto, collectCallsInElements}
-use Rattle.reference.specs.Plan.{CyclePlan, callsKept, removableSatellites, asTheyAre}
+use Rattle.reference.specs.Plan.{CyclePlan, callsKept, removableSatellites, asItIs, asTheyAre}
 use Rattle.reference.specs.Apply.{freshEach, applyAlternative, withBody, applyPlan}
-use Rattle.laws.specs.Lists.Members.{member-in, in-keep, keep-in, in-each, one-with}
+use Rattle.laws.specs.Lists.Count.{distinct-keep}
+use Rattle.grammar.specs.Laws.Lists.{member-in}
+use Rattle.graph.specs.Members.{in-keep, keep-in, in-each, one-with}
 use Rattle.laws.specs.Lists.Lookup.{not-in, rule-target}
 use Rattle.laws.specs.Planning.Turns.{itemsOf}
 use Rattle.laws.specs.Planning.Substituted.{Known, shapeOf, bodyOf, moves-alike}
 use Rattle.laws.specs.Planning.Calls.{each-call-map, CallsIn, block-calls, items-calls}
+use Rattle.laws.specs.Planning.Bodied.{with-id, with-name, with-hub, with-other}
 use Rattle.laws.specs.Planning.Removed.{removable-uncalled, removable-satellite}
 use Rattle.laws.specs.Planning.Renumber.{applied-shape}
 use Rattle.laws.specs.Planning.Plans.{Made}
-
--- Numbers that are not shared stay so where items are taken away.
-pub distinct-keep : {A : Type 0} (key : A → ℕ) (test : A → Bool) (as′ : List A) → distinct (map key as′) ≡ true → distinct (map key (keep test as′)) ≡ true
-unfolding distinct keep
-distinct-keep key test [] t = refl
-distinct-keep key test (a ∷ as′) t =
-    let fresh = left-true (not (member (key a) (map key as′))) (distinct (map key as′)) t in
-    let ih = distinct-keep key test as′ (right-true (not (member (key a) (map key as′))) (distinct (map key as′)) t) in
-    either (test a)
-    (λ u. rw u (both-true _ _ (absent (not-true _ fresh)) ih))
-    (λ u. rw u ih)
-  where
-    absent : member (key a) (map key as′) ≡ false → not (member (key a) (map key (keep test as′))) ≡ true
-    absent f =
-        either (member (key a) (map key (keep test as′)))
-        (λ y.
-        let b = Memᴰ·of-map key (keep test as′) (member-in (map key (keep test as′)) y) in
-        absurd (not-in (key a) (map key as′) f (subst (λ n. List·Memᴰ n (map key as′)) (b .2) (in-map key (in-keep test as′ (b .1) .0)))))
-        (λ n. rw n)
-
-module _ (d : ℕ) (hub : ℕ) (b : Block (suc d)) where
-  with-id : (r : RuleOf (Block (suc d))) → withBody d hub b r .id ≡ r .id
-  unfolding withBody
-  with-id r = either (eqb (r .id) hub) (λ t. rw (t, withBody)) (λ f. rw (f, withBody))
-
-  with-name : (r : RuleOf (Block (suc d))) → withBody d hub b r .name ≡ r .name
-  unfolding withBody
-  with-name r = either (eqb (r .id) hub) (λ t. rw (t, withBody)) (λ f. rw (f, withBody))
-
-  with-hub : (r : RuleOf (Block (suc d))) → r .id ≡ hub → withBody d hub b r .body ≡ b
-  unfolding withBody
-  with-hub r e = rw (eq-eqb (r .id) hub e, withBody)
-
-  with-other : (r : RuleOf (Block (suc d))) → (r .id ≡ hub → ⊥) → withBody d hub b r ≡ r
-  unfolding withBody
-  with-other r ne = rw (ne-eqb (r .id) hub ne, withBody)
-
-  -- Replacing by id is replacing by name, where the two tell the same rule.
-  erase-replaced : (H : ℕ) (qs : List (RuleOf (Block (suc d)))) → ((r : RuleOf (Block (suc d))) → List·Memᴰ r qs → eqb (r .id) hub ≡ eqb (r .name) H)
-      → eraseRules (suc d) (map (withBody d hub b) qs) ≡ replaceBody H (eraseBlock (suc d) b) (eraseRules (suc d) qs)
-  unfolding replaceBody withBody
-  erase-replaced H [] h = refl
-  erase-replaced H (r ∷ qs) h =
-      let ih = erase-replaced H qs (λ q m. h q (List·Memᴰ·tail m)) in
-      let e = h r (List·Memᴰ·head refl) in
-      either (eqb (r .id) hub)
-      (λ t. rw (t, withBody) (rw (sym e ∙ t, replaceBody) (ap (λ l. record { name = r .name; body = eraseBlock (suc d) b } ∷ l) ih)))
-      (λ f. rw (f, withBody) (rw (sym e ∙ f, replaceBody) (ap (λ l. record { name = r .name; body = eraseBlock (suc d) (r .body) } ∷ l) ih)))
-
--- The same of removing.
-erase-kept : (d : ℕ) (gone : ℕ → Bool) (xs : List ℕ) (qs : List (RuleOf (Block d))) → ((r : RuleOf (Block d)) → List·Memᴰ r qs → gone (r .name) ≡ member (r .id) xs)
-    → eraseRules d (keep (λ r. not (member (r .id) xs)) qs) ≡ without gone (eraseRules d qs)
-unfolding keep without
-erase-kept d gone xs [] h = refl
-erase-kept d gone xs (r ∷ qs) h =
-    let ih = erase-kept d gone xs qs (λ q m. h q (List·Memᴰ·tail m)) in
-    let e = h r (List·Memᴰ·head refl) in
-    either (member (r .id) xs)
-    (λ t. rw (t, e ∙ t, without) ih)
-    (λ f. rw (f, e ∙ f, without) (ap (λ l. record { name = r .name; body = eraseBlock d (r .body) } ∷ l) ih))
+use Rattle.laws.specs.Planning.Erased.{erase-replaced, erase-kept}
 
 -- A body as the planned list starts with it.
 pub as-they-are : (d : ℕ) (as′ : Block (suc d)) → eraseBlock (suc d) as′ ≡ bodyOf d (itemsOf d (asTheyAre as′))
 unfolding eraseBlock asTheyAre
 as-they-are d as′ =
-    ap alts (sym (ap (map (shapeOf d)) (map-map (λ p. p .elements) (λ a. record { carried = a .carried; flag = a .flag; options = a .options; origin = a .id; elements = a .elements; verbatim = true }) as′) ∙ map-map (shapeOf d) (λ a. a .elements) as′))
+    ap alts (sym (ap (map (shapeOf d)) (map-map (λ p. p .elements) asItIs as′) ∙ map-map (shapeOf d) (λ a. a .elements) as′))
 
-each-map : {A B : Type 0} (f : B → List ℕ) (h : A → B) (as′ : List A) → each f (map h as′) ≡ each (λ a. f (h a)) as′
+pub each-map : {A B : Type 0} (f : B → List ℕ) (h : A → B) (as′ : List A) → each f (map h as′) ≡ each (λ a. f (h a)) as′
 each-map f h [] = refl
 each-map f h (a ∷ as′) = ap (λ l. f (h a) ++ l) (each-map f h as′)
 
@@ -107,7 +52,8 @@ abbrev pub isGone : List ℕ → Option ℕ → Bool
 isGone xs none = false
 isGone xs (some t) = member t xs
 
-module _ {c : Corners} {d : ℕ} {rs : List (RuleOf (Block (suc d)))} {g : Grammar} (k : Known (suc d) rs g) {preserved cycle : List ℕ} {plan : CyclePlan d}
+module _ {c : Corners} {d : ℕ} {rs : List (RuleOf (Block (suc d)))} {g : Grammar} (k : Known (suc d) rs g) {preserved cycle : List ℕ}
+    {plan : CyclePlan d}
     (x : Made c d rs g preserved cycle plan) (counters : Counters) where
   abbrev pub newBody : Block (suc d)
   newBody = freshEach (applyAlternative d) (plan .alternatives) counters .node
@@ -169,7 +115,8 @@ module _ {c : Corners} {d : ℕ} {rs : List (RuleOf (Block (suc d)))} {g : Gramm
         id = ap (λ q. q .id) (sym (r .2)) ∙ with-id d (x .hub .id) newBody (r .0);
         name = ap (λ q. q .name) (sym (r .2)) ∙ with-name d (x .hub .id) newBody (r .0);
         body = either (eqb (r .0 .id) (x .hub .id))
-            (λ t. let e = eqb-true (r .0 .id) (x .hub .id) t in inl (e, ap (λ q. q .body) (sym (r .2)) ∙ with-hub d (x .hub .id) newBody (r .0) e))
+            (λ t. let e = eqb-true (r .0 .id) (x .hub .id) t in inl
+            (e, ap (λ q. q .body) (sym (r .2)) ∙ with-hub d (x .hub .id) newBody (r .0) e))
             (λ f. let ne = eqb-false (r .0 .id) (x .hub .id) f in inr (ne, sym (r .2) ∙ with-other d (x .hub .id) newBody (r .0) ne));
       }
 
@@ -184,13 +131,16 @@ module _ {c : Corners} {d : ℕ} {rs : List (RuleOf (Block (suc d)))} {g : Gramm
 
   -- The name of a rule left is not gone.
   pub left-stays : {q : RuleOf (Block (suc d))} → List·Memᴰ q rulesLeft → gone (q .name) ≡ false
-  left-stays {q} m = let y = in-keep (λ r. not (member (r .id) goneIds)) replacedRules m in gone-replaced (y .0) ∙ not-true (member (q .id) goneIds) (y .1)
+  left-stays {q} m =
+      let y = in-keep (λ r. not (member (r .id) goneIds)) replacedRules m in gone-replaced (y .0) ∙ not-true (member (q .id) goneIds) (y .1)
 
   -- A rule of before is left, or its id is gone.
   pub left-in : {r : RuleOf (Block (suc d))} → List·Memᴰ r rs → member (r .id) goneIds ≡ false → List·Memᴰ (r .id) (idsOf rulesLeft)
   left-in {r} m f =
       let e = with-id d (x .hub .id) newBody r in
-      let y = keep-in (λ r. not (member (r .id) goneIds)) (Memᴰ·map (withBody d (x .hub .id) newBody) m) (ap (λ i. not (member i goneIds)) e ∙ ap not f) in
+      let y =
+      keep-in (λ r. not (member (r .id) goneIds)) (Memᴰ·map (withBody d (x .hub .id) newBody) m)
+      (ap (λ i. not (member i goneIds)) e ∙ ap not f) in
       subst (λ i. List·Memᴰ i (idsOf rulesLeft)) e (in-map (λ r. r .id) y)
 
   pub hub-left : member (x .hub .id) goneIds ≡ false
@@ -216,14 +166,16 @@ module _ {c : Corners} {d : ℕ} {rs : List (RuleOf (Block (suc d)))} {g : Gramm
           t ∙ sym (eq-eqb (r .name) (x .hub .name) (ap (λ r. r .name) e)))
           (λ f.
           f
-          ∙ sym (ne-eqb (r .name) (x .hub .name) (λ e. eqb-false (r .id) (x .hub .id) f (ap (λ r. r .id) (one-with (λ r. r .name) rs (k .names) m (x .isRule) e)))))
+          ∙ sym (ne-eqb (r .name) (x .hub .name)
+          (λ e. eqb-false (r .id) (x .hub .id) f (ap (λ r. r .id) (one-with (λ r. r .name) rs (k .names) m (x .isRule) e)))))
 
   pub replaced-same : SameStrings G K
   replaced-same =
       let b = eraseBlock (suc d) newBody in
       subst (SameStrings G) (sym replaced-erased)
       (alike-replaced (replaced-others (x .hub .name) b G) hub-found (replaced-found (x .hub .name) b G hub-found)
-      (subst (Alike (x .hub .name) G (bodyOf d (itemsOf d (asTheyAre (x .hub .body))))) (sym (applied-shape d (plan .alternatives) counters)) (moves-alike k cycle (x .isRule) (x .moves))))
+      (subst (Alike (x .hub .name) G (bodyOf d (itemsOf d (asTheyAre (x .hub .body)))))
+      (sym (applied-shape d (plan .alternatives) counters)) (moves-alike k cycle (x .isRule) (x .moves))))
 
   left-erased : L ≡ without gone K
   left-erased = erase-kept (suc d) gone goneIds replacedRules (λ q m. gone-replaced m)
@@ -232,17 +184,20 @@ module _ {c : Corners} {d : ℕ} {rs : List (RuleOf (Block (suc d)))} {g : Gramm
   stays : (n : ℕ) → CallsIn g (callsKept g d rs (x .hub .id) (plan .alternatives) goneIds) n → gone n ≡ false
   stays n h = go (target g n) h
     where
-      go : (o : Option ℕ) → ((t : ℕ) → o ≡ some t → List·Memᴰ t (callsKept g d rs (x .hub .id) (plan .alternatives) goneIds)) → isGone goneIds o ≡ false
+      go : (o : Option ℕ) → ((t : ℕ) → o ≡ some t → List·Memᴰ t (callsKept g d rs (x .hub .id) (plan .alternatives) goneIds))
+          → isGone goneIds o ≡ false
       go none f = refl
       go (some t) f =
           either (member t goneIds)
           (λ y.
           absurd
-          (not-in t (callsKept g d rs (x .hub .id) (plan .alternatives) goneIds) (removable-uncalled g d rs (x .hub .id) (plan .alternatives) cycle preserved (member-in goneIds y)) (f t refl)))
+          (not-in t (callsKept g d rs (x .hub .id) (plan .alternatives) goneIds)
+          (removable-uncalled g d rs (x .hub .id) (plan .alternatives) cycle preserved (member-in goneIds y)) (f t refl)))
           (λ n. n)
 
   -- Every call in a rule left is of one left, or unknown.
-  replaced-closed : {q : RuleOf (Block (suc d))} → List·Memᴰ q replacedRules → member (q .id) goneIds ≡ false → EachCall (λ n. gone n ≡ false) (eraseBlock (suc d) (q .body))
+  replaced-closed : {q : RuleOf (Block (suc d))} → List·Memᴰ q replacedRules → member (q .id) goneIds ≡ false
+      → EachCall (λ n. gone n ≡ false) (eraseBlock (suc d) (q .body))
   unfolding callsKept
   replaced-closed {q} m left = go (replaced-stems m)
     where
@@ -258,21 +213,28 @@ module _ {c : Corners} {d : ℕ} {rs : List (RuleOf (Block (suc d)))} {g : Gramm
           (λ h.
           subst (EachCall (λ n. gone n ≡ false)) (sym (ap (eraseBlock (suc d)) (h .1) ∙ applied-shape d (plan .alternatives) counters))
           (each-call-map stays (bodyOf d (itemsOf d (plan .alternatives)))
-          (items-calls g kept d (itemsOf d (plan .alternatives)) (λ t n. Memᴰ·append-left others (subst (λ l. List·Memᴰ t l) (each-map (collectCallsInElements g d) (λ p. p .elements) (plan .alternatives)) n)))))
+          (items-calls g kept d (itemsOf d (plan .alternatives))
+          (λ t n. Memᴰ·append-left others
+          (subst (λ l. List·Memᴰ t l) (each-map (collectCallsInElements g d) (λ p. p .elements) (plan .alternatives)) n)))))
           (λ o.
           subst (λ r. EachCall (λ n. gone n ≡ false) (eraseBlock (suc d) (r .body))) (sym (o .1))
           (each-call-map stays (eraseBlock (suc d) (s .rule .body))
           (block-calls g kept (suc d) (s .rule .body)
           (λ t n.
           Memᴰ·append-right (each (λ p. collectCallsInElements g d (p .elements)) (plan .alternatives))
-          (in-each (λ r. collectCallsInto g (suc d) (r .body)) (keep-in (λ r. not (member (r .id) goneIds || eqb (r .id) (x .hub .id))) (s .isRule) (passes (s .rule) (ap (λ i. member i goneIds) (sym (s .id)) ∙ left) (o .0))) n)))))
+          (in-each (λ r. collectCallsInto g (suc d) (r .body))
+          (keep-in (λ r. not (member (r .id) goneIds || eqb (r .id) (x .hub .id))) (s .isRule)
+          (passes (s .rule) (ap (λ i. member i goneIds) (sym (s .id)) ∙ left) (o .0))) n)))))
           (s .body)
         where
-          passes : (r : RuleOf (Block (suc d))) → member (r .id) goneIds ≡ false → (r .id ≡ x .hub .id → ⊥) → not (member (r .id) goneIds || eqb (r .id) (x .hub .id)) ≡ true
+          passes : (r : RuleOf (Block (suc d))) → member (r .id) goneIds ≡ false → (r .id ≡ x .hub .id → ⊥)
+              → not (member (r .id) goneIds || eqb (r .id) (x .hub .id)) ≡ true
           passes r f ne = rw (f, ne-eqb (r .id) (x .hub .id) ne)
 
   pub left-closed : {q : RuleOf (Block (suc d))} → List·Memᴰ q rulesLeft → EachCall (λ n. gone n ≡ false) (eraseBlock (suc d) (q .body))
-  left-closed {q} m = let y = in-keep (λ r. not (member (r .id) goneIds)) replacedRules m in replaced-closed (y .0) (not-true (member (q .id) goneIds) (y .1))
+  left-closed {q} m =
+      let y = in-keep (λ r. not (member (r .id) goneIds)) replacedRules m in replaced-closed (y .0)
+      (not-true (member (q .id) goneIds) (y .1))
 
   pub left-alike : AlikeOn (λ n. gone n ≡ false) K L
   left-alike =
@@ -317,7 +279,9 @@ module _ {c : Corners} {d : ℕ} {rs : List (RuleOf (Block (suc d)))} {g : Gramm
   hub-body = with-hub d (x .hub .id) newBody (x .hub) refl
 
   pub hub-in : List·Memᴰ hubAfter rulesLeft
-  hub-in = keep-in (λ r. not (member (r .id) goneIds)) (Memᴰ·map (withBody d (x .hub .id) newBody) (x .isRule)) (ap (λ i. not (member i goneIds)) hub-id ∙ ap not hub-left)
+  hub-in =
+      keep-in (λ r. not (member (r .id) goneIds)) (Memᴰ·map (withBody d (x .hub .id) newBody) (x .isRule))
+      (ap (λ i. not (member i goneIds)) hub-id ∙ ap not hub-left)
 
   pub body-closed : EachCall (λ n. gone n ≡ false) (eraseBlock (suc d) newBody)
   body-closed = subst (λ b. EachCall (λ n. gone n ≡ false) (eraseBlock (suc d) b)) hub-body (left-closed hub-in)

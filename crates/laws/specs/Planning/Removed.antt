@@ -1,21 +1,22 @@
 -- What removableSatellites returns is closed: no rule in it is called by the planned hub or by another rule kept.
 use Prim.Native.Nat.{ℕ, zero, suc, _≤_}
-use mathlib.Core.Path.{_≡_, refl, sym, subst}
-use mathlib.Core.List.{List, [], _∷_, List·Memᴰ}
-use mathlib.Core.Bool.{false, not, _||_}
+use mathlib.Core.Path.{_≡_, refl, sym, ap, _∙_, subst}
+use mathlib.Core.Logic.{⊎-elim}
+use mathlib.Core.List.{List, [], _∷_, List·Memᴰ, List·Memᴰ·append-cases, Memᴰ·append-left, Memᴰ·append-right}
+use mathlib.Core.Bool.{Bool, true, false, not, _||_, true≢false}
 use native.Mathlib.Omega.{arith}
 use lib.ListN.{length}
 use lib.Dec.{eqb}
 use borrow.Author.Tests.{eqb-true, eqb-false, not-true}
 use Rattle.grammar.specs.Tree.{Block, RuleOf}
-use Rattle.grammar.specs.Ids.{member}
-use Rattle.grammar.specs.Lists.{keep, rounds}
+use Rattle.grammar.specs.Lists.{each, member, keep, rounds}
 use Rattle.grammar.specs.Laws.Parse.{either}
-use Rattle.reference.specs.Analysis.{Grammar}
+use Rattle.reference.specs.Analysis.{Grammar, collectCallsInElements, collectCallsInto}
 use Rattle.reference.specs.Substitute.{Planned}
 use Rattle.reference.specs.Plan.{callsKept, removableRound, removableSatellites}
-use Rattle.laws.specs.Lists.Members.{in-keep}
-use Rattle.laws.specs.Lists.Lookup.{keep-short, keep-all}
+use Rattle.grammar.specs.Laws.Lists.{member-in}
+use Rattle.graph.specs.Members.{in-keep, keep-in, each-in, in-each}
+use Rattle.laws.specs.Lists.Lookup.{not-in, keep-short, keep-all}
 
 nothing-left : {A : Type 0} (xs : List A) → length xs ≤ 0 → xs ≡ []
 nothing-left [] h = refl
@@ -34,13 +35,28 @@ module _ (round : List ℕ → List ℕ) (shrinks : (xs : List ℕ) → length (
       (λ t. rw (t, rounds) (eqb-true (length (round xs)) (length xs) t))
       (λ f. rw (f, rounds) (rounds-end n (round xs) (omega (arith, eqb-false (length (round xs)) (length xs) f))))
 
-  pub rounds-within : ((xs : List ℕ) (x : ℕ) → List·Memᴰ x (round xs) → List·Memᴰ x xs) → (n : ℕ) (xs : List ℕ) {x : ℕ} → List·Memᴰ x (rounds round n xs) → List·Memᴰ x xs
+  pub rounds-within : ((xs : List ℕ) (x : ℕ) → List·Memᴰ x (round xs) → List·Memᴰ x xs) → (n : ℕ) (xs : List ℕ) {x : ℕ}
+      → List·Memᴰ x (rounds round n xs) → List·Memᴰ x xs
   unfolding rounds
   rounds-within w zero xs m = m
   rounds-within w (suc n) xs {x} m =
       either (eqb (length (round xs)) (length xs))
       (λ t. rw (t, rounds) at m)
       (λ f. w xs x (rounds-within w n (round xs) (rw (f, rounds) at m)))
+
+-- What each round keeps stays.
+rounds-above : (round : List ℕ → List ℕ) (ys : List ℕ)
+    → ((xs : List ℕ) → ((i : ℕ) → List·Memᴰ i ys → List·Memᴰ i xs) → (i : ℕ) → List·Memᴰ i ys → List·Memᴰ i (round xs))
+    → (n : ℕ) (xs : List ℕ) → ((i : ℕ) → List·Memᴰ i ys → List·Memᴰ i xs) → (i : ℕ) → List·Memᴰ i ys → List·Memᴰ i (rounds round n xs)
+unfolding rounds
+rounds-above round ys h zero xs w i m = w i m
+rounds-above round ys h (suc n) xs w i m =
+    either (eqb (length (round xs)) (length xs)) (λ t. rw (t, rounds) (w i m))
+    (λ f. rw (f, rounds) (rounds-above round ys h n (round xs) (h xs w) i m))
+
+pub or-false : (a b : Bool) → (a || b) ≡ false → (a ≡ false) × (b ≡ false)
+or-false true b e = absurd (true≢false e)
+or-false false b e = (refl, e)
 
 module _ (g : Grammar) (d : ℕ) (rs : List (RuleOf (Block (suc d)))) (hub : ℕ) (ps : List (Planned d)) (cycle preserved : List ℕ) where
   abbrev gone : List ℕ
@@ -59,13 +75,51 @@ module _ (g : Grammar) (d : ℕ) (rs : List (RuleOf (Block (suc d)))) (hub : ℕ
   unfolding removableSatellites removableRound
   removable-uncalled {i} m =
       let start = keep (λ i. not (eqb i hub || member i preserved)) cycle in
-      let e = rounds-end (removableRound g d rs hub ps) round-shrinks (length cycle) start (keep-short (λ i. not (eqb i hub || member i preserved)) cycle) in
+      let e =
+      rounds-end (removableRound g d rs hub ps) round-shrinks (length cycle) start
+      (keep-short (λ i. not (eqb i hub || member i preserved)) cycle) in
       not-true _ (keep-all (λ i. not (member i (callsKept g d rs hub ps gone))) gone e m)
 
   -- It is a member of the cycle, not the hub and not preserved.
   pub removable-satellite : {i : ℕ} → List·Memᴰ i gone → List·Memᴰ i cycle × ((eqb i hub || member i preserved) ≡ false)
   unfolding removableSatellites
   removable-satellite {i} m =
-      let r = rounds-within (removableRound g d rs hub ps) round-shrinks round-within (length cycle) (keep (λ i. not (eqb i hub || member i preserved)) cycle) m in
+      let r =
+      rounds-within (removableRound g d rs hub ps) round-shrinks round-within (length cycle)
+      (keep (λ i. not (eqb i hub || member i preserved)) cycle) m in
       let k = in-keep (λ i. not (eqb i hub || member i preserved)) cycle r in
       (k .0, not-true (eqb i hub || member i preserved) (k .1))
+
+  -- It is the most: a set of such members that no rule outside the set calls is removable.
+  pub calls-fewer : {xs ys : List ℕ} → ((i : ℕ) → List·Memᴰ i xs → List·Memᴰ i ys) → {i : ℕ} → List·Memᴰ i (callsKept g d rs hub ps ys)
+      → List·Memᴰ i (callsKept g d rs hub ps xs)
+  unfolding callsKept
+  calls-fewer {xs} {ys} h {i} m =
+      ⊎-elim (λ n. Memᴰ·append-left (each (λ r. collectCallsInto g (suc d) (r .body)) (keep (stays xs) rs)) n)
+      (λ n.
+      let (r, k, c) = each-in (λ r. collectCallsInto g (suc d) (r .body)) (keep (stays ys) rs) n in
+      let (there, t) = in-keep (stays ys) rs k in
+      Memᴰ·append-right (each (λ p. collectCallsInElements g d (p .elements)) ps)
+      (in-each (λ r. collectCallsInto g (suc d) (r .body)) (keep-in (stays xs) there (fewer r (not-true _ t))) c))
+      (List·Memᴰ·append-cases (each (λ p. collectCallsInElements g d (p .elements)) ps) m)
+    where
+      stays : List ℕ → RuleOf (Block (suc d)) → Bool
+      stays zs r = not (member (r .id) zs || eqb (r .id) hub)
+
+      fewer : (r : RuleOf (Block (suc d))) → (member (r .id) ys || eqb (r .id) hub) ≡ false → stays xs r ≡ true
+      fewer r f =
+          let (a, b) = or-false (member (r .id) ys) (eqb (r .id) hub) f in
+          let c = either (member (r .id) xs) (λ t. absurd (not-in (r .id) ys a (h (r .id) (member-in xs t)))) (λ n. n) in
+          ap not (ap (λ z. z || eqb (r .id) hub) c ∙ b)
+
+  pub removable-most : (xs : List ℕ) → ((i : ℕ) → List·Memᴰ i xs → List·Memᴰ i cycle × ((eqb i hub || member i preserved) ≡ false))
+      → ((i : ℕ) → List·Memᴰ i xs → List·Memᴰ i (callsKept g d rs hub ps xs) → ⊥) → (i : ℕ) → List·Memᴰ i xs → List·Memᴰ i gone
+  unfolding removableSatellites removableRound
+  removable-most xs h u =
+      rounds-above (removableRound g d rs hub ps) xs
+      (λ ys w i m.
+      keep-in (λ i. not (member i (callsKept g d rs hub ps ys))) (w i m)
+      (ap not (either (member i (callsKept g d rs hub ps ys))
+      (λ t. absurd (u i m (calls-fewer w (member-in (callsKept g d rs hub ps ys) t)))) (λ n. n))))
+      (length cycle) (keep (λ i. not (eqb i hub || member i preserved)) cycle)
+      (λ i m. let (c, f) = h i m in keep-in (λ i. not (eqb i hub || member i preserved)) c (ap not f))

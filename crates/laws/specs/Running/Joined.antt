@@ -1,6 +1,6 @@
 -- The shape of a joined rule: what plannedHubIsDirectlyRewritable tests before a plan holds of what the plan leaves.
 use Prim.Native.Nat.{ℕ, suc}
-use mathlib.Core.Path.{_≡_, refl, sym, ap, ap₂, _∙_, subst, subst₂}
+use mathlib.Core.Path.{_≡_, refl, sym, ap, _∙_, subst, subst₂}
 use mathlib.Core.Logic.{_⊎_, inl, inr, ⊎-map}
 use mathlib.Core.List.{List, [], _∷_, List·Memᴰ, List·Memᴰ·head, List·Memᴰ·tail, Memᴰ·of-map}
 use mathlib.Core.Option.{Option, none, some, Option·some-injective, Option·none-ne-some}
@@ -9,21 +9,23 @@ use native.Mathlib.Omega.{arith}
 use lib.ListN.{drop}
 use lib.Dec.{eqb}
 use borrow.Author.Tests.{eqb-true, not-true, not-false}
-use Rattle.grammar.specs.Tree.{ElementHead, epsilon, action, predicate, call, token, terminal, Element, leaf, block, AlternativeOf, Block, RuleOf, Counters}
-use Rattle.grammar.specs.Ids.{member}
-use Rattle.grammar.specs.Valid.{all}
-use Rattle.grammar.specs.Lists.{any, meet}
-use Rattle.grammar.specs.Shape.{eraseBlock, eraseRules, EachCall}
-use Rattle.grammar.specs.Derive.{CanBeEmpty}
-use Rattle.grammar.specs.Corners.{Corners, Corner}
+use Rattle.grammar.specs.Laws.Lists.{member-in, in-map}
+use Rattle.grammar.specs.Tree.{ElementHead, Call, epsilon, action, predicate, call, token, terminal, Element, leaf, block, AlternativeOf}
+use Rattle.grammar.specs.Tree.{Block, RuleOf, Counters}
+use Rattle.grammar.specs.Lists.{member, all, any, meet}
+use Rattle.language.specs.Shape.{eraseBlock, eraseRules, EachCall}
+use Rattle.language.specs.Derive.{CanBeEmpty}
+use Rattle.grammar.specs.Corners.{Corners}
+use Rattle.language.specs.LeftCorners.{Corner}
 use Rattle.grammar.specs.Laws.Parse.{left-true, right-true, either}
-use Rattle.grammar.specs.Laws.Derive.Copies.{changeElement, dropIds, copies-shape}
-use Rattle.grammar.specs.Laws.Derive.Rules.{in-map}
+use Rattle.grammar.specs.Numbers.{once}
+use Rattle.language.specs.Laws.Copies.{changeElement, dropIds, copies-shape}
 use Rattle.reference.specs.Walks.{sortOf, isEpsilonOnly, isOne}
 use Rattle.reference.specs.Analysis.{Grammar, target, grammarOf, elementNullable, blockIsNullable, leftCorners}
 use Rattle.reference.specs.Substitute.{Planned}
-use Rattle.reference.specs.Plan.{CyclePlan, hubCall, isHubCall, givesHubArguments, startsWithHubCall, isRecursive, isPrimary, isFit, plannedHubIsDirectlyRewritable}
-use Rattle.laws.specs.Lists.Members.{member-in, one-with}
+use Rattle.reference.specs.Plan.{CyclePlan, hubCall, isHubCall, givesHubArguments, startsWithHubCall, isRecursive, isPrimary, isFit}
+use Rattle.reference.specs.Plan.{plannedHubIsDirectlyRewritable}
+use Rattle.graph.specs.Members.{one-with}
 use Rattle.laws.specs.Lists.Lookup.{all-in, any-in, any-false, target-rule}
 use Rattle.laws.specs.Analysis.Empty.{elements-empty}
 use Rattle.laws.specs.Analysis.LeftCorners.{left-corners}
@@ -35,65 +37,73 @@ use Rattle.laws.specs.Planning.OnePlan.{gone, rulesLeft, newBody, left-s
 
 -- A call of the hub with quantifier 0.
 module _ (g : Grammar) (hub : ℕ) {B : Type 0} where
-  pub record HubCall (e : Element B) (a : ℕ) : Type 0 where
+  pub record HubCall (e : Element B) (c : Call) : Type 0 where
     pub head : ElementHead
-    pub name : ℕ
-    pub is : e ≡ leaf head (call name a)
-    pub known : target g name ≡ some hub
-    pub plain : head .quantifier ≡ 0
+    pub is : e ≡ leaf head (call c)
+    pub known : target g (c .name) ≡ some hub
+    pub plain : head .quantifier ≡ once
 
-  hub-tested : (h : ElementHead) (n a : ℕ) (o : Option ℕ) → target g n ≡ o → {b : ℕ}
-      → (elim o as (λ x. Option ℕ) [ none ↦ none | some t ↦ elim (isOne h && eqb t hub) [ true ↦ some a | false ↦ none ] ]) ≡ some b
-      → HubCall (leaf h (call n a)) b
-  hub-tested h n a none k {b} e = absurd (Option·none-ne-some b e)
-  hub-tested h n a (some t) k {b} e =
+  hub-tested : (h : ElementHead) (c : Call) (o : Option ℕ) → target g (c .name) ≡ o → {b : Call}
+      → (elim o as (λ x. Option Call) [ none ↦ none | some t ↦ elim (isOne h && eqb t hub) [ true ↦ some c | false ↦ none ] ]) ≡ some b
+      → HubCall (leaf h (call c)) b
+  hub-tested h c none k {b} e = absurd (Option·none-ne-some b e)
+  hub-tested h c (some t) k {b} e =
       either (isOne h && eqb t hub)
       (λ y.
-      let p : a ≡ b = Option·some-injective a b (rw y at e) in
-      record { head = h; name = n; is = ap (λ a. leaf h (call n a)) p; known = k ∙ ap some (eqb-true t hub (right-true (isOne h) (eqb t hub) y)); plain = eqb-true (h .quantifier) 0 (left-true (isOne h) (eqb t hub) y) })
+      subst (HubCall (leaf h (call c))) (Option·some-injective c b (rw y at e))
+      (record {
+        head = h;
+        is = refl;
+        known = k ∙ ap some (eqb-true t hub (right-true (isOne h) (eqb t hub) y));
+        plain = eqb-true (h .quantifier) once (left-true (isOne h) (eqb t hub) y);
+      }))
       (λ f. absurd (Option·none-ne-some b (rw f at e)))
 
-  hub-call : (e : Element B) {a : ℕ} → hubCall g hub e ≡ some a → HubCall e a
+  hub-call : (e : Element B) {c : Call} → hubCall g hub e ≡ some c → HubCall e c
   unfolding hubCall sortOf
-  hub-call (leaf h epsilon) {a} e = absurd (Option·none-ne-some a e)
-  hub-call (leaf h (action i rs)) {a} e = absurd (Option·none-ne-some a e)
-  hub-call (leaf h (predicate i rs)) {a} e = absurd (Option·none-ne-some a e)
-  hub-call (leaf h (call n b)) e = hub-tested h n b (target g n) refl e
-  hub-call (leaf h (token n)) {a} e = absurd (Option·none-ne-some a e)
-  hub-call (leaf h terminal) {a} e = absurd (Option·none-ne-some a e)
-  hub-call (block h b) {a} e = absurd (Option·none-ne-some a e)
+  hub-call (leaf h epsilon) {c} e = absurd (Option·none-ne-some c e)
+  hub-call (leaf h (action a)) {c} e = absurd (Option·none-ne-some c e)
+  hub-call (leaf h (predicate p)) {c} e = absurd (Option·none-ne-some c e)
+  hub-call (leaf h (call k)) e = hub-tested h k (target g (k .name)) refl e
+  hub-call (leaf h (token n)) {c} e = absurd (Option·none-ne-some c e)
+  hub-call (leaf h terminal) {c} e = absurd (Option·none-ne-some c e)
+  hub-call (block h b) {c} e = absurd (Option·none-ne-some c e)
 
   -- The first element is such a call, and no such call has arguments.
   pub hub-starts : (es : List (Element B)) → startsWithHubCall g hub es ≡ true → any (givesHubArguments g hub) es ≡ false
-      → (e : Element B) × (rest : List (Element B)) × (es ≡ e ∷ rest) × HubCall e 0
+      → (e : Element B) × (rest : List (Element B)) × (es ≡ e ∷ rest) × (c : Call) × HubCall e c × (c .arguments ≡ 0)
   unfolding startsWithHubCall isHubCall givesHubArguments any
   hub-starts [] t f = absurd (false≢true t)
-  hub-starts (e ∷ rest) t f = (e, rest, refl, go (hubCall g hub e) refl t (any-false (givesHubArguments g hub) f (List·Memᴰ·head {xs = rest} refl)))
+  hub-starts (e ∷ rest) t f =
+      let (c, h, n) = go (hubCall g hub e) refl t (any-false (givesHubArguments g hub) f (List·Memᴰ·head {xs = rest} refl)) in
+      (e, rest, refl, c, h, n)
     where
-      go : (o : Option ℕ) → hubCall g hub e ≡ o → (elim o as (λ x. Bool) [ none ↦ false | some a ↦ true ]) ≡ true
-          → (elim o as (λ x. Bool) [ none ↦ false | some a ↦ not (eqb a 0) ]) ≡ false → HubCall e 0
+      go : (o : Option Call) → hubCall g hub e ≡ o → (elim o as (λ x. Bool) [ none ↦ false | some c ↦ true ]) ≡ true
+          → (elim o as (λ x. Bool) [ none ↦ false | some c ↦ not (eqb (c .arguments) 0) ]) ≡ false
+          → (c : Call) × HubCall e c × (c .arguments ≡ 0)
       go none k t f = absurd (false≢true t)
-      go (some a) k t f = hub-call e (k ∙ ap some (eqb-true a 0 (not-false (eqb a 0) f)))
+      go (some c) k t f = (c, hub-call e k, eqb-true (c .arguments) 0 (not-false (eqb (c .arguments) 0) f))
 
 -- Two lists alike but for ids: how one starts, the other does.
-copy-starts : (d : ℕ) (es : Items d) (h : ElementHead) (n a : ℕ) (rest : Items d) → idless d es ≡ idless d (leaf h (call n a) ∷ rest)
-    → (h′ : ElementHead) × (rest′ : Items d) × (es ≡ leaf h′ (call n a) ∷ rest′) × (h′ .quantifier ≡ h .quantifier) × (idless d rest′ ≡ idless d rest)
+copy-starts : (d : ℕ) (es : Items d) (h : ElementHead) (c : Call) (rest : Items d) → idless d es ≡ idless d (leaf h (call c) ∷ rest)
+    → (h′ : ElementHead) × (rest′ : Items d) × (es ≡ leaf h′ (call c) ∷ rest′) × (h′ .quantifier ≡ h .quantifier)
+    × (idless d rest′ ≡ idless d rest)
 unfolding changeElement
-copy-starts d [] h n a rest e = absurd (let z : _≡_ {A = ℕ} 0 1 = cc in omega arith)
-copy-starts d (leaf h′ (call m b) ∷ es) h n a rest e =
-    let p : m ≡ n = cc in
-    let q : b ≡ a = cc in
+copy-starts d [] h c rest e = absurd (let z : _≡_ {A = ℕ} 0 1 = cc in omega arith)
+copy-starts d (leaf h′ (call k) ∷ es) h c rest e =
+    let p : k ≡ c = cc in
     let r : dropIds .onHead h′ ≡ dropIds .onHead h = cc in
-    (h′, es, ap₂ (λ m b. leaf h′ (call m b) ∷ es) p q, ap (λ h. h .quantifier) r, cc)
-copy-starts d (leaf h′ epsilon ∷ es) h n a rest e = absurd (let z : _≡_ {A = ℕ} 0 1 = cc in omega arith)
-copy-starts d (leaf h′ (action i rs) ∷ es) h n a rest e = absurd (let z : _≡_ {A = ℕ} 0 1 = cc in omega arith)
-copy-starts d (leaf h′ (predicate i rs) ∷ es) h n a rest e = absurd (let z : _≡_ {A = ℕ} 0 1 = cc in omega arith)
-copy-starts d (leaf h′ (token m) ∷ es) h n a rest e = absurd (let z : _≡_ {A = ℕ} 0 1 = cc in omega arith)
-copy-starts d (leaf h′ terminal ∷ es) h n a rest e = absurd (let z : _≡_ {A = ℕ} 0 1 = cc in omega arith)
-copy-starts d (block h′ b ∷ es) h n a rest e = absurd (let z : _≡_ {A = ℕ} 0 1 = cc in omega arith)
+    (h′, es, ap (λ k. leaf h′ (call k) ∷ es) p, ap (λ h. h .quantifier) r, cc)
+copy-starts d (leaf h′ epsilon ∷ es) h c rest e = absurd (let z : _≡_ {A = ℕ} 0 1 = cc in omega arith)
+copy-starts d (leaf h′ (action a) ∷ es) h c rest e = absurd (let z : _≡_ {A = ℕ} 0 1 = cc in omega arith)
+copy-starts d (leaf h′ (predicate p) ∷ es) h c rest e = absurd (let z : _≡_ {A = ℕ} 0 1 = cc in omega arith)
+copy-starts d (leaf h′ (token m) ∷ es) h c rest e = absurd (let z : _≡_ {A = ℕ} 0 1 = cc in omega arith)
+copy-starts d (leaf h′ terminal ∷ es) h c rest e = absurd (let z : _≡_ {A = ℕ} 0 1 = cc in omega arith)
+copy-starts d (block h′ b ∷ es) h c rest e = absurd (let z : _≡_ {A = ℕ} 0 1 = cc in omega arith)
 
 -- What each alternative of a body calls has a property.
-pub each-alternative : (P : ℕ → Type 0) (d : ℕ) {as′ : Block (suc d)} → EachCall P (eraseBlock (suc d) as′) → {a : AlternativeOf (Block d)} → List·Memᴰ a as′
+pub each-alternative : (P : ℕ → Type 0) (d : ℕ) {as′ : Block (suc d)} → EachCall P (eraseBlock (suc d) as′)
+    → {a : AlternativeOf (Block d)} → List·Memᴰ a as′
     → EachCall P (shapeOf d (a .elements))
 unfolding eraseBlock
 each-alternative P d p (List·Memᴰ·head e) = subst (λ a. EachCall P (shapeOf d (a .elements))) (sym e) (p .0)
@@ -103,16 +113,22 @@ module _ (d : ℕ) (G : List (RuleOf (Block (suc d)))) where
   -- It starts with the plain call of a rule, without arguments, and goes on with something that cannot be empty.
   pub record Recursive (name : ℕ) (es : Items d) : Type 0 where
     pub head : ElementHead
+    pub site : Call
     pub rest : Items d
-    pub starts : es ≡ leaf head (call name 0) ∷ rest
-    pub plain : head .quantifier ≡ 0
+    pub starts : es ≡ leaf head (call site) ∷ rest
+    pub called : site .name ≡ name
+    pub plain : head .quantifier ≡ once
+    pub bare : site .arguments ≡ 0
     pub goesOn : CanBeEmpty (eraseRules (suc d) G) (shapeOf d rest) → ⊥
 
   -- It has no left corner in the cycle.
   abbrev pub Primary : Corners → List ℕ → Items d → Type 0
-  Primary c cycle es = (q : RuleOf (Block (suc d))) → List·Memᴰ q G → member (q .id) cycle ≡ true → Corner c (eraseRules (suc d) G) (shapeOf d es) (q .name) → ⊥
+  Primary c cycle es =
+      (q : RuleOf (Block (suc d))) → List·Memᴰ q G → member (q .id) cycle ≡ true
+      → Corner c (eraseRules (suc d) G) (shapeOf d es) (q .name) → ⊥
 
-module _ {c : Corners} {d : ℕ} {rs : List (RuleOf (Block (suc d)))} (k : Known (suc d) rs (grammarOf (suc d) rs)) {preserved cycle : List ℕ} {plan : CyclePlan d}
+module _ {c : Corners} {d : ℕ} {rs : List (RuleOf (Block (suc d)))} (k : Known (suc d) rs (grammarOf (suc d) rs))
+    {preserved cycle : List ℕ} {plan : CyclePlan d}
     (x : Made c d rs (grammarOf (suc d) rs) preserved cycle plan) (counters : Counters) where
   abbrev g : Grammar
   g = grammarOf (suc d) rs
@@ -130,21 +146,24 @@ module _ {c : Corners} {d : ℕ} {rs : List (RuleOf (Block (suc d)))} (k : Known
       right-false true b e = absurd (true≢false e)
       right-false false b e = e
 
-  recursive-before : (es : Items d) → isRecursive g (x .hub .id) d es ≡ true → any (givesHubArguments g (x .hub .id)) es ≡ false → Recursive d rs (x .hub .name) es
+  recursive-before : (es : Items d) → isRecursive g (x .hub .id) d es ≡ true → any (givesHubArguments g (x .hub .id)) es ≡ false
+      → Recursive d rs (x .hub .name) es
   unfolding isRecursive
   recursive-before es t f =
       let tail = all (elementNullable g (blockIsNullable g d)) (drop 1 es) in
       let a = left-true (startsWithHubCall g (x .hub .id) es) (not tail) t in
       let b = not-true tail (right-true (startsWithHubCall g (x .hub .id) es) (not tail) t) in
-      let (e, rest, w, h) = hub-starts g (x .hub .id) es a f in
-      let r = target-rule rs g (k .named) (h .name) (h .known) in
+      let (e, rest, w, site, h, bare) = hub-starts g (x .hub .id) es a f in
+      let r = target-rule rs g (k .named) (site .name) (h .known) in
       let same = one-with (λ r. r .id) rs (k .ids) (r .1) (x .isRule) (r .3) in
-      let name : h .name ≡ x .hub .name = sym (r .2) ∙ ap (λ r. r .name) same in
       record {
         head = h .head;
+        site = site;
         rest = rest;
-        starts = w ∙ ap (λ y. y ∷ rest) (h .is ∙ ap (λ n. leaf (h .head) (call n 0)) name);
+        starts = w ∙ ap (λ y. y ∷ rest) (h .is);
+        called = sym (r .2) ∙ ap (λ r. r .name) same;
         plain = h .plain;
+        bare = bare;
         goesOn = λ o.
             true≢false
             (sym (elements-empty (suc d) rs (k .ids) (k .names) d rest .1 o)
@@ -154,22 +173,29 @@ module _ {c : Corners} {d : ℕ} {rs : List (RuleOf (Block (suc d)))} (k : Known
   without-arguments : (p : Planned d) → List·Memᴰ p (plan .alternatives) → any (givesHubArguments g (x .hub .id)) (p .elements) ≡ false
   unfolding plannedHubIsDirectlyRewritable isFit
   without-arguments p m =
-      let fit = all-in (λ p. isFit c g cycle (x .hub .id) d (p .elements)) (left-true (all (λ p. isFit c g cycle (x .hub .id) d (p .elements)) (plan .alternatives)) _ (x .isFit)) m in
-      left-false _ _ (not-true (any (givesHubArguments g (x .hub .id)) (p .elements) || all isEpsilonOnly (p .elements)) (left-true _ _ fit))
+      let fit =
+      all-in (λ p. isFit c g cycle (x .hub .id) d (p .elements))
+      (left-true (all (λ p. isFit c g cycle (x .hub .id) d (p .elements)) (plan .alternatives)) _ (x .isFit)) m in
+      left-false _ _ (not-true (any (givesHubArguments g (x .hub .id)) (p .elements) || all isEpsilonOnly (p .elements))
+      (left-true _ _ fit))
     where
       left-false : (a b : Bool) → (a || b) ≡ false → a ≡ false
       left-false true b e = e
       left-false false b e = refl
 
   -- Every planned alternative is of one sort or the other.
-  sorts-before : (p : Planned d) → List·Memᴰ p (plan .alternatives) → Recursive d rs (x .hub .name) (p .elements) ⊎ Primary d rs c cycle (p .elements)
+  sorts-before : (p : Planned d) → List·Memᴰ p (plan .alternatives)
+      → Recursive d rs (x .hub .name) (p .elements) ⊎ Primary d rs c cycle (p .elements)
   unfolding plannedHubIsDirectlyRewritable isFit
   sorts-before p m =
       let es = p .elements in
-      let fit = all-in (λ p. isFit c g cycle (x .hub .id) d (p .elements)) (left-true (all (λ p. isFit c g cycle (x .hub .id) d (p .elements)) (plan .alternatives)) _ (x .isFit)) m in
+      let fit =
+      all-in (λ p. isFit c g cycle (x .hub .id) d (p .elements))
+      (left-true (all (λ p. isFit c g cycle (x .hub .id) d (p .elements)) (plan .alternatives)) _ (x .isFit)) m in
       either (isPrimary c g cycle (x .hub .id) d es)
       (λ y. inr (primary-before es y))
-      (λ n. inl (recursive-before es (or-right n (right-true (not (any (givesHubArguments g (x .hub .id)) es || all isEpsilonOnly es)) _ fit)) (without-arguments p m)))
+      (λ n. inl (recursive-before es (or-right n
+      (right-true (not (any (givesHubArguments g (x .hub .id)) es || all isEpsilonOnly es)) _ fit)) (without-arguments p m)))
     where
       or-right : {a b : Bool} → a ≡ false → (a || b) ≡ true → b ≡ true
       or-right {a} {b} n e = rw n at e
@@ -185,23 +211,29 @@ module _ {c : Corners} {d : ℕ} {rs : List (RuleOf (Block (suc d)))} (k : Known
   unfolding plannedHubIsDirectlyRewritable
   one-recursive =
       let both = right-true (all (λ p. isFit c g cycle (x .hub .id) d (p .elements)) (plan .alternatives)) _ (x .isFit) in
-      let (p, m, t) = any-in (λ p. isRecursive g (x .hub .id) d (p .elements)) (plan .alternatives) (right-true (any (λ p. isPrimary c g cycle (x .hub .id) d (p .elements)) (plan .alternatives)) _ both) in
+      let (p, m, t) =
+      any-in (λ p. isRecursive g (x .hub .id) d (p .elements)) (plan .alternatives)
+      (right-true (any (λ p. isPrimary c g cycle (x .hub .id) d (p .elements)) (plan .alternatives)) _ both) in
       (p, m, recursive-before (p .elements) t (without-arguments p m))
 
   -- After the plan: each alternative has a planned one, and each planned one an alternative.
   abbrev Copies : AlternativeOf (Block d) → Planned d → Type 0
   Copies a p = idless d (a .elements) ≡ idless d (p .elements)
 
-  planned-of : {a : AlternativeOf (Block d)} → List·Memᴰ a (newBody k x counters) → (p : Planned d) × List·Memᴰ p (plan .alternatives) × Copies a p
+  planned-of : {a : AlternativeOf (Block d)} → List·Memᴰ a (newBody k x counters)
+      → (p : Planned d) × List·Memᴰ p (plan .alternatives) × Copies a p
   planned-of {a} m =
       let (p, n, e) = Memᴰ·of-map (λ p. idless d (p .elements)) (plan .alternatives)
-      (subst (List·Memᴰ (idless d (a .elements))) (applied-copies d (plan .alternatives) counters) (in-map (λ a. idless d (a .elements)) m)) in
+      (subst (List·Memᴰ (idless d (a .elements))) (applied-copies d (plan .alternatives) counters)
+      (in-map (λ a. idless d (a .elements)) m)) in
       (p, n, sym e)
 
-  of-planned : {p : Planned d} → List·Memᴰ p (plan .alternatives) → (a : AlternativeOf (Block d)) × List·Memᴰ a (newBody k x counters) × Copies a p
+  of-planned : {p : Planned d} → List·Memᴰ p (plan .alternatives)
+      → (a : AlternativeOf (Block d)) × List·Memᴰ a (newBody k x counters) × Copies a p
   of-planned {p} m =
       Memᴰ·of-map (λ a. idless d (a .elements)) (newBody k x counters)
-      (subst (List·Memᴰ (idless d (p .elements))) (sym (applied-copies d (plan .alternatives) counters)) (in-map (λ p. idless d (p .elements)) m))
+      (subst (List·Memᴰ (idless d (p .elements))) (sym (applied-copies d (plan .alternatives) counters))
+      (in-map (λ p. idless d (p .elements)) m))
 
   module _ {a : AlternativeOf (Block d)} (m : List·Memᴰ a (newBody k x counters)) (p : Planned d) (e : Copies a p) where
     stays : EachCall (λ n. gone k x counters n ≡ false) (shapeOf d (a .elements))
@@ -216,14 +248,20 @@ module _ {c : Corners} {d : ℕ} {rs : List (RuleOf (Block (suc d)))} (k : Known
 
     recursive-after : Recursive d rs (x .hub .name) (p .elements) → Recursive d (rulesLeft k x counters) (x .hub .name) (a .elements)
     recursive-after h =
-        let (head, rest, w, q, r) = copy-starts d (a .elements) (h .head) (x .hub .name) 0 (h .rest) (e ∙ ap (idless d) (h .starts)) in
-        let u : EachCall (λ n. gone k x counters n ≡ false) (shapeOf d (leaf head (call (x .hub .name) 0) ∷ rest)) = subst (λ l. EachCall (λ n. gone k x counters n ≡ false) (shapeOf d l)) w stays in
+        let (head, rest, w, q, r) = copy-starts d (a .elements) (h .head) (h .site) (h .rest) (e ∙ ap (idless d) (h .starts)) in
+        let u : EachCall (λ n. gone k x counters n ≡ false) (shapeOf d (leaf head (call (h .site)) ∷ rest)) =
+        subst (λ l. EachCall (λ n. gone k x counters n ≡ false) (shapeOf d l)) w stays in
         record {
           head = head;
+          site = h .site;
           rest = rest;
           starts = w;
+          called = h .called;
           plain = q ∙ h .plain;
-          goesOn = λ o. h .goesOn (subst (CanBeEmpty (eraseRules (suc d) rs)) (copies-shape d rest (h .rest) r) (left-same k x counters (shapeOf d rest) (u .1) .back [] o));
+          bare = h .bare;
+          goesOn =
+              λ o. h .goesOn (subst (CanBeEmpty (eraseRules (suc d) rs)) (copies-shape d rest (h .rest) r)
+              (left-same k x counters (shapeOf d rest) (u .1) .back [] o));
         }
 
   pub sorts-after : (a : AlternativeOf (Block d)) → List·Memᴰ a (newBody k x counters)
@@ -232,13 +270,15 @@ module _ {c : Corners} {d : ℕ} {rs : List (RuleOf (Block (suc d)))} (k : Known
       let (p, n, e) = planned-of m in
       ⊎-map (recursive-after m p e) (primary-after m p e) (sorts-before p n)
 
-  pub recursive-one : (a : AlternativeOf (Block d)) × List·Memᴰ a (newBody k x counters) × Recursive d (rulesLeft k x counters) (x .hub .name) (a .elements)
+  pub recursive-one : (a : AlternativeOf (Block d)) × List·Memᴰ a (newBody k x counters)
+      × Recursive d (rulesLeft k x counters) (x .hub .name) (a .elements)
   recursive-one =
       let (p, n, h) = one-recursive in
       let (a, m, e) = of-planned n in
       (a, m, recursive-after m p e h)
 
-  pub primary-one : (a : AlternativeOf (Block d)) × List·Memᴰ a (newBody k x counters) × Primary d (rulesLeft k x counters) c cycle (a .elements)
+  pub primary-one : (a : AlternativeOf (Block d)) × List·Memᴰ a (newBody k x counters)
+      × Primary d (rulesLeft k x counters) c cycle (a .elements)
   primary-one =
       let (p, n, h) = one-primary in
       let (a, m, e) = of-planned n in

@@ -2,28 +2,31 @@
 use Prim.Native.Nat.{ℕ, suc}
 use mathlib.Core.Path.{_≡_, refl, sym, ap, _∙_, subst, subst₂}
 use mathlib.Core.Logic.{⊎-elim}
-use mathlib.Core.List.{List, [], _∷_, _++_, map, List·Memᴰ, List·Memᴰ·head, List·Memᴰ·tail, List·Memᴰ·not-nil, List·Memᴰ·cases-cons, Memᴰ·of-map}
+use mathlib.Core.List.{List, [], _∷_, _++_, map, List·Memᴰ, List·Memᴰ·head, List·Memᴰ·tail, List·Memᴰ·not-nil, List·Memᴰ·cases-cons}
+use mathlib.Core.List.{Memᴰ·of-map}
 use mathlib.Core.Option.{some, Option·some-injective}
 use mathlib.Core.Bool.{true, not, false≢true}
 use native.Mathlib.Omega.{arith}
-use Rattle.grammar.specs.Lists.{AllOf}
-use Rattle.grammar.specs.Tree.{ElementHead, call, Element, leaf, Block, RuleOf, Rule, bodyDepth}
-use Rattle.grammar.specs.Ids.{member, distinct}
-use Rattle.grammar.specs.Shape.{find, eraseBlock, eraseRules}
-use Rattle.grammar.specs.Corners.{Corners, Corner, Reaches}
+use Rattle.grammar.specs.Laws.Lists.{in-member, member-in, in-map}
+use Rattle.grammar.specs.Lists.{AllOf, member, distinct}
+use Rattle.grammar.specs.Tree.{ElementHead, Call, call, Element, leaf, Block, RuleOf, Rule, bodyDepth}
+use Rattle.language.specs.Shape.{find, eraseBlock, eraseRules}
+use Rattle.grammar.specs.Corners.{Corners}
+use Rattle.language.specs.LeftCorners.{Corner, Reaches}
 use Rattle.grammar.specs.Laws.Parse.{both-true, either}
-use Rattle.grammar.specs.Laws.Derive.Rules.{in-member, in-map, rule-found}
+use Rattle.language.specs.Laws.Rules.{rule-found}
 use Rattle.reference.specs.Walks.{sortOf, isEpsilonOnly}
 use Rattle.reference.specs.Analysis.{Grammar, idsOf, target, grammarOf}
 use Rattle.reference.specs.Substitute.{Limits}
 use Rattle.reference.specs.Run.{innerDepth, Stage}
-use Rattle.laws.specs.Demands.{Continues, NoCorner, JoinedShape}
-use Rattle.laws.specs.Lists.Members.{member-in, one-with}
+use Rattle.laws.specs.Demands.Step.{CornerAt}
+use Rattle.laws.specs.Demands.Shape.{Continues, NoCorner, JoinedShape}
+use Rattle.graph.specs.Members.{one-with}
 use Rattle.laws.specs.Lists.Lookup.{target-rule, rule-target}
 use Rattle.laws.specs.Analysis.Cycles.{cycles-exact}
-use Rattle.laws.specs.Planning.Turns.{CornerAt, Items, as-they-were, Turn, split, splice, Moved, here, later, Moves, still, onward}
+use Rattle.laws.specs.Planning.Turns.{Items, as-they-were, Turn, split, splice, Moved, here, later, Moves, still, onward}
 use Rattle.laws.specs.Planning.Substituted.{shapeOf}
-use Rattle.laws.specs.Running.Shrinks.{at-corner}
+use Rattle.laws.specs.Running.Skipped.{at-corner}
 use Rattle.laws.specs.Running.Leaves.{Told, Leaves, leaves-refl, leaves-trans}
 use Rattle.laws.specs.Running.Stages.{known, Happened, Chain, last, next, rulesAfter, stage-cycle, stage-made, stage-leaves}
 use Rattle.laws.specs.Running.OneStage.{stage-shape, stage-reaches, stage-stands}
@@ -31,7 +34,8 @@ use Rattle.laws.specs.Running.Later.{back-in-cycle}
 
 -- The first turn of a substitution that makes a step.
 module _ {d : ℕ} {rs : List (RuleOf (Block (suc d)))} {g : Grammar} {cycle : List ℕ} {hub : ℕ} where
-  moved-turn : {ps qs : List (Items d)} → Moved d rs g cycle hub ps qs → (es : Items d) × List·Memᴰ es ps × (news : List (Items d)) × Turn d rs g cycle hub es news
+  moved-turn : {ps qs : List (Items d)} → Moved d rs g cycle hub ps qs
+      → (es : Items d) × List·Memᴰ es ps × (news : List (Items d)) × Turn d rs g cycle hub es news
   moved-turn (here {es = es} {news = news} t) = (es, List·Memᴰ·head refl, news, t)
   moved-turn (later x) = let (es, m, news, t) = moved-turn x in (es, List·Memᴰ·tail m, news, t)
 
@@ -41,19 +45,21 @@ module _ {d : ℕ} {rs : List (RuleOf (Block (suc d)))} {g : Grammar} {cycle : L
   first-turn (onward x y) ne = moved-turn x
 
 -- A list that starts with a call has its corner there.
-corner-starts : {B : Type 0} {g : Grammar} {cycle : List ℕ} {es : List (Element B)} {i t : ℕ} (x : CornerAt g cycle es i t) (h : ElementHead) (n a : ℕ) (rest : List (Element B))
-    → es ≡ leaf h (call n a) ∷ rest → (x .head ≡ h) × (x .name ≡ n)
+corner-starts : {B : Type 0} {g : Grammar} {cycle : List ℕ} {es : List (Element B)} {i t : ℕ} (x : CornerAt g cycle es i t)
+    (h : ElementHead) (c : Call) (rest : List (Element B))
+    → es ≡ leaf h (call c) ∷ rest → (x .head ≡ h) × (x .site ≡ c)
 unfolding isEpsilonOnly sortOf
-corner-starts {B} x h n a rest e = go (x .front) (x .silent) (x .whole ∙ e)
+corner-starts {B} x h c rest e = go (x .front) (x .silent) (x .whole ∙ e)
   where
     go : (front : List (Element B)) → AllOf (λ e. isEpsilonOnly e ≡ true) front
-        → front ++ (leaf (x .head) (call (x .name) (x .arguments)) ∷ x .rest) ≡ leaf h (call n a) ∷ rest → (x .head ≡ h) × (x .name ≡ n)
+        → front ++ (leaf (x .head) (call (x .site)) ∷ x .rest) ≡ leaf h (call c) ∷ rest → (x .head ≡ h) × (x .site ≡ c)
     go [] s w = (cc, cc)
     go (f ∷ front) s w =
-        let p : f ≡ leaf h (call n a) = cc in
+        let p : f ≡ leaf h (call c) = cc in
         absurd (false≢true (sym (ap isEpsilonOnly p) ∙ s .0))
 
-module _ (limits : Limits) (corners : Corners) (preserved : List ℕ) {t : Stage} (told : Told (t .before)) (h : Happened limits corners preserved t) where
+module _ (limits : Limits) (corners : Corners) (preserved : List ℕ) {t : Stage} (told : Told (t .before))
+    (h : Happened limits corners preserved t) where
   abbrev after : List Rule
   after = t .after .node
 
@@ -80,43 +86,54 @@ module _ (limits : Limits) (corners : Corners) (preserved : List ℕ) {t : Stage
     hub-stands : stage-made limits corners preserved i .hub ≡ shape .rule
     hub-stands =
         let x = stage-made limits corners preserved i in
-        one-with (λ r. r .id) after (here-told .ids) (f .stands (x .hub) (x .isRule) (x .isHub ∙ same)) (shape .isLeft) (x .isHub ∙ same ∙ sym (shape .isHub))
+        one-with (λ r. r .id) after (here-told .ids) (f .stands (x .hub) (x .isRule) (x .isHub ∙ same)) (shape .isLeft)
+        (x .isHub ∙ same ∙ sym (shape .isHub))
 
     one-name : {q v : Rule} → List·Memᴰ q (u .before) → List·Memᴰ v (u .before) → q .id ≡ v .id → q .name ≡ v .name
     one-name w z e = ap (λ r. r .name) (one-with (λ r. r .id) (u .before) (here-known .ids) w z e)
 
     -- A corner in the later cycle is one in the cycle replaced.
     corner-back : {B : Type 0} {es : List (Element B)} {j k : ℕ} (y : CornerAt g (u .cycle) es j k)
-        → (p : Rule) × List·Memᴰ p after × (p .name ≡ y .name) × (member (p .id) (t .cycle) ≡ true)
+        → (p : Rule) × List·Memᴰ p after × (p .name ≡ y .site .name) × (member (p .id) (t .cycle) ≡ true)
     corner-back y =
-        let cyc = cycles-exact corners bodyDepth (u .before) (here-known .ids) (here-known .names) (u .cycle) .0 (stage-cycle limits corners preserved i) in
+        let cyc =
+        cycles-exact corners bodyDepth (u .before) (here-known .ids) (here-known .names) (u .cycle) .0
+        (stage-cycle limits corners preserved i) in
         let x = stage-made limits corners preserved i in
-        let (r, m, n, e) = target-rule (u .before) g (known (u .before) here-known .named) (y .name) (y .known) in
+        let (r, m, n, e) = target-rule (u .before) g (known (u .before) here-known .named) (y .site .name) (y .known) in
         let (p, o, pe, pn) = f .leaves .stems r m in
         let hub = in-member (x .inCycle) in
         let a = cyc .joined (x .hub .id) (r .id) hub (subst (λ k. member k (u .cycle) ≡ true) (sym e) (y .inCycle)) in
         let b = cyc .joined (r .id) (x .hub .id) (subst (λ k. member k (u .cycle) ≡ true) (sym e) (y .inCycle)) hub in
-        let there = subst₂ (Reaches corners (eraseRules bodyDepth (u .before))) (one-name (a .source-there) (x .isRule) (a .source-id) ∙ ap (λ r. r .name) hub-stands) (one-name (a .goal-there) m (a .goal-id) ∙ pn) (a .path) in
-        let back = subst₂ (Reaches corners (eraseRules bodyDepth (u .before))) (one-name (b .source-there) m (b .source-id) ∙ pn) (one-name (b .goal-there) (x .isRule) (b .goal-id) ∙ ap (λ r. r .name) hub-stands) (b .path) in
+        let there =
+        subst₂ (Reaches corners (eraseRules bodyDepth (u .before)))
+        (one-name (a .source-there) (x .isRule) (a .source-id) ∙ ap (λ r. r .name) hub-stands)
+        (one-name (a .goal-there) m (a .goal-id) ∙ pn) (a .path) in
+        let back =
+        subst₂ (Reaches corners (eraseRules bodyDepth (u .before))) (one-name (b .source-there) m (b .source-id) ∙ pn)
+        (one-name (b .goal-there) (x .isRule) (b .goal-id) ∙ ap (λ r. r .name) hub-stands) (b .path) in
         (p, o, sym pn ∙ n, back-in-cycle limits corners preserved told h p o (f .reach _ _ there) (f .reach _ _ back))
 
     -- Neither sort of alternative is in need of work.
-    none-continues : {es : Items innerDepth} {news : List (Items innerDepth)} → Turn innerDepth (u .before) g (u .cycle) (stage-made limits corners preserved i .hub .id) es news
+    none-continues : {es : Items innerDepth} {news : List (Items innerDepth)}
+        → Turn innerDepth (u .before) g (u .cycle) (stage-made limits corners preserved i .hub .id) es news
         → Continues after (shape .rule .name) es → ⊥
     none-continues (split x q) c =
-        let e = corner-starts x (c .head) (shape .rule .name) 0 (c .rest) (c .starts) in
+        let e = corner-starts x (c .head) (c .site) (c .rest) (c .starts) in
         let z : _≡_ {A = ℕ} 1 0 = sym q ∙ ap (λ h. h .quantifier) (e .0) ∙ c .plain in
         omega arith
-    none-continues (splice x q ne r k) c =
-        let e = corner-starts x (c .head) (shape .rule .name) 0 (c .rest) (c .starts) in
+    none-continues (splice x q ne r m k) c =
+        let e = corner-starts x (c .head) (c .site) (c .rest) (c .starts) in
         let y = stage-made limits corners preserved i in
         let w = rule-target (u .before) g (known (u .before) here-known .named) (here-known .names) (y .isRule) in
-        ne (Option·some-injective _ _ (sym (x .known) ∙ ap (target g) (e .1 ∙ ap (λ r. r .name) (sym hub-stands)) ∙ w))
+        ne (Option·some-injective _ _ (sym (x .known)
+        ∙ ap (target g) (ap (λ k. k .name) (e .1) ∙ c .called ∙ ap (λ r. r .name) (sym hub-stands)) ∙ w))
 
-    turn-corner : {es : Items innerDepth} {news : List (Items innerDepth)} → Turn innerDepth (u .before) g (u .cycle) (stage-made limits corners preserved i .hub .id) es news
+    turn-corner : {es : Items innerDepth} {news : List (Items innerDepth)}
+        → Turn innerDepth (u .before) g (u .cycle) (stage-made limits corners preserved i .hub .id) es news
         → (j : ℕ) × (k : ℕ) × CornerAt g (u .cycle) es j k
     turn-corner (split {i = j} {t = k} x q) = (j, k, x)
-    turn-corner (splice {i = j} {t = k} x q ne r e) = (j, k, x)
+    turn-corner (splice {i = j} {t = k} x q ne r m e) = (j, k, x)
 
     none-without : {es : Items innerDepth} {j k : ℕ} → CornerAt g (u .cycle) es j k → NoCorner corners after (t .cycle) es → ⊥
     none-without {es} y c =
@@ -124,7 +141,8 @@ module _ (limits : Limits) (corners : Corners) (preserved : List ℕ) {t : Stage
         let f = rule-found bodyDepth (λ r. r .name) after (here-told .names) o in
         let G = eraseRules bodyDepth after in
         c .none p o m
-        (subst (Corner corners G (shapeOf innerDepth es)) (sym n) (at-corner corners G innerDepth y (subst (λ n. find G n ≡ some (eraseBlock bodyDepth (p .body))) n f)))
+        (subst (Corner corners G (shapeOf innerDepth es)) (sym n)
+        (at-corner corners G innerDepth y (subst (λ n. find G n ≡ some (eraseBlock bodyDepth (p .body))) n f)))
 
     pub not-again : ⊥
     not-again =
@@ -173,7 +191,8 @@ module _ (limits : Limits) (corners : Corners) (preserved : List ℕ) where
       (hubs-distinct (stage-leaves limits corners preserved b h .told) c)
 
   -- A hub is a rule of the grammar that the run starts with.
-  pub hubs-rules : {rs : List Rule} {ts : List Stage} → Told rs → Chain limits corners preserved rs ts → {i : ℕ} → List·Memᴰ i (hubs ts) → List·Memᴰ i (idsOf rs)
+  pub hubs-rules : {rs : List Rule} {ts : List Stage} → Told rs → Chain limits corners preserved rs ts → {i : ℕ} → List·Memᴰ i (hubs ts)
+      → List·Memᴰ i (idsOf rs)
   hubs-rules k last m = absurd (List·Memᴰ·not-nil m)
   hubs-rules {rs} k (next {t = t} {ts = ts} e h c) {i} m =
       let b = subst Told (sym e) k in

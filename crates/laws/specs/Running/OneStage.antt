@@ -4,13 +4,15 @@ use mathlib.Core.Path.{_≡_, sym, ap, _∙_, subst}
 use mathlib.Core.Logic.{⊎-elim, ⊎-map}
 use mathlib.Core.List.{List, List·Memᴰ}
 use Rattle.grammar.specs.Tree.{Alternative, Rule, bodyDepth}
-use Rattle.grammar.specs.Shape.{eraseRules}
-use Rattle.grammar.specs.Corners.{Corners, Reaches}
+use Rattle.language.specs.Shape.{eraseRules}
+use Rattle.grammar.specs.Corners.{Corners}
+use Rattle.language.specs.LeftCorners.{Reaches}
 use Rattle.reference.specs.Analysis.{grammarOf}
 use Rattle.reference.specs.Substitute.{Limits}
+use Rattle.reference.specs.Apply.{freshEach, applyAlternative}
 use Rattle.reference.specs.Run.{innerDepth, Stage}
-use Rattle.laws.specs.Demands.{Continues, NoCorner, JoinedShape}
-use Rattle.laws.specs.Running.Leaves.{Told}
+use Rattle.laws.specs.Demands.Shape.{Continues, NoCorner, JoinedShape}
+use Rattle.laws.specs.Running.Leaves.{Told, plan-stands}
 use Rattle.laws.specs.Planning.Substituted.{Known}
 use Rattle.laws.specs.Planning.Plans.{Made}
 use Rattle.laws.specs.Planning.OnePlan.{newBody, rulesLeft, applied-rules, hubAfter, hub-id, hub-name, hub-body, hub-in, left-stems}
@@ -18,7 +20,8 @@ use Rattle.laws.specs.Running.Joined.{Recursive, sorts-after, recursive-
 use Rattle.laws.specs.Running.Shrinks.{left-leads, reaches-map}
 use Rattle.laws.specs.Running.Stages.{known, Happened, stage-made}
 
-module _ (limits : Limits) (corners : Corners) (preserved : List ℕ) {t : Stage} (told : Told (t .before)) (h : Happened limits corners preserved t) where
+module _ (limits : Limits) (corners : Corners) (preserved : List ℕ) {t : Stage} (told : Told (t .before))
+    (h : Happened limits corners preserved t) where
   abbrev pub before : List Rule
   before = t .before
 
@@ -40,7 +43,16 @@ module _ (limits : Limits) (corners : Corners) (preserved : List ℕ) {t : Stage
   continues : (a : Alternative) → Recursive innerDepth left (made .hub .name) (a .elements) → Continues left (hub .name) (a .elements)
   continues a r =
       subst (λ n. Continues left n (a .elements)) (sym (hub-name names made (h .counters)))
-      (record { head = r .head; rest = r .rest; starts = r .starts; plain = r .plain; goesOn = r .goesOn })
+      (record {
+        head = r .head;
+        site = r .site;
+        rest = r .rest;
+        starts = r .starts;
+        called = r .called;
+        plain = r .plain;
+        bare = r .bare;
+        goesOn = r .goesOn;
+      })
 
   in-hub : {a : Alternative} → List·Memᴰ a (newBody names made (h .counters)) → List·Memᴰ a (hub .body)
   in-hub {a} m = subst (List·Memᴰ a) (sym (hub-body names made (h .counters))) m
@@ -56,17 +68,24 @@ module _ (limits : Limits) (corners : Corners) (preserved : List ℕ) {t : Stage
         isLeft = hub-in names made (h .counters);
         isHub = hub-id names made (h .counters) ∙ made .isHub;
         every = λ a m.
-            ⊎-map (continues a) (λ p. record { none = p }) (sorts-after names made (h .counters) a (subst (List·Memᴰ a) (hub-body names made (h .counters)) m));
+            ⊎-map (continues a) (λ p. record { none = p })
+            (sorts-after names made (h .counters) a (subst (List·Memᴰ a) (hub-body names made (h .counters)) m));
         oneContinues = (a, in-hub i, continues a r);
         oneWithout = (b, in-hub j, record { none = p });
       })
 
-  pub stage-reaches : (o : Corners) {n m : ℕ} → Reaches o (eraseRules bodyDepth (t .after .node)) n m → Reaches o (eraseRules bodyDepth before) n m
+  pub stage-reaches : (o : Corners) {n m : ℕ} → Reaches o (eraseRules bodyDepth (t .after .node)) n m
+      → Reaches o (eraseRules bodyDepth before) n m
   stage-reaches o {n} {m} r =
       reaches-map (λ n m. left-leads names made (h .counters) o) (subst (λ l. Reaches o (eraseRules bodyDepth l) n m) (sym stage-rules) r)
 
   -- A rule left that is not the hub is a rule of before.
   pub stage-stands : (q : Rule) → List·Memᴰ q (t .after .node) → (q .id ≡ t .plan .hub → ⊥) → List·Memᴰ q before
-  stage-stands q m ne =
+  stage-stands q m ne = plan-stands names made (h .counters) (subst (λ f. List·Memᴰ q (f .node)) (h .left) m) ne
+
+  -- The rule joined has the planned alternatives, applied, as its body.
+  pub stage-body : (q : Rule) → List·Memᴰ q (t .after .node) → q .id ≡ t .plan .hub
+      → q .body ≡ freshEach (applyAlternative innerDepth) (t .plan .alternatives) (h .counters) .node
+  stage-body q m e =
       let s = left-stems names made (h .counters) (subst (List·Memᴰ q) (sym stage-rules) m) in
-      ⊎-elim (λ u. absurd (ne (s .id ∙ u .0 ∙ made .isHub))) (λ u. subst (λ r. List·Memᴰ r before) (sym (u .1)) (s .isRule)) (s .body)
+      ⊎-elim (λ u. u .1) (λ u. absurd (u .0 (sym (s .id) ∙ e ∙ sym (made .isHub)))) (s .body)

@@ -1,138 +1,34 @@
 -- Reach only shrinks: what a rule reaches after a plan it reached before.
 use Prim.Native.Nat.{ℕ, suc}
-use mathlib.Core.Path.{_≡_, refl, sym, ap, _∙_, subst}
-use mathlib.Core.Logic.{_⊎_, inl, inr, ⊎-elim, ⊎-map}
+use mathlib.Core.Path.{_≡_, sym, ap, _∙_, subst}
+use mathlib.Core.Logic.{_⊎_, inl, inr, ⊎-elim}
 use mathlib.Core.List.{List, [], _∷_, _++_, map, map-append, map-map, List·Memᴰ, List·Memᴰ·head, List·Memᴰ·tail}
 use mathlib.Core.Option.{some}
-use mathlib.Core.Bool.{true, false, false≢true}
-use Rattle.grammar.specs.Lists.{AllOf}
-use Rattle.grammar.specs.Tree.{ElementHead, epsilon, action, predicate, call, token, terminal, Element, leaf, block, AlternativeOf, Block, RuleOf, Counters}
-use Rattle.grammar.specs.Shape.{Shape, eps, callOf, seqs, alts, quantified, eraseLeaf, eraseElement, eraseBlock, Shapes, find, eraseRules}
-use Rattle.grammar.specs.Derive.{CanBeEmpty, d-eps, d-call, d-left, d-right}
-use Rattle.grammar.specs.Corners.{Corners, rust, textbook, isMissing, isSymbol, stops, Skippable, Corner, c-call, c-first, c-later, c-left, c-right, Leads, Reaches, r-last, r-more}
-use Rattle.grammar.specs.Laws.Derive.Empty.{seqs-empty, quantified-empty}
-use Rattle.grammar.specs.Laws.Derive.Corner.{corner-quantified, symbol-quantified, reaches-trans}
-use Rattle.grammar.specs.Laws.Derive.Elements.{corner-append}
-use Rattle.grammar.specs.Laws.Derive.Rules.{found-rule, rule-found}
-use Rattle.reference.specs.Walks.{sortOf, isEpsilonOnly}
-use Rattle.reference.specs.Analysis.{Grammar, target, ruleWithId}
+use Rattle.grammar.specs.Tree.{call, Element, leaf, AlternativeOf}
+use Rattle.grammar.specs.Tree.{Block, RuleOf, Counters}
+use Rattle.language.specs.Shape.{Shape, seqs, alts, eraseElement, eraseBlock, Shapes, find, eraseRules}
+use Rattle.language.specs.Derive.{CanBeEmpty, d-left, d-right}
+use Rattle.grammar.specs.Corners.{Corners}
+use Rattle.grammar.specs.Numbers.{optionalGreedy}
+use Rattle.language.specs.LeftCorners.{Corner, c-first, c-later, c-left, c-right, Leads}
+use Rattle.language.specs.LeftCorners.{Reaches, r-last, r-more}
+use Rattle.language.specs.Laws.Empty.{seqs-empty}
+use Rattle.language.specs.Laws.Corner.{reaches-trans}
+use Rattle.language.specs.Laws.Elements.{corner-append}
+use Rattle.language.specs.Laws.Rules.{found-rule, rule-found}
+use Rattle.reference.specs.Analysis.{Grammar, target}
 use Rattle.reference.specs.Substitute.{plainHead}
 use Rattle.reference.specs.Plan.{CyclePlan, asTheyAre}
-use Rattle.laws.specs.Lists.Members.{one-with}
+use Rattle.laws.specs.Demands.Step.{CornerAt}
+use Rattle.graph.specs.Members.{one-with}
 use Rattle.laws.specs.Lists.Lookup.{target-rule}
-use Rattle.laws.specs.Planning.Turns.{CornerAt, Items, itemsOf, Turn, split, splice, Moved, here, later, Moves, still, onward}
+use Rattle.laws.specs.Planning.Turns.{Items, itemsOf, Turn, split, splice, Moved, here, later, Moves, still, onward}
 use Rattle.laws.specs.Planning.Substituted.{Known, shapeOf, bodyOf, target-body}
 use Rattle.laws.specs.Planning.Renumber.{applied-shape}
 use Rattle.laws.specs.Planning.Plans.{Made}
 use Rattle.laws.specs.Planning.OnePlan.{as-they-are, rulesLeft, newBody, left-stems, left-closed, left-corner, body-closed}
-
-module _ (c : Corners) (G : Shapes) where
-  -- A left corner, or what one reaches.
-  abbrev pub Beyond : Shape → ℕ → Type 0
-  Beyond s m = Corner c G s m ⊎ ((n : ℕ) × Corner c G s n × Reaches c G n m)
-
-  stops-quantified : (o : Corners) (q : ℕ) (s : Shape) → stops o G s ≡ false → stops o G (quantified q s) ≡ false
-  unfolding stops
-  stops-quantified rust q s e = symbol-quantified G q s ∙ e
-  stops-quantified textbook q s e = refl
-
-  -- Actions, predicates and epsilons are looked past, and have no left corner.
-  module _ {B : Type 0} (eraseB : B → Shape) where
-    silent-erased : (e : Element B) → isEpsilonOnly e ≡ true → (q : ℕ) × (eraseElement eraseB e ≡ quantified q eps)
-    unfolding eraseElement eraseLeaf isEpsilonOnly sortOf
-    silent-erased (leaf h epsilon) t = (h .quantifier, refl)
-    silent-erased (leaf h (action i rs)) t = (h .quantifier, refl)
-    silent-erased (leaf h (predicate i rs)) t = (h .quantifier, refl)
-    silent-erased (leaf h (call n a)) t = absurd (false≢true t)
-    silent-erased (leaf h (token n)) t = absurd (false≢true t)
-    silent-erased (leaf h terminal) t = absurd (false≢true t)
-    silent-erased (block h b) t = absurd (false≢true t)
-
-    eps-stops : (o : Corners) → stops o G eps ≡ false
-    unfolding stops isSymbol
-    eps-stops rust = refl
-    eps-stops textbook = refl
-
-    silent-skips : (e : Element B) → isEpsilonOnly e ≡ true → Skippable c G (eraseElement eraseB e)
-    silent-skips e t =
-        let (q, p) = silent-erased e t in
-        subst (Skippable c G) (sym p) (record { empty = quantified-empty q eps .1 (inr d-eps); goesOn = stops-quantified c q eps (eps-stops c) })
-
-    no-eps : {m : ℕ} → Corner c G eps m → ⊥
-    no-eps k = elim k [ ]
-
-    silent-none : (e : Element B) → isEpsilonOnly e ≡ true → {m : ℕ} → Corner c G (eraseElement eraseB e) m → ⊥
-    silent-none e t {m} k =
-        let (q, p) = silent-erased e t in
-        no-eps (corner-quantified q eps .0 (subst (λ s. Corner c G s m) p k))
-
-  module _ (d : ℕ) where
-    past-front : (front β : Items d) → AllOf (λ e. isEpsilonOnly e ≡ true) front → {m : ℕ} → Corner c G (shapeOf d (front ++ β)) m → Corner c G (shapeOf d β) m
-    past-front [] β s k = k
-    past-front (e ∷ front) β s (c-first k) = absurd (silent-none (eraseBlock d) e (s .0) k)
-    past-front (e ∷ front) β s (c-later o k) = past-front front β (s .1) k
-
-    behind-front : (front β : Items d) → AllOf (λ e. isEpsilonOnly e ≡ true) front → {m : ℕ} → Corner c G (shapeOf d β) m → Corner c G (shapeOf d (front ++ β)) m
-    behind-front [] β s k = k
-    behind-front (e ∷ front) β s k = c-later (silent-skips (eraseBlock d) e (s .0)) (behind-front front β (s .1) k)
-
-    -- A left corner of a list of alternatives is one of an alternative.
-    pub corner-one : {A : Type 0} (f : A → Items d) (as′ : List A) {m : ℕ} → Corner c G (alts (map (λ a. shapeOf d (f a)) as′)) m
-        → (a : A) × List·Memᴰ a as′ × Corner c G (shapeOf d (f a)) m
-    corner-one f [] k = elim k [ ]
-    corner-one f (a ∷ as′) (c-left k) = (a, List·Memᴰ·head refl, k)
-    corner-one f (a ∷ as′) (c-right k) = let (b, n, j) = corner-one f as′ k in (b, List·Memᴰ·tail n, j)
-
-    pub one-corner : {A : Type 0} (f : A → Items d) {as′ : List A} {a : A} → List·Memᴰ a as′ → {m : ℕ} → Corner c G (shapeOf d (f a)) m
-        → Corner c G (alts (map (λ a. shapeOf d (f a)) as′)) m
-    one-corner f (List·Memᴰ·head e) {m} k = c-left (subst (λ a. Corner c G (shapeOf d (f a)) m) e k)
-    one-corner f (List·Memᴰ·tail n) k = c-right (one-corner f n k)
-
-    lists-cut : (ps qs : List (Items d)) {m : ℕ} → Corner c G (bodyOf d (ps ++ qs)) m → Corner c G (bodyOf d ps) m ⊎ Corner c G (bodyOf d qs) m
-    lists-cut [] qs k = inr k
-    lists-cut (p ∷ ps) qs (c-left k) = inl (c-left k)
-    lists-cut (p ∷ ps) qs (c-right k) = ⊎-map c-right (λ j. j) (lists-cut ps qs k)
-
-  found-stops : (o : Corners) (n : ℕ) {b : Shape} → find G n ≡ some b → stops o G (callOf n) ≡ false
-  unfolding stops isSymbol
-  found-stops rust n f = ap isMissing f
-  found-stops textbook n f = refl
-
-  module _ {B : Type 0} (eraseB : B → Shape) (n a : ℕ) where
-    call-erased : (h : ElementHead) → eraseElement eraseB (leaf h (call n a)) ≡ quantified (h .quantifier) (callOf n)
-    unfolding eraseElement eraseLeaf
-    call-erased h = refl
-
-    -- The quantifier of a call does not change its left corner.
-    call-same : (h h′ : ElementHead) {m : ℕ} → Corner c G (eraseElement eraseB (leaf h (call n a))) m → Corner c G (eraseElement eraseB (leaf h′ (call n a))) m
-    call-same h h′ {m} k =
-        subst (λ s. Corner c G s m) (sym (call-erased h′))
-        (corner-quantified (h′ .quantifier) (callOf n) .1 (corner-quantified (h .quantifier) (callOf n) .0 (subst (λ s. Corner c G s m) (call-erased h) k)))
-
-    call-corner : (h : ElementHead) {b : Shape} → find G n ≡ some b → Corner c G (eraseElement eraseB (leaf h (call n a))) n
-    call-corner h f = subst (λ s. Corner c G s n) (sym (call-erased h)) (corner-quantified (h .quantifier) (callOf n) .1 (c-call f))
-
-    optional-skips : (h : ElementHead) {b : Shape} → find G n ≡ some b → h .quantifier ≡ 1 → Skippable c G (eraseElement eraseB (leaf h (call n a)))
-    optional-skips h f q =
-        subst (Skippable c G) (sym (call-erased h ∙ ap (λ q. quantified q (callOf n)) q))
-        (record { empty = quantified-empty 1 (callOf n) .1 (inl refl); goesOn = stops-quantified c 1 (callOf n) (found-stops c n f) })
-
-    call-skips : (h : ElementHead) {b : Shape} → find G n ≡ some b → CanBeEmpty G b → Skippable c G (eraseElement eraseB (leaf h (call n a)))
-    call-skips h f o =
-        subst (Skippable c G) (sym (call-erased h))
-        (record { empty = quantified-empty (h .quantifier) (callOf n) .1 (inr (d-call f o)); goesOn = stops-quantified c (h .quantifier) (callOf n) (found-stops c n f) })
-
-  -- The call of a member is a left corner, in any grammar that has the rule called.
-  pub at-corner : (d : ℕ) {g : Grammar} {cycle : List ℕ} {es : Items d} {i t : ℕ} (x : CornerAt g cycle es i t) {b : Shape} → find G (x .name) ≡ some b
-      → Corner c G (shapeOf d es) (x .name)
-  at-corner d x f =
-      subst (λ l. Corner c G (shapeOf d l) (x .name)) (x .whole)
-      (behind-front d (x .front) (leaf (x .head) (call (x .name) (x .arguments)) ∷ x .rest) (x .silent) (c-first (call-corner (eraseBlock d) (x .name) (x .arguments) (x .head) f)))
-
--- Where all are looked past, all can be empty.
-all-empty : (c : Corners) (G : Shapes) (ss : List Shape) → AllOf (Skippable c G) ss → AllOf (CanBeEmpty G) ss
-all-empty c G [] s = tt
-all-empty c G (x ∷ ss) s = (s .0 .empty, all-empty c G ss (s .1))
+use Rattle.laws.specs.Running.Skipped.{Beyond, past-front, behind-front, corner-one, one-corner, lists-cut, call-same, call-corner}
+use Rattle.laws.specs.Running.Skipped.{optional-skips, call-skips, all-empty}
 
 module _ (o : Corners) {d : ℕ} {rs : List (RuleOf (Block (suc d)))} {g : Grammar} (k : Known (suc d) rs g) (cycle : List ℕ) (hub : ℕ) where
   abbrev before : Shapes
@@ -140,58 +36,80 @@ module _ (o : Corners) {d : ℕ} {rs : List (RuleOf (Block (suc d)))} {g : Gramm
 
   name-found : (n : ℕ) {t : ℕ} → target g n ≡ some t → (b : Shape) × (find before n ≡ some b)
   name-found n e =
-      let (r, m, p, i) = target-rule rs g (k .named) n e in
-      (eraseBlock (suc d) (r .body), subst (λ n. find before n ≡ some (eraseBlock (suc d) (r .body))) p (rule-found (suc d) (λ r. r .name) rs (k .names) m))
+      let (r, m, p, i) = target-rule rs g (k .named) n e in (
+        eraseBlock (suc d) (r .body),
+        subst (λ n. find before n ≡ some (eraseBlock (suc d) (r .body))) p
+            (rule-found (suc d) (λ r. r .name) rs (k .names) m),
+      )
 
   module _ {es : Items d} {i t : ℕ} (x : CornerAt g cycle es i t) where
     abbrev at : Element (Block d)
-    at = leaf (x .head) (call (x .name) (x .arguments))
+    at = leaf (x .head) (call (x .site))
 
     whole : {m : ℕ} → Corner o before (shapeOf d (at ∷ x .rest)) m → Corner o before (shapeOf d es) m
     whole {m} j = subst (λ l. Corner o before (shapeOf d l) m) (x .whole) (behind-front o before d (x .front) (at ∷ x .rest) (x .silent) j)
 
-    split-corner : x .head .quantifier ≡ 1 → {m : ℕ}
-        → Corner o before (bodyOf d ((x .front ++ (leaf (plainHead (x .head)) (call (x .name) (x .arguments)) ∷ x .rest)) ∷ (x .front ++ x .rest) ∷ [])) m
+    split-corner : x .head .quantifier ≡ optionalGreedy → {m : ℕ}
+        → Corner o before (bodyOf d ((x .front ++ (leaf (plainHead (x .head)) (call (x .site)) ∷ x .rest)) ∷ (x .front ++ x .rest) ∷ [])) m
         → Beyond o before (shapeOf d es) m
-    split-corner q (c-left j) = present (past-front o before d (x .front) (leaf (plainHead (x .head)) (call (x .name) (x .arguments)) ∷ x .rest) (x .silent) j)
+    split-corner q (c-left j) =
+        present (past-front o before d (x .front) (leaf (plainHead (x .head)) (call (x .site)) ∷ x .rest) (x .silent) j)
       where
-        present : {m : ℕ} → Corner o before (shapeOf d (leaf (plainHead (x .head)) (call (x .name) (x .arguments)) ∷ x .rest)) m → Beyond o before (shapeOf d es) m
-        present (c-first j) = inl (whole (c-first (call-same o before (eraseBlock d) (x .name) (x .arguments) (plainHead (x .head)) (x .head) j)))
-        present (c-later s j) = inl (whole (c-later (optional-skips o before (eraseBlock d) (x .name) (x .arguments) (x .head) (name-found (x .name) (x .known) .1) q) j))
+        present : {m : ℕ} → Corner o before (shapeOf d (leaf (plainHead (x .head)) (call (x .site)) ∷ x .rest)) m
+            → Beyond o before (shapeOf d es) m
+        present (c-first j) = inl (whole (c-first (call-same o before (eraseBlock d) (x .site) (plainHead (x .head)) (x .head) j)))
+        present (c-later s j) =
+            inl (whole (c-later (optional-skips o before (eraseBlock d) (x .site) (x .head) (name-found (x .site .name) (x .known) .1) q)
+            j))
     split-corner q (c-right (c-left j)) =
-        inl (whole (c-later (optional-skips o before (eraseBlock d) (x .name) (x .arguments) (x .head) (name-found (x .name) (x .known) .1) q) (past-front o before d (x .front) (x .rest) (x .silent) j)))
+        inl (whole (c-later (optional-skips o before (eraseBlock d) (x .site) (x .head) (name-found (x .site .name) (x .known) .1) q)
+        (past-front o before d (x .front) (x .rest) (x .silent) j)))
 
-    splice-corner : (r : RuleOf (Block (suc d))) → ruleWithId rs t ≡ some r → {m : ℕ} → Corner o before (bodyOf d (map (λ s. x .front ++ (s .elements ++ x .rest)) (r .body))) m
+    splice-corner : (r : RuleOf (Block (suc d))) → List·Memᴰ r rs → r .id ≡ t → {m : ℕ}
+        → Corner o before (bodyOf d (map (λ s. x .front ++ (s .elements ++ x .rest)) (r .body))) m
         → Beyond o before (shapeOf d es) m
     unfolding eraseBlock
-    splice-corner r f {m} j =
-        let (_, _, _, b) = target-body k (x .name) (x .known) f in
+    splice-corner r i e {m} j =
+        let b = target-body k (x .site .name) (x .known) i e in
         let (s, n, y) = corner-one o before d (λ s. x .front ++ (s .elements ++ x .rest)) (r .body)
         (subst (λ l. Corner o before (alts l) m) (map-map (shapeOf d) (λ s. x .front ++ (s .elements ++ x .rest)) (r .body)) j) in
         let z = past-front o before d (x .front) (s .elements ++ x .rest) (x .silent) y in
         let e = eraseElement (eraseBlock d) in
         ⊎-elim
-        (λ u. inr (x .name, whole (c-first (call-corner o before (eraseBlock d) (x .name) (x .arguments) (x .head) b)), r-last (record { body = eraseBlock (suc d) (r .body); found = b; corner = one-corner o before d (λ s. s .elements) n u })))
+        (λ u. inr (
+          x .site .name,
+          whole (c-first (call-corner o before (eraseBlock d) (x .site) (x .head) b)),
+          r-last (record {
+            body = eraseBlock (suc d) (r .body);
+            found = b;
+            corner = one-corner o before d (λ s. s .elements) n u;
+          }),
+        ))
         (λ u.
         inl
         (whole
-        (c-later (call-skips o before (eraseBlock d) (x .name) (x .arguments) (x .head) b (one-empty n (seqs-empty (map e (s .elements)) .1 (all-empty o before (map e (s .elements)) (u .0))))) (u .1))))
-        (corner-append (map e (s .elements)) (map e (x .rest)) .0 (subst (λ l. Corner o before (seqs l) m) (map-append e (s .elements) (x .rest)) z))
+        (c-later (call-skips o before (eraseBlock d) (x .site) (x .head) b
+        (one-empty n (seqs-empty (map e (s .elements)) .1 (all-empty o before (map e (s .elements)) (u .0))))) (u .1))))
+        (corner-append (map e (s .elements)) (map e (x .rest)) .0
+        (subst (λ l. Corner o before (seqs l) m) (map-append e (s .elements) (x .rest)) z))
       where
-        one-empty : {as′ : List (AlternativeOf (Block d))} {s : AlternativeOf (Block d)} → List·Memᴰ s as′ → CanBeEmpty before (shapeOf d (s .elements))
+        one-empty : {as′ : List (AlternativeOf (Block d))} {s : AlternativeOf (Block d)} → List·Memᴰ s as′
+            → CanBeEmpty before (shapeOf d (s .elements))
             → CanBeEmpty before (alts (map (λ a. shapeOf d (a .elements)) as′))
         one-empty (List·Memᴰ·head e) w = d-left (subst (λ a. CanBeEmpty before (shapeOf d (a .elements))) e w)
         one-empty (List·Memᴰ·tail n) w = d-right (one-empty n w)
 
-  turn-corner : {es : Items d} {news : List (Items d)} → Turn d rs g cycle hub es news → {m : ℕ} → Corner o before (bodyOf d news) m → Beyond o before (shapeOf d es) m
+  turn-corner : {es : Items d} {news : List (Items d)} → Turn d rs g cycle hub es news → {m : ℕ} → Corner o before (bodyOf d news) m
+      → Beyond o before (shapeOf d es) m
   turn-corner (split x q) j = split-corner x q j
-  turn-corner (splice x q ne r f) j = splice-corner x r f j
+  turn-corner (splice x q ne r i e) j = splice-corner x r i e j
 
   beyond-map : {s t : Shape} → ((m : ℕ) → Corner o before s m → Corner o before t m) → {m : ℕ} → Beyond o before s m → Beyond o before t m
   beyond-map f (inl j) = inl (f _ j)
   beyond-map f (inr r) = inr (r .0, f (r .0) (r .1), r .2)
 
-  moved-corner : {ps qs : List (Items d)} → Moved d rs g cycle hub ps qs → {m : ℕ} → Corner o before (bodyOf d qs) m → Beyond o before (bodyOf d ps) m
+  moved-corner : {ps qs : List (Items d)} → Moved d rs g cycle hub ps qs → {m : ℕ} → Corner o before (bodyOf d qs) m
+      → Beyond o before (bodyOf d ps) m
   moved-corner (here {news = news} {rest = rest} t) j =
       ⊎-elim (λ u. beyond-map (λ m. c-left) (turn-corner t u)) (λ u. inl (c-right u)) (lists-cut o before d news rest j)
   moved-corner (later x) (c-left j) = inl (c-left j)
@@ -202,11 +120,13 @@ module _ (o : Corners) {d : ℕ} {rs : List (RuleOf (Block (suc d)))} {g : Gramm
   further f {m} (inr (n, j, r)) = ⊎-elim (λ u. inr (n, u, r)) (λ u. inr (u .0, u .1, reaches-trans (u .2) r)) (f n j)
 
   -- Every left corner of the planned list was one of the hub's, or reached from one.
-  pub moves-corner : {ps qs : List (Items d)} {n : ℕ} → Moves d rs g cycle hub ps n qs → {m : ℕ} → Corner o before (bodyOf d qs) m → Beyond o before (bodyOf d ps) m
+  pub moves-corner : {ps qs : List (Items d)} {n : ℕ} → Moves d rs g cycle hub ps n qs → {m : ℕ} → Corner o before (bodyOf d qs) m
+      → Beyond o before (bodyOf d ps) m
   moves-corner still j = inl j
   moves-corner (onward x y) j = further (λ m. moved-corner x) (moves-corner y j)
 
-module _ {c : Corners} {d : ℕ} {rs : List (RuleOf (Block (suc d)))} {g : Grammar} (k : Known (suc d) rs g) {preserved cycle : List ℕ} {plan : CyclePlan d}
+module _ {c : Corners} {d : ℕ} {rs : List (RuleOf (Block (suc d)))} {g : Grammar} (k : Known (suc d) rs g) {preserved cycle : List ℕ}
+    {plan : CyclePlan d}
     (x : Made c d rs g preserved cycle plan) (counters : Counters) (o : Corners) where
   abbrev now : Shapes
   now = eraseRules (suc d) rs
@@ -214,19 +134,24 @@ module _ {c : Corners} {d : ℕ} {rs : List (RuleOf (Block (suc d)))} {g : Gramm
   abbrev then : Shapes
   then = eraseRules (suc d) (rulesLeft k x counters)
 
-  leads-from : (r : RuleOf (Block (suc d))) → List·Memᴰ r rs → {m : ℕ} → Corner o now (eraseBlock (suc d) (r .body)) m → Leads o now (r .name) m
+  leads-from : (r : RuleOf (Block (suc d))) → List·Memᴰ r rs → {m : ℕ} → Corner o now (eraseBlock (suc d) (r .body)) m
+      → Leads o now (r .name) m
   leads-from r n j = record { body = eraseBlock (suc d) (r .body); found = rule-found (suc d) (λ r. r .name) rs (k .names) n; corner = j }
 
   -- A rule other than the hub keeps its left corners.
-  kept-corner : {q r : RuleOf (Block (suc d))} → List·Memᴰ q (rulesLeft k x counters) → q ≡ r → {m : ℕ} → Corner o then (eraseBlock (suc d) (q .body)) m
+  kept-corner : {q r : RuleOf (Block (suc d))} → List·Memᴰ q (rulesLeft k x counters) → q ≡ r → {m : ℕ}
+      → Corner o then (eraseBlock (suc d) (q .body)) m
       → Corner o now (eraseBlock (suc d) (r .body)) m
   kept-corner {q} n e {m} j =
-      subst (λ r. Corner o now (eraseBlock (suc d) (r .body)) m) e (left-corner k x counters o (eraseBlock (suc d) (q .body)) (left-closed k x counters n) .1 j)
+      subst (λ r. Corner o now (eraseBlock (suc d) (r .body)) m) e
+      (left-corner k x counters o (eraseBlock (suc d) (q .body)) (left-closed k x counters n) .1 j)
 
   hub-corner : {m : ℕ} → Corner o then (eraseBlock (suc d) (newBody k x counters)) m → Reaches o now (x .hub .name) m
   hub-corner {m} j =
       let y = left-corner k x counters o (eraseBlock (suc d) (newBody k x counters)) (body-closed k x counters) .1 j in
-      let z = moves-corner o k cycle (x .hub .id) (x .moves) (subst (λ s. Corner o now s m) (applied-shape d (plan .alternatives) counters) y) in
+      let z =
+      moves-corner o k cycle (x .hub .id) (x .moves)
+      (subst (λ s. Corner o now s m) (applied-shape d (plan .alternatives) counters) y) in
       let back : (n : ℕ) → Corner o now (bodyOf d (itemsOf d (asTheyAre (x .hub .body)))) n → Leads o now (x .hub .name) n =
       λ n u. leads-from (x .hub) (x .isRule) (subst (λ s. Corner o now s n) (sym (as-they-are d (x .hub .body))) u) in
       ⊎-elim (λ u. r-last (back m u)) (λ u. r-more (back (u .0) (u .1)) (u .2)) z
@@ -239,11 +164,13 @@ module _ {c : Corners} {d : ℕ} {rs : List (RuleOf (Block (suc d)))} {g : Gramm
       ⊎-elim
       (λ h.
       let same = one-with (λ r. r .id) rs (k .ids) (s .isRule) (x .isRule) (h .0) in
-      subst (λ n. Reaches o now n m) (ap (λ r. r .name) (sym same) ∙ sym (s .name) ∙ e) (hub-corner (subst (λ b. Corner o then (eraseBlock (suc d) b) m) (h .1) j)))
+      subst (λ n. Reaches o now n m) (ap (λ r. r .name) (sym same) ∙ sym (s .name) ∙ e)
+      (hub-corner (subst (λ b. Corner o then (eraseBlock (suc d) b) m) (h .1) j)))
       (λ u. r-last (subst (λ n. Leads o now n m) (sym (s .name) ∙ e) (leads-from (s .rule) (s .isRule) (kept-corner i (u .1) j))))
       (s .body)
 
 -- Of paths.
-pub reaches-map : {o : Corners} {G K : Shapes} → ((n m : ℕ) → Leads o K n m → Reaches o G n m) → {n m : ℕ} → Reaches o K n m → Reaches o G n m
+pub reaches-map : {o : Corners} {G K : Shapes} → ((n m : ℕ) → Leads o K n m → Reaches o G n m) → {n m : ℕ} → Reaches o K n m
+    → Reaches o G n m
 reaches-map f (r-last {n = n} {m = m} l) = f n m l
 reaches-map f (r-more {n = n} {m = m} l r) = reaches-trans (f n m l) (reaches-map f r)

@@ -2,27 +2,31 @@
 use Prim.Native.Nat.{ℕ, zero, suc, _+_}
 use mathlib.Core.Path.{_≡_, refl, sym, ap, _∙_, subst}
 use mathlib.Core.Logic.{_⊎_, inl, inr, ⊎-map}
-use mathlib.Core.List.{List, [], _∷_, _++_, List·Memᴰ, List·Memᴰ·head, List·Memᴰ·tail, List·Memᴰ·not-nil}
+use mathlib.Core.List.{List, [], _∷_, _++_, List·Memᴰ, List·Memᴰ·head, Memᴰ·append-right}
 use mathlib.Core.Bool.{true}
 use native.Mathlib.Omega.{arith}
-use lib.ListN.{length}
+use lib.ListN.{length, length-append}
 use lib.Dec.{eqb}
 use borrow.Author.Tests.{eqb-false}
 use Rattle.grammar.specs.Tree.{Rule, bodyDepth, Counters, Sheet}
-use Rattle.grammar.specs.Ids.{distinct, ruleIds, ruleNames, isDistinct}
+use Rattle.grammar.specs.Ids.{ruleIds, ruleNames, isDistinct}
+use Rattle.grammar.specs.Lists.{distinct}
 use Rattle.grammar.specs.Valid.{valid}
 use Rattle.grammar.specs.Corners.{Corners}
 use Rattle.grammar.specs.Laws.Parse.{left-true, right-true, either}
 use Rattle.grammar.specs.Laws.Whole.{valid-parts}
-use Rattle.reference.specs.Analysis.{Grammar, grammarOf, leftCornerCycles}
-use Rattle.reference.specs.Substitute.{Limits, Clause, Decided, decided, declined, overfull}
-use Rattle.reference.specs.Plan.{CyclePlan, planCycle}
+use Rattle.grammar.specs.Numbers.{parser, planTooLarge}
+use Rattle.reference.specs.Analysis.{grammarOf, leftCornerCycles}
+use Rattle.reference.specs.Substitute.{Limits}
+use Rattle.reference.specs.Plan.{CyclePlan}
 use Rattle.reference.specs.Apply.{applyPlan}
-use Rattle.reference.specs.Run.{innerDepth, Stage, Search, noPlan, planned, tooLarge, Run, ended, stopped, preceded, searchCycles, findPlan, sheetWith, refusalOf, eliminateInUnit, eliminateMutualLeftRecursion, sheetAfter}
-use Rattle.laws.specs.Demands.{EveryCycleDeclined}
+use Rattle.reference.specs.Run.{innerDepth, Stage, Search, noPlan, planned, tooLarge, Run, ended, stopped, preceded, findPlan, sheetWith}
+use Rattle.reference.specs.Run.{refusalOf, eliminateInUnit, eliminateMutualLeftRecursion, sheetAfter, entriesOf}
+use Rattle.laws.specs.Demands.Run.{EveryCycleDeclined}
 use Rattle.laws.specs.Planning.Substituted.{Known}
 use Rattle.laws.specs.Planning.Plans.{Made, plan-made}
-use Rattle.laws.specs.Running.Leaves.{Told, Leaves, leaves-refl, leaves-trans, plan-leaves}
+use Rattle.laws.specs.Running.Search.{search-found, plan-first}
+use Rattle.laws.specs.Running.Leaves.{Told, known-by, Leaves, leaves-refl, leaves-trans, plan-leaves}
 
 -- The rules that stages leave.
 abbrev pub rulesAfter : List Rule → List Stage → List Rule
@@ -33,6 +37,21 @@ pub sheet-after : (s : Sheet) (ts : List Stage) → sheetAfter s ts .rules ≡ r
 unfolding sheetAfter
 sheet-after s [] = refl
 sheet-after s (t ∷ ts) = sheet-after (sheetWith (s .kind) (s .preserved) (t .after)) ts
+
+-- The counters that stages leave.
+abbrev pub countersAfter : Counters → List Stage → Counters
+countersAfter c [] = c
+countersAfter c (t ∷ ts) = countersAfter (t .after .counters) ts
+
+pub sheet-counters : (s : Sheet) (ts : List Stage) → sheetAfter s ts .counters ≡ countersAfter (s .counters) ts
+unfolding sheetAfter
+sheet-counters s [] = refl
+sheet-counters s (t ∷ ts) = sheet-counters (sheetWith (s .kind) (s .preserved) (t .after)) ts
+
+pub sheet-preserved : (s : Sheet) (ts : List Stage) → sheetAfter s ts .preserved ≡ s .preserved
+unfolding sheetAfter
+sheet-preserved s [] = refl
+sheet-preserved s (t ∷ ts) = sheet-preserved (sheetWith (s .kind) (s .preserved) (t .after)) ts
 
 pub rules-append : (rs : List Rule) (ts us : List Stage) → rulesAfter rs (ts ++ us) ≡ rulesAfter (rulesAfter rs ts) us
 rules-append rs [] us = refl
@@ -52,49 +71,9 @@ valid-told s v = distinct-told (s .rules) (valid-parts s v .distinct)
 
 -- A grammar with its names and nullable rules.
 pub known : (rs : List Rule) → Told rs → Known bodyDepth rs (grammarOf bodyDepth rs)
-unfolding grammarOf
-known rs t = record { named = refl; ids = t .ids; names = t .names }
+known rs t = known-by bodyDepth rs t
 
 module _ (limits : Limits) (corners : Corners) (preserved : List ℕ) where
-  searched : (g : Grammar) (rs : List Rule) (cycles : List (List ℕ)) {cycle : List ℕ} {plan : CyclePlan innerDepth}
-      → searchCycles limits corners preserved g rs cycles ≡ planned cycle plan
-      → List·Memᴰ cycle cycles × (planCycle limits corners g innerDepth rs preserved cycle ≡ decided plan)
-  unfolding searchCycles
-  searched g rs [] e = absurd (let z : _≡_ {A = ℕ} 0 1 = cc in omega arith)
-  searched g rs (c ∷ cycles) {cycle} {plan} e = go (planCycle limits corners g innerDepth rs preserved c) refl e (λ e. searched g rs cycles e)
-    where
-      go : (o : Decided (CyclePlan innerDepth)) → planCycle limits corners g innerDepth rs preserved c ≡ o
-          → (elim o as (λ x. Search) [ decided plan ↦ planned c plan | declined y ↦ searchCycles limits corners preserved g rs cycles | overfull ↦ tooLarge ]) ≡ planned cycle plan
-          → (searchCycles limits corners preserved g rs cycles ≡ planned cycle plan → List·Memᴰ cycle cycles × (planCycle limits corners g innerDepth rs preserved cycle ≡ decided plan))
-          → List·Memᴰ cycle (c ∷ cycles) × (planCycle limits corners g innerDepth rs preserved cycle ≡ decided plan)
-      go (decided p) k f ih =
-          let a : c ≡ cycle = cc in
-          let b : p ≡ plan = cc in
-          (List·Memᴰ·head (sym a), subst (λ c. planCycle limits corners g innerDepth rs preserved c ≡ decided plan) a (k ∙ ap decided b))
-      go (declined y) k f ih = let r = ih f in (List·Memᴰ·tail (r .0), r .1)
-      go overfull k f ih = absurd (let z : _≡_ {A = ℕ} 0 1 = cc in omega arith)
-
-  -- Where no plan was found, every cycle was declined.
-  all-declined : (g : Grammar) (rs : List Rule) (cycles : List (List ℕ)) → searchCycles limits corners preserved g rs cycles ≡ noPlan
-      → (cycle : List ℕ) → List·Memᴰ cycle cycles → (c : Clause) × (planCycle limits corners g innerDepth rs preserved cycle ≡ declined c)
-  unfolding searchCycles
-  all-declined g rs [] e cycle m = absurd (List·Memᴰ·not-nil m)
-  all-declined g rs (x ∷ cycles) e cycle m = go (planCycle limits corners g innerDepth rs preserved x) refl e m (all-declined g rs cycles)
-    where
-      go : (o : Decided (CyclePlan innerDepth)) → planCycle limits corners g innerDepth rs preserved x ≡ o
-          → (elim o as (λ x. Search) [ decided plan ↦ planned x plan | declined y ↦ searchCycles limits corners preserved g rs cycles | overfull ↦ tooLarge ]) ≡ noPlan
-          → List·Memᴰ cycle (x ∷ cycles)
-          → (searchCycles limits corners preserved g rs cycles ≡ noPlan → (cycle : List ℕ) → List·Memᴰ cycle cycles → (c : Clause) × (planCycle limits corners g innerDepth rs preserved cycle ≡ declined c))
-          → (c : Clause) × (planCycle limits corners g innerDepth rs preserved cycle ≡ declined c)
-      go (decided p) k f n ih = absurd (let z : _≡_ {A = ℕ} 0 1 = cc in omega arith)
-      go (declined y) k f (List·Memᴰ·head h) ih = (y, subst (λ c. planCycle limits corners g innerDepth rs preserved c ≡ declined y) (sym h) k)
-      go (declined y) k f (List·Memᴰ·tail n) ih = ih f cycle n
-      go overfull k f n ih = absurd (let z : _≡_ {A = ℕ} 0 1 = cc in omega arith)
-
-  pub every-cycle-declined : (rs : List Rule) → findPlan limits corners preserved rs ≡ noPlan → EveryCycleDeclined limits corners preserved rs
-  unfolding findPlan
-  every-cycle-declined rs e = all-declined (grammarOf bodyDepth rs) rs (leftCornerCycles corners (grammarOf bodyDepth rs) bodyDepth rs) e
-
   -- A stage of the run: the plan was found in the grammar before, and applied.
   pub record Happened (t : Stage) : Type 0 where
     pub counters : Counters
@@ -106,15 +85,17 @@ module _ (limits : Limits) (corners : Corners) (preserved : List ℕ) where
     next : {rs : List Rule} {t : Stage} {ts : List Stage} → t .before ≡ rs → Happened t → Chain (t .after .node) ts → Chain rs (t ∷ ts)
 
   -- The plan of a stage was made for a cycle of its grammar.
-  pub stage-cycle : {t : Stage} → Happened t → List·Memᴰ (t .cycle) (leftCornerCycles corners (grammarOf bodyDepth (t .before)) bodyDepth (t .before))
-  unfolding findPlan
-  stage-cycle {t} h = searched (grammarOf bodyDepth (t .before)) (t .before) (leftCornerCycles corners (grammarOf bodyDepth (t .before)) bodyDepth (t .before)) (h .found) .0
+  pub stage-cycle : {t : Stage} → Happened t
+      → List·Memᴰ (t .cycle) (leftCornerCycles corners (grammarOf bodyDepth (t .before)) bodyDepth (t .before))
+  stage-cycle {t} h =
+      let f = plan-first limits corners preserved (t .before) (h .found) in
+      subst (List·Memᴰ (t .cycle)) (f .whole) (Memᴰ·append-right (f .inFront) (List·Memᴰ·head refl))
 
-  pub stage-made : {t : Stage} → Happened t → Made corners innerDepth (t .before) (grammarOf bodyDepth (t .before)) preserved (t .cycle) (t .plan)
-  unfolding findPlan
+  pub stage-made : {t : Stage} → Happened t
+      → Made corners innerDepth (t .before) (grammarOf bodyDepth (t .before)) preserved (t .cycle) (t .plan)
   stage-made {t} h =
-      let g = grammarOf bodyDepth (t .before) in
-      plan-made corners innerDepth (t .before) g preserved (t .cycle) limits (t .plan) (searched g (t .before) (leftCornerCycles corners g bodyDepth (t .before)) (h .found) .1)
+      plan-made corners innerDepth (t .before) (grammarOf bodyDepth (t .before)) preserved (t .cycle) limits (t .plan)
+      (plan-first limits corners preserved (t .before) (h .found) .isDecided)
 
   pub stage-leaves : {t : Stage} → Told (t .before) → Happened t → Leaves bodyDepth (t .before) (t .after .node)
   stage-leaves {t} k h =
@@ -142,12 +123,31 @@ module _ (limits : Limits) (corners : Corners) (kind : ℕ) (preserved : List �
     s-end : {rs : List Rule} {c : Counters} {n : ℕ} → Stages rs c n []
     s-plan : {rs : List Rule} {c : Counters} {n : ℕ} {cycle : List ℕ} {plan : CyclePlan innerDepth} {ts : List Stage}
         → findPlan limits corners preserved rs ≡ planned cycle plan → refusalOf kind preserved (applyPlan innerDepth rs plan c) n ≡ 0
-        → Stages (applyPlan innerDepth rs plan c .node) (applyPlan innerDepth rs plan c .counters) (n + length (applyPlan innerDepth rs plan c .entries)) ts
+        → Stages (applyPlan innerDepth rs plan c .node) (applyPlan innerDepth rs plan c .counters)
+        (n + length (applyPlan innerDepth rs plan c .entries)) ts
         → Stages rs c n (record { before = rs; cycle = cycle; plan = plan; after = applyPlan innerDepth rs plan c } ∷ ts)
 
   pub stages-chain : {rs : List Rule} {c : Counters} {n : ℕ} {ts : List Stage} → Stages rs c n ts → Chain limits corners preserved rs ts
   stages-chain s-end = last
   stages-chain (s-plan {c = c} f r x) = next refl (record { counters = c; found = f; left = refl }) (stages-chain x)
+
+  -- It may be cut anywhere; a stage starts from the rules, the counters and the number of entries that those in front of it left.
+  pub stages-behind : {rs : List Rule} {c : Counters} {n : ℕ} (ts us : List Stage) → Stages rs c n (ts ++ us)
+      → Stages (rulesAfter rs ts) (countersAfter c ts) (n + length (entriesOf ts)) us
+  unfolding entriesOf
+  stages-behind {rs} {c} {n} [] us x = subst (λ m. Stages rs c m us) (omega arith) x
+  stages-behind {rs} {c} {n} (t ∷ ts) us (s-plan {plan = plan} f r x) =
+      let l = length-append (t .after .entries) (entriesOf ts) in
+      subst (λ m. Stages (rulesAfter rs (t ∷ ts)) (countersAfter c (t ∷ ts)) m us) (omega arith) (stages-behind ts us x)
+
+  pub record FirstOf (rs : List Rule) (c : Counters) (n : ℕ) (t : Stage) : Type 0 where
+    pub starts : t .before ≡ rs
+    pub found : findPlan limits corners preserved rs ≡ planned (t .cycle) (t .plan)
+    pub left : t .after ≡ applyPlan innerDepth rs (t .plan) c
+    pub isKept : refusalOf kind preserved (t .after) n ≡ 0
+
+  pub stage-first : {rs : List Rule} {c : Counters} {n : ℕ} {t : Stage} {us : List Stage} → Stages rs c n (t ∷ us) → FirstOf rs c n t
+  stage-first (s-plan f r x) = record { starts = refl; found = f; left = refl; isKept = r }
 
   -- How it ends.
   pub record Ends (turns : ℕ) (rs : List Rule) (c : Counters) (recorded : ℕ) (ts : List Stage) : Type 0 where
@@ -159,7 +159,7 @@ module _ (limits : Limits) (corners : Corners) (kind : ℕ) (preserved : List �
 
   preceded-ended : (t : Stage) (r : Run) {ts : List Stage} → preceded t r ≡ ended ts → (us : List Stage) × (r ≡ ended us) × (t ∷ us ≡ ts)
   preceded-ended t (ended us) e = (us, refl, ended-same e)
-  preceded-ended t (stopped n) e = absurd (let z : _≡_ {A = ℕ} 0 1 = cc in omega arith)
+  preceded-ended t (stopped us n) e = absurd (let z : _≡_ {A = ℕ} 0 1 = cc in omega arith)
 
   -- One turn of the loop, given what the search found and the turns that follow.
   abbrev pub Rest : Type 0
@@ -168,7 +168,7 @@ module _ (limits : Limits) (corners : Corners) (kind : ℕ) (preserved : List �
   abbrev pub applying : Rest → Stage → ℕ → ℕ → Run
   applying rest t recorded n =
       elim n [
-        | suc n ↦ stopped (suc n)
+        | suc n ↦ stopped [] (suc n)
         | zero ↦ preceded t (rest (t .after .node) (t .after .counters) (recorded + length (t .after .entries)))
       ]
 
@@ -176,53 +176,70 @@ module _ (limits : Limits) (corners : Corners) (kind : ℕ) (preserved : List �
   turn rest rs c recorded o =
       elim o [
         | noPlan ↦ ended []
-        | tooLarge ↦ stopped 7
+        | tooLarge ↦ stopped [] planTooLarge
         | planned cycle plan ↦
             let after = applyPlan innerDepth rs plan c in
-            applying rest (record { before = rs; cycle = cycle; plan = plan; after = after }) recorded (refusalOf kind preserved after recorded)
+            applying rest (record { before = rs; cycle = cycle; plan = plan; after = after }) recorded
+            (refusalOf kind preserved after recorded)
       ]
 
   pub turns-once : (turns : ℕ) (rs : List Rule) (c : Counters) (recorded : ℕ)
-      → eliminateInUnit limits corners kind preserved (suc turns) rs c recorded ≡ turn (eliminateInUnit limits corners kind preserved turns) rs c recorded (findPlan limits corners preserved rs)
+      → eliminateInUnit limits corners kind preserved (suc turns) rs c recorded
+      ≡ turn (eliminateInUnit limits corners kind preserved turns) rs c recorded (findPlan limits corners preserved rs)
   unfolding eliminateInUnit
   turns-once turns rs c recorded = refl
 
   applied-ended : (rest : Rest) (t : Stage) (recorded n : ℕ) {ts : List Stage} → applying rest t recorded n ≡ ended ts
-      → (us : List Stage) × (n ≡ 0) × (rest (t .after .node) (t .after .counters) (recorded + length (t .after .entries)) ≡ ended us) × (t ∷ us ≡ ts)
+      → (us : List Stage) × (n ≡ 0) × (rest (t .after .node) (t .after .counters) (recorded + length (t .after .entries)) ≡ ended us)
+      × (t ∷ us ≡ ts)
   applied-ended rest t recorded zero e =
       let (us, g, w) = preceded-ended t (rest (t .after .node) (t .after .counters) (recorded + length (t .after .entries))) e in
       (us, refl, g, w)
   applied-ended rest t recorded (suc n) e = absurd (let z : _≡_ {A = ℕ} 0 1 = cc in omega arith)
 
-  pub run-ends : (turns : ℕ) (rs : List Rule) (c : Counters) (recorded : ℕ) (ts : List Stage) → eliminateInUnit limits corners kind preserved turns rs c recorded ≡ ended ts
+  pub run-ends : (turns : ℕ) (rs : List Rule) (c : Counters) (recorded : ℕ) (ts : List Stage)
+      → eliminateInUnit limits corners kind preserved turns rs c recorded ≡ ended ts
       → Ends turns rs c recorded ts
   unfolding eliminateInUnit
   run-ends zero rs c recorded ts e = subst (Ends zero rs c recorded) (ended-same e) (record { stages = s-end; why = inr refl })
-  run-ends (suc turns) rs c recorded ts e = go (findPlan limits corners preserved rs) refl (sym (turns-once turns rs c recorded) ∙ e) (run-ends turns)
+  run-ends (suc turns) rs c recorded ts e =
+      go (findPlan limits corners preserved rs) refl (sym (turns-once turns rs c recorded) ∙ e) (run-ends turns)
     where
-      go : (o : Search) → findPlan limits corners preserved rs ≡ o → turn (eliminateInUnit limits corners kind preserved turns) rs c recorded o ≡ ended ts
-          → ((ks : List Rule) (c : Counters) (n : ℕ) (us : List Stage) → eliminateInUnit limits corners kind preserved turns ks c n ≡ ended us → Ends turns ks c n us)
+      go : (o : Search) → findPlan limits corners preserved rs ≡ o
+          → turn (eliminateInUnit limits corners kind preserved turns) rs c recorded o ≡ ended ts
+          → ((ks : List Rule) (c : Counters) (n : ℕ) (us : List Stage)
+          → eliminateInUnit limits corners kind preserved turns ks c n ≡ ended us → Ends turns ks c n us)
           → Ends (suc turns) rs c recorded ts
       go noPlan k f ih = subst (Ends (suc turns) rs c recorded) (ended-same f) (record { stages = s-end; why = inl k })
       go (planned cycle plan) k f ih =
           let after = applyPlan innerDepth rs plan c in
           let t : Stage = record { before = rs; cycle = cycle; plan = plan; after = after } in
-          let (us, r, g, w) = applied-ended (eliminateInUnit limits corners kind preserved turns) t recorded (refusalOf kind preserved after recorded) f in
+          let (us, r, g, w) =
+          applied-ended (eliminateInUnit limits corners kind preserved turns) t recorded (refusalOf kind preserved after recorded) f in
           let y = ih (after .node) (after .counters) (recorded + length (after .entries)) us g in
           subst (Ends (suc turns) rs c recorded) w (record { stages = s-plan k r (y .stages); why = ⊎-map (λ p. p) (ap suc) (y .why) })
       go tooLarge k f ih = absurd (let z : _≡_ {A = ℕ} 0 1 = cc in omega arith)
 
 -- Of a whole sheet: only a parser unit has stages.
 module _ (limits : Limits) (corners : Corners) (s : Sheet) where
+  pub every-cycle-declined : findPlan limits corners (s .preserved) (s .rules) ≡ noPlan → EveryCycleDeclined limits corners s
+  every-cycle-declined e = search-found limits corners (s .preserved) (s .rules) noPlan e
+
   pub sheet-ends : (ts : List Stage) → eliminateMutualLeftRecursion limits corners s ≡ ended ts
       → Stages limits corners (s .kind) (s .preserved) (s .rules) (s .counters) 0 ts
-      × (s .kind ≡ 2 → (findPlan limits corners (s .preserved) (rulesAfter (s .rules) ts) ≡ noPlan) ⊎ (length ts ≡ suc (length (s .rules))))
+      × (s .kind ≡ parser → (findPlan limits corners (s .preserved) (rulesAfter (s .rules) ts) ≡ noPlan)
+      ⊎ (length ts ≡ suc (length (s .rules))))
   unfolding eliminateMutualLeftRecursion
   sheet-ends ts e =
-      either (eqb (s .kind) 2)
+      either (eqb (s .kind) parser)
       (λ t.
-      let x = run-ends limits corners (s .kind) (s .preserved) (suc (length (s .rules))) (s .rules) (s .counters) 0 ts (rw (t, eliminateMutualLeftRecursion) at e) in
+      let x =
+      run-ends limits corners (s .kind) (s .preserved) (suc (length (s .rules))) (s .rules) (s .counters) 0 ts
+      (rw (t, eliminateMutualLeftRecursion) at e) in
       (x .stages, λ k. x .why))
       (λ f.
-      let none : [] ≡ ts = ended-same limits corners (s .kind) (s .preserved) (rw (f, eliminateMutualLeftRecursion) at e) in
-      (subst (Stages limits corners (s .kind) (s .preserved) (s .rules) (s .counters) 0) none s-end, λ k. absurd (eqb-false (s .kind) 2 f k)))
+      let none : [] ≡ ts = ended-same limits corners (s .kind) (s .preserved) (rw (f, eliminateMutualLeftRecursion) at e) in (
+        subst (Stages limits corners (s .kind) (s .preserved) (s .rules) (s .counters) 0) none s-end,
+        λ k. absurd
+            (eqb-false (s .kind) parser f k),
+      ))
