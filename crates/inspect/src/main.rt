@@ -1,5 +1,5 @@
-// Reads a sheet on standard input, and prints `refused N`, or `sheet` with the numbers of rules, alternatives,
-// elements and preserved ids. A longer input is told by its first byte too many.
+// A sheet from standard input (SPECIFICATION 16.1): prints `refused N`, or `sheet` with the numbers of rules,
+// alternatives, elements and preserved ids. A longer input is told by its first byte too many.
 use libc::STDIN_FILENO;
 use libc::STDOUT_FILENO;
 use sheet::Sizes;

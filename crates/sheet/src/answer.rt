@@ -1,20 +1,22 @@
 // The reader's answer, and the trailer it comes from.
 use crate::judge::Counters;
-use crate::judge::all_below;
-use crate::judge::all_distinct;
-use crate::lists::is_rising;
-use crate::rules::Rules;
-use crate::rules::read_rules;
-use crate::words::word;
+use crate::judge::judge;
+use ids::lists::is_rising;
+use records::rules::Rules;
+use records::rules::read_rules;
+use words::numbers::Refusal;
+use words::numbers::Sheet;
+use words::numbers::UnitKind;
+use words::words::word;
 ghost use mathlib.Core.Path.{_≡_};
-ghost use mathlib.Core.Bool.{true};
-ghost use Prim.Native.Nat.{_+_, _-_, _*_, _/_, _<_, _≤_, _^_};
-ghost use lib.ListN.{length, getD};
+ghost use Prim.Native.Nat.{_+_, _-_, _*_, _/_, _≤_};
+ghost use lib.ListN.{length};
+ghost use Rattle.grammar.specs.Numbers.{leastBytes, trailerWords};
 ghost use Rattle.grammar.specs.Words.{words};
 ghost use Rattle.grammar.specs.Parse.{got};
-ghost use Rattle.grammar.specs.Reading.{trailer, rulesEnd, isTrailer, judge, readWords};
-ghost use Rattle.sheet.specs.Rules.{IsEmpty, FoundRows};
-ghost use Rattle.sheet.specs.Answer.{CountersAt, ReadAs};
+ghost use Rattle.grammar.specs.Reading.{isLength, isTrailer, judge, readWords};
+ghost use Rattle.records.specs.Rules.{IsEmpty, FoundRows};
+ghost use Rattle.sheet.specs.Answer.{CountersAt, EndAt, Lent, ReadAs, TrailerAt};
 
 // The sheet's parts: unit kind; the preserved list's place, in words, and how many ids it has; counters.
 pub struct Parts {
@@ -45,16 +47,29 @@ pub fn refused(number: u32) -> Reading
     }
 }
 
-// Refusal 3 is given where this is false; `t` is where the trailer begins.
-fn is_trailer(s: &[u8], t: usize) -> bool
-    requires { ⌜ (t ≡ length (now s) / 4 - 8) × (32 ≤ length (now s)) ⌝ }
-    ensures { λ r. ⌜ (r ≡ isTrailer (words (now (s .entry)))) × (r ≡ true → getD (words (now (s .entry))) (t + 2) 0 ≤ t) ⌝ }
+// Refusal 1 is given where this is false.
+pub fn is_length(n: usize) -> bool
+    ensures { λ r. ⌜ r ≡ isLength n ⌝ }
 {
-    let kind = word(s, t);
-    if kind < 1 {
+    if n < Sheet::LEAST_BYTES {
         return false;
     }
-    if 3 < kind {
+    if Sheet::MOST_BYTES < n {
+        return false;
+    }
+    n % 4 == 0
+}
+
+// Refusal 3 is given where this is false; `t` is where the trailer begins.
+fn is_trailer(s: &[u8], t: usize) -> bool
+    requires { ⌜ (t ≡ length (now s) / 4 - trailerWords) × (leastBytes ≤ length (now s)) ⌝ }
+    ensures { λ r. ⌜ r ≡ isTrailer (words (now (s .entry))) ⌝ }
+{
+    let kind = word(s, t);
+    if kind < UnitKind::LEXER {
+        return false;
+    }
+    if UnitKind::COMBINED < kind {
         return false;
     }
     let first = word(s, t + 1);
@@ -62,6 +77,14 @@ fn is_trailer(s: &[u8], t: usize) -> bool
         return false;
     }
     word(s, t + 2) <= first
+}
+
+// Where the rules end and the preserved list begins.
+fn rules_end(s: &[u8], t: usize) -> usize
+    requires { ⌜ TrailerAt (now s) t ⌝ }
+    ensures { λ r. ⌜ EndAt (now (s .entry)) t r ⌝ }
+{
+    t - word(s, t + 2) as usize
 }
 
 fn counters_at(s: &[u8], t: usize) -> Counters
@@ -79,18 +102,18 @@ fn counters_at(s: &[u8], t: usize) -> Counters
 
 // Refusals 5 and 6, or the sheet; its records are good.
 fn judged(s: &[u8], t: usize, end: usize, rules: Rules, work: &mut [u8]) -> Reading
-    requires { ⌜ (t ≡ length (now s) / 4 - 8) × (32 ≤ length (now s)) × (length (now s) ≤ 32768) × (65536 ≤ length (now work)) ⌝ }
-    requires { ⌜ (end ≤ t) × (end + getD (words (now s)) (t + 2) 0 ≡ t) ⌝ }
+    requires { ⌜ Lent (now s) (now work) × EndAt (now s) t end ⌝ }
     requires { ⌜ FoundRows (words (now s)) end rules ⌝ }
-    ensures { λ r. ⌜ ((f : FoundRows (words (now (s .entry))) end rules) → ReadAs (judge (words (now (s .entry))) (got (f .found .trees) end)) r) ⌝ }
+    ensures { λ r. ⌜ ((f : FoundRows (words (now (s .entry))) end rules)
+        → ReadAs (judge (words (now (s .entry))) (got (f .found .trees) end)) r) ⌝ }
 {
-    if !all_distinct(s, end, rules, work) {
-        return refused(5);
-    }
     let counters = counters_at(s, t);
-    let n = rules.n;
-    if !all_below(s, end, n, counters, work) {
-        return refused(6);
+    let verdict = judge(s, end, rules, counters, work);
+    if !verdict.distinct {
+        return refused(Refusal::SHARED_NUMBER);
+    }
+    if !verdict.below {
+        return refused(Refusal::ID_PAST_COUNTER);
     }
     let parts = Parts {
         kind: word(s, t),
@@ -106,23 +129,22 @@ fn judged(s: &[u8], t: usize, end: usize, rules: Rules, work: &mut [u8]) -> Read
 
 // The whole reading of a sheet of good length; the work area is left in any state.
 pub fn examine(s: &[u8], work: &mut [u8]) -> Reading
-    requires { ⌜ (32 ≤ length (now s)) × (length (now s) ≤ 32768) × (65536 ≤ length (now work)) ⌝ }
+    requires { ⌜ Lent (now s) (now work) ⌝ }
     ensures { λ r. ⌜ ReadAs (readWords (words (now (s .entry)))) r ⌝ }
 {
-    let t = s.len() / 4 - 8;
+    let t = s.len() / 4 - Sheet::TRAILER_WORDS;
     if !is_trailer(s, t) {
-        return refused(3);
+        return refused(Refusal::BAD_TRAILER);
     }
-    let count = word(s, t + 2) as usize;
-    let end = t - count;
+    let end = rules_end(s, t);
     let rows = read_rules(s, end);
     let good = rows.good;
     let rules = rows.rules;
     if !good {
-        return refused(4);
+        return refused(Refusal::BAD_RECORD);
     }
-    if !is_rising(s, end, count) {
-        return refused(4);
+    if !is_rising(s, end, t - end) {
+        return refused(Refusal::BAD_RECORD);
     }
     judged(s, t, end, rules, work)
 }

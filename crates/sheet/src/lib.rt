@@ -1,29 +1,23 @@
-// The sheet reader: any bytes are refused by document 01's number, or known to be one tree's encoding.
-// Words, and the walks over a sheet that was read, are open to the crates above.
+// The sheet reader: any bytes are refused by a number (SPECIFICATION 4.1 to 4.6), or known to be one tree's encoding.
 mod answer;
-mod distinct;
-mod ids;
 mod judge;
-mod lists;
-mod records;
-mod rules;
 mod sizes;
-pub mod walk;
-pub mod words;
 
 pub use answer::Answer;
 pub use answer::Parts;
 pub use answer::Reading;
 use answer::examine;
+use answer::is_length;
 use answer::refused;
 pub use judge::Counters;
-pub use rules::Rules;
 pub use sizes::Sizes;
 pub use sizes::Summary;
 use sizes::counted;
 use sizes::refusal_numbers;
 use sizes::sheet_numbers;
-use words::clear;
+use words::numbers::Refusal;
+use words::numbers::Work;
+use words::words::clear;
 ghost use mathlib.Core.Path.{_≡_};
 ghost use Rattle.sheet.specs.Answer.{ReadAs, readLent, workAfter};
 ghost use Rattle.sheet.specs.Sizes.{SummedAs, numbersOf, idsOf, namesOf, placesOf};
@@ -33,18 +27,11 @@ pub fn read(sheet: &[u8], work: &mut [u8]) -> Reading
     ensures { λ r. ⌜ ReadAs (readLent (now (sheet .entry)) (now (work .entry))) r ⌝ }
     ensures { λ r. ⌜ now (work .exit) ≡ workAfter (now (sheet .entry)) (now (work .entry)) ⌝ }
 {
-    let n = sheet.len();
-    if n < 32 {
-        return refused(1);
+    if !is_length(sheet.len()) {
+        return refused(Refusal::BAD_LENGTH);
     }
-    if 32768 < n {
-        return refused(1);
-    }
-    if n % 4 != 0 {
-        return refused(1);
-    }
-    if work.len() < 65536 {
-        return refused(2);
+    if work.len() < Work::BYTES {
+        return refused(Refusal::SHORT_BUFFER);
     }
     let r = examine(sheet, work);
     clear(work);
@@ -62,8 +49,7 @@ pub fn summary(sheet: &[u8], work: &mut [u8]) -> Summary
     match answer {
         Answer::Refused(number) => Summary::Refused(number),
         Answer::Sheet(parts) => {
-            let sizes = counted(sheet, parts, n, work);
-            clear(work);
+            let sizes = counted(sheet, parts, n);
             Summary::Sheet(sizes)
         }
     }
@@ -100,8 +86,7 @@ pub extern "C" fn read_sheet(
             *numbers = refusal_numbers(number);
         }
         Answer::Sheet(parts) => {
-            let sizes = counted(sheet, parts, n, work);
-            clear(work);
+            let sizes = counted(sheet, parts, n);
             *numbers = sheet_numbers(parts, sizes);
         }
     }

@@ -1,13 +1,12 @@
 // How much a sheet holds.
 use crate::answer::Parts;
-use crate::ids::collect;
+use ids::survey::survey_all;
 ghost use mathlib.Core.Path.{_≡_};
-ghost use Prim.Native.Nat.{_+_, _*_, _<_, _≤_, _^_};
 ghost use mathlib.Core.List.{_∷_};
-ghost use lib.ListN.{length, replicate};
+ghost use lib.ListN.{replicate};
 ghost use Rattle.grammar.specs.Words.{words};
-ghost use Rattle.sheet.specs.Walk.{FoundRules};
-ghost use Rattle.sheet.specs.Sizes.{Counted, numbersFrom};
+ghost use Rattle.grammar.specs.Found.{FoundRules};
+ghost use Rattle.sheet.specs.Sizes.{Counted, Standing, numbersFrom};
 
 // The numbers of rules, alternatives, elements and preserved ids, nested ones counted.
 pub struct Sizes {
@@ -22,18 +21,17 @@ pub enum Summary {
     Sheet(Sizes),
 }
 
-pub fn counted(s: &[u8], parts: Parts, n: u32, work: &mut [u8]) -> Sizes
-    requires { ⌜ (4 * parts .preserved + 32 ≤ length (now s)) × (parts .preserved < 2 ^ 31) × (4 * parts .preserved + 4 ≤ length (now work)) ⌝ }
-    requires { ⌜ FoundRules (words (now s)) (parts .preserved) n 0 ⌝ }
-    ensures { λ r. ⌜ ((f : FoundRules (words (now (s .entry))) (parts .preserved) n 0) → Counted (f .trees) n (parts .count) r) ⌝ }
+// The sizes of a sheet that was read.
+pub fn counted(s: &[u8], parts: Parts, n: u32) -> Sizes
+    requires { ⌜ Standing (now s) (parts .preserved) n ⌝ }
+    ensures { λ r. ⌜ ((f : FoundRules (words (now (s .entry))) (parts .preserved) n 0)
+        → Counted (f .trees) n (parts .count) r) ⌝ }
 {
-    let end = parts.preserved as usize;
-    let a = collect(s, end, n, 2, work);
-    let e = collect(s, end, n, 3, work);
+    let v = survey_all(s, parts.preserved as usize, n);
     Sizes {
         rules: n,
-        alternatives: a as u32,
-        elements: e as u32,
+        alternatives: v.alternatives,
+        elements: v.elements,
         preserved: parts.count,
     }
 }

@@ -5,62 +5,68 @@ use mathlib.Core.List.{List, _∷_, _++_, append-assoc}
 use mathlib.Core.Bool.{Bool, true, false}
 use native.Mathlib.Omega.{arith}
 use lib.ListN.{length, replicate, length-append}
-use lib.Seq.{length-take-le}
 use lib.Dec.{leb}
 use borrow.Author.Tests.{leb-true}
 use Rattle.grammar.specs.Stands.{Stands}
+use Rattle.grammar.specs.Numbers.{leastBytes, trailerWords, workBytes}
 use Rattle.grammar.specs.Tree as tree
 use Rattle.grammar.specs.Words.{words}
 use Rattle.grammar.specs.Encode.{encode, encodeRules, encodeCounters}
-use Rattle.grammar.specs.Ids.{bodyIds}
 use Rattle.grammar.specs.Reading as reading
 use Rattle.grammar.specs.Reading.{refused, sheet, isLength, readWords, read}
 use Rattle.grammar.specs.Laws.Words.{length-words}
 use Rattle.grammar.specs.Laws.Stands.{stands-self, stands-split, stands-length, stands-within}
-use Rattle.grammar.specs.Laws.Parse.{left-true, right-true}
 use Rattle.grammar.specs.Laws.Whole.{words-sound, reads-sheet}
 use Rattle.sheet.specs.declared.answer.Parts.{Parts}
 use Rattle.sheet.specs.declared.answer.Answer.the-variants.{Refused, Sheet}
-use Rattle.sheet.specs.Walk.{FoundRules, RulesSpan, CollectedSort}
+use Rattle.grammar.specs.Found.{FoundRules, RulesSpan}
+use Rattle.ids.specs.declared.survey.Survey.{Survey}
+use Rattle.ids.specs.Survey.{Surveyed}
 use Rattle.sheet.specs.declared.answer.Reading.{Reading}
 use Rattle.sheet.specs.declared.sizes.Summary.{Summary}
 use Rattle.sheet.specs.declared.sizes.Sizes.{Sizes}
 use Rattle.sheet.specs.declared.sizes.Summary as summary
 use Rattle.sheet.specs.declared.sizes.Summary.the-variants as summary-of
-use Rattle.sheet.specs.Answer.{answerOf, partsOf, numberIn, readLent, workAfter, ReadAs, RowsIn}
-use Rattle.sheet.specs.Sizes.{Counted, sizesOf, summaryOf, numbersFrom, numbersOf, idsOf, namesOf, placesOf, numberOf, valuesOf, valuesIn, SummedAs}
+use Rattle.records.specs.Rules.{RowsOf}
+use Rattle.sheet.specs.Answer.{answerOf, partsOf, numberIn, readLent, ReadAs, RowsIn, Lent}
+use Rattle.sheet.specs.Sizes.{Standing, Counted, sizesOf, summaryOf, numbersFrom, numbersOf, idsOf, namesOf, placesOf}
+use Rattle.sheet.specs.Sizes.{numberOf, valuesOf, valuesIn, SummedAs}
+use Rattle.sheet.proofs.Laws.Lent.{lent-all}
 
-pub sort-count : {ws : List ℕ} {end n sort : ℕ} (bs : List ℕ) {k : ℕ} → CollectedSort ws end n sort (words bs) k → 4 * end + 4 ≤ length bs
-    → (f : FoundRules ws end n 0) → k ≡ length (bodyIds sort (f .trees))
-sort-count bs {k} c h f =
-    sym (length-take-le k (words bs) (rw length-words (let z = c .few in omega arith))) ∙ ap length (c .wrote (f .trees) (f .next) (f .spans) (f .count))
+-- as many ids as stand there
+pub sizes-counted : {ws : List ℕ} {end n : ℕ} (p : ℕ) {v : Survey} → Surveyed ws end n v → (f : FoundRules ws end n 0)
+    → Counted (f .trees) n p (record { rules = n; alternatives = v .alternatives; elements = v .elements; preserved = p })
+sizes-counted p s f = record { rules = refl; alternatives = s .alternativeCount f; elements = s .elementCount f; kept = refl }
 
 -- a sheet that was read has its rules from the first word on
-pub record Good (bs : List ℕ) (s : tree.Sheet) : Type 0 where
-  pub next : ℕ
-  pub spans : RulesSpan (words bs) (length (encodeRules (s .rules))) 0 (s .rules) next
-  pub room : 4 * length (encodeRules (s .rules)) + 32 ≤ length bs
-  pub size : length bs ≤ 32768
+record Good (bs : List ℕ) (s : tree.Sheet) : Type 0 where
+  next : ℕ
+  spans : RulesSpan (words bs) (length (encodeRules (s .rules))) 0 (s .rules) next
+  room : 4 * length (encodeRules (s .rules)) + leastBytes ≤ length bs
 
 -- the words behind the rules: the preserved ids and the trailer
+trailing : tree.Sheet → List ℕ
+trailing s =
+    s .kind ∷ length (encodeRules (s .rules) ++ s .preserved) ∷ length (s .preserved) ∷ encodeCounters (s .counters)
+
 behind : tree.Sheet → List ℕ
-behind s =
-    s .preserved ++ (s .kind ∷ length (encodeRules (s .rules) ++ s .preserved) ∷ length (s .preserved) ∷ encodeCounters (s .counters))
+behind s = s .preserved ++ trailing s
 
 encode-split : (s : tree.Sheet) → encode s ≡ encodeRules (s .rules) ++ behind s
-unfolding encode behind
+unfolding encode behind trailing
 encode-split s = append-assoc (encodeRules (s .rules)) (s .preserved) _
 
-behind-long : (s : tree.Sheet) → 8 ≤ length (behind s)
-unfolding behind
-behind-long s = let l = length-append (s .preserved) (s .kind ∷ length (encodeRules (s .rules) ++ s .preserved) ∷ length (s .preserved) ∷ encodeCounters (s .counters)) in omega arith
+behind-long : (s : tree.Sheet) → trailerWords ≤ length (behind s)
+unfolding behind trailing
+behind-long s = let l = length-append (s .preserved) (trailing s) in omega arith
 
-good-words : (bs : List ℕ) (s : tree.Sheet) → 32 ≤ length bs → length bs ≤ 32768 → readWords (words bs) ≡ sheet s → Good bs s
-good-words bs s h g e =
+good-words : (bs : List ℕ) (s : tree.Sheet) → leastBytes ≤ length bs → readWords (words bs) ≡ sheet s → Good bs s
+good-words bs s h e =
     let l = length-words bs in
     let i = reads-sheet (words-sound (words bs) (omega arith)) e in
     let n = length (words bs) in
-    let st : Stands (words bs) n (encodeRules (s .rules) ++ behind s) 0 n = subst (λ x. Stands (words bs) n x 0 n) (sym (i .words) ∙ encode-split s) (stands-self (words bs)) in
+    let st : Stands (words bs) n (encodeRules (s .rules) ++ behind s) 0 n =
+    subst (λ x. Stands (words bs) n x 0 n) (sym (i .words) ∙ encode-split s) (stands-self (words bs)) in
     let t = stands-split (encodeRules (s .rules)) (behind s) st in
     let a = stands-length (t .1) in
     let b = stands-length (t .2) in
@@ -70,66 +76,45 @@ good-words bs s h g e =
       next = t .0;
       spans = record { stands = stands-within (length (encodeRules (s .rules))) (omega arith) (t .1); fine = i .parts .rules };
       room = omega arith;
-      size = g;
     }
 
-pub good : (bs work : List ℕ) (s : tree.Sheet) → readLent bs work ≡ sheet s → Good bs s × (65536 ≤ length work)
+-- what was lent is long enough where a sheet was read
+record Taken (bs work : List ℕ) (s : tree.Sheet) : Type 0 where
+  long : isLength (length bs) ≡ true
+  enough : leb workBytes (length work) ≡ true
+  is : readWords (words bs) ≡ sheet s
+
+never-sheet : {A : Type 0} {n : ℕ} {s : tree.Sheet} → refused n ≡ sheet s → A
+never-sheet e = absurd (let u : _≡_ {A = ℕ} 0 1 = cc in omega arith)
+
+taken : (bs work : List ℕ) (s : tree.Sheet) → readLent bs work ≡ sheet s → Taken bs work s
 unfolding readLent read
-good bs work s e = go (isLength (length bs)) refl (leb 65536 (length work)) refl
+taken bs work s e = go (isLength (length bs)) refl (leb workBytes (length work)) refl
   where
-    go : (b : Bool) → isLength (length bs) ≡ b → (d : Bool) → leb 65536 (length work) ≡ d → Good bs s × (65536 ≤ length work)
-    go false x d y = absurd (let z : refused 1 ≡ sheet s = rw (x, readLent) at e in let u : _≡_ {A = ℕ} 0 1 = cc in omega arith)
-    go true x false y = absurd (let z : refused 2 ≡ sheet s = rw (x, y, readLent) at e in let u : _≡_ {A = ℕ} 0 1 = cc in omega arith)
-    go true x true y =
-        let m = left-true (leb 32 (length bs)) _ x in
-        let n = left-true (leb (length bs) 32768) _ (right-true (leb 32 (length bs)) _ x) in
-        (good-words bs s (leb-true _ _ m) (leb-true _ _ n) (rw (x, read) at (rw (x, y, readLent) at e)), leb-true _ _ y)
+    go : (b : Bool) → isLength (length bs) ≡ b → (d : Bool) → leb workBytes (length work) ≡ d → Taken bs work s
+    go false x d y = never-sheet (rw (x, readLent) at e)
+    go true x false y = never-sheet (rw (x, y, readLent) at e)
+    go true x true y = record { long = x; enough = y; is = rw (x, read) at (rw (x, y, readLent) at e) }
+
+good : (bs work : List ℕ) (s : tree.Sheet) → readLent bs work ≡ sheet s → Good bs s × Lent bs work
+good bs work s e =
+    let t = taken bs work s e in
+    let l = lent-all bs work (t .long) (leb-true _ _ (t .enough)) in
+    (good-words bs s (l .least) (t .is), l)
 
 -- an answer taken back to what was read
-pub record WasSheet (g : reading.Reading) (p : Parts) : Type 0 where
-  pub tree : tree.Sheet
-  pub is : g ≡ sheet tree
-  pub parts : p ≡ partsOf tree
+record WasSheet (g : reading.Reading) (p : Parts) : Type 0 where
+  tree : tree.Sheet
+  is : g ≡ sheet tree
+  parts : p ≡ partsOf tree
 
-pub was-sheet : (g : reading.Reading) (p : Parts) → answerOf g ≡ Sheet p → WasSheet g p
+was-sheet : (g : reading.Reading) (p : Parts) → answerOf g ≡ Sheet p → WasSheet g p
 was-sheet (refused n) p e = absurd (let z : _≡_ {A = ℕ} 0 1 = cc in omega arith)
 was-sheet (sheet s) p e = record { tree = s; is = refl; parts = cc }
 
-pub was-refused : (g : reading.Reading) (n : ℕ) → answerOf g ≡ Refused n → g ≡ refused n
+was-refused : (g : reading.Reading) (n : ℕ) → answerOf g ≡ Refused n → g ≡ refused n
 was-refused (refused m) n e = let z : m ≡ n = cc in ap refused z
 was-refused (sheet s) n e = absurd (let z : _≡_ {A = ℕ} 0 1 = cc in omega arith)
-
--- a sheet that was read, as its walks need it
-pub record Summed (bs work : List ℕ) (p : Parts) (n : ℕ) : Type 0 where
-  pub tree : tree.Sheet
-  pub is : readLent bs work ≡ sheet tree
-  pub found : FoundRules (words bs) (p .preserved) n 0
-  pub same : found .trees ≡ tree .rules
-  pub room : 4 * p .preserved + 32 ≤ length bs
-  pub size : length bs ≤ 32768
-  pub lent : 65536 ≤ length work
-  pub count : n ≡ length (tree .rules)
-  pub parts : p ≡ partsOf tree
-
-pub summed : (bs work : List ℕ) {r : Reading} {p : Parts} → ReadAs (readLent bs work) r → r .answer ≡ Sheet p → Summed bs work p (r .rules .n)
-summed bs work {r} {p} a e = go (was-sheet (readLent bs work) p (sym (a .answer) ∙ e))
-  where
-    go : WasSheet (readLent bs work) p → Summed bs work p (r .rules .n)
-    go w =
-        let g = good bs work (w .tree) (w .is) in
-        let rows = rw (w .is) at (a .rows) in
-        let k : p .preserved ≡ length (encodeRules (w .tree .rules)) = ap (λ q. q .preserved) (w .parts) in
-        record {
-          tree = w .tree;
-          is = w .is;
-          found = record { trees = w .tree .rules; next = g .0 .next; spans = rw k (g .0 .spans); count = sym (rows .count) };
-          same = refl;
-          room = let z = g .0 .room in omega arith;
-          size = g .0 .size;
-          lent = g .1;
-          count = rows .count;
-          parts = w .parts;
-        }
 
 -- the number and the sizes go with the summary
 summed-as : (g : reading.Reading) {r : Summary} → r ≡ summaryOf g → SummedAs g r
@@ -143,29 +128,62 @@ summed-as g e = record { summary = e; number = ap numberOf e ∙ number-same g; 
     values-same (refused n) = refl
     values-same (sheet s) = refl
 
--- the answers
-module _ (bs work : List ℕ) {r : Reading} (a : ReadAs (readLent bs work) r) where
-  pub summary-refused : {n : ℕ} → r .answer ≡ Refused n → SummedAs (readLent bs work) (summary-of.Refused n)
-  summary-refused {n} e = summed-as (readLent bs work) (sym (ap summaryOf (was-refused (readLent bs work) n (sym (a .answer) ∙ e))))
+-- a refusal
+module _ (bs work : List ℕ) {r : Reading} (a : ReadAs (readLent bs work) r) {n : ℕ} (e : r .answer ≡ Refused n) where
+  is-refused : readLent bs work ≡ refused n
+  is-refused = was-refused (readLent bs work) n (sym (a .answer) ∙ e)
 
-  pub numbers-refused : {n : ℕ} {ns : List ℕ} → r .answer ≡ Refused n → ns ≡ n ∷ replicate 11 0 → ns ≡ numbersOf (readLent bs work)
-  numbers-refused {n} e f = f ∙ sym (ap numbersOf (was-refused (readLent bs work) n (sym (a .answer) ∙ e)))
+  pub summary-refused : SummedAs (readLent bs work) (summary-of.Refused n)
+  summary-refused = summed-as (readLent bs work) (sym (ap summaryOf is-refused))
 
-module _ (bs work : List ℕ) {p : Parts} {n : ℕ} {z : Sizes} (m : Summed bs work p n) (c : Counted (m .found .trees) n (p .count) z) where
-  sizes-are : z ≡ sizesOf (m .tree)
-  sizes-are i =
+  pub numbers-refused : {ns : List ℕ} → ns ≡ n ∷ replicate 11 0 → ns ≡ numbersOf (readLent bs work)
+  numbers-refused f = f ∙ sym (ap numbersOf is-refused)
+
+-- a sheet that was read, as its walks need it
+module _ (bs work : List ℕ) {r : Reading} (a : ReadAs (readLent bs work) r) {p : Parts} (e : r .answer ≡ Sheet p) where
+  was : WasSheet (readLent bs work) p
+  was = was-sheet (readLent bs work) p (sym (a .answer) ∙ e)
+
+  rows-of : RowsOf (was .tree .rules) (r .rules)
+  rows-of = rw (was .is) at (a .rows)
+
+  found-rules : FoundRules (words bs) (p .preserved) (r .rules .n) 0
+  found-rules =
+      let g = good bs work (was .tree) (was .is) in
+      let k : p .preserved ≡ length (encodeRules (was .tree .rules)) = ap (λ q. q .preserved) (was .parts) in
       record {
-        rules = (c .rules ∙ m .count) i;
-        alternatives = (c .alternatives ∙ ap (λ rs. length (bodyIds 2 rs)) (m .same)) i;
-        elements = (c .elements ∙ ap (λ rs. length (bodyIds 3 rs)) (m .same)) i;
-        preserved = (c .kept ∙ ap (λ q. q .count) (m .parts)) i;
+        trees = was .tree .rules;
+        next = g .0 .next;
+        spans = subst (λ n. RulesSpan (words bs) n 0 (was .tree .rules) (g .0 .next)) (sym k) (g .0 .spans);
+        count = sym (rows-of .count);
       }
 
-  pub summary-sheet : SummedAs (readLent bs work) (summary-of.Sheet z)
-  summary-sheet = summed-as (readLent bs work) (ap summary-of.Sheet sizes-are ∙ sym (ap summaryOf (m .is)))
+  pub standing : Standing bs (p .preserved) (r .rules .n)
+  standing =
+      let g = good bs work (was .tree) (was .is) in
+      let k : p .preserved ≡ length (encodeRules (was .tree .rules)) = ap (λ q. q .preserved) (was .parts) in
+      let y = g .0 .room in
+      let z = g .1 .most in
+      record { room = record { trailer = omega arith; low = omega arith }; found = found-rules }
 
-  pub numbers-sheet : {ns : List ℕ} → ns ≡ numbersFrom p z → ns ≡ numbersOf (readLent bs work)
-  numbers-sheet e = e ∙ ap₂ numbersFrom (m .parts) sizes-are ∙ sym (ap numbersOf (m .is))
+  module _ {z : Sizes}
+      (c : (f : FoundRules (words bs) (p .preserved) (r .rules .n) 0) → Counted (f .trees) (r .rules .n) (p .count) z) where
+    sizes-are : z ≡ sizesOf (was .tree)
+    unfolding found-rules
+    sizes-are i =
+        let o = c found-rules in
+        record {
+          rules = (o .rules ∙ rows-of .count) i;
+          alternatives = o .alternatives i;
+          elements = o .elements i;
+          preserved = (o .kept ∙ ap (λ q. q .count) (was .parts)) i;
+        }
+
+    pub summary-sheet : SummedAs (readLent bs work) (summary-of.Sheet z)
+    summary-sheet = summed-as (readLent bs work) (ap summary-of.Sheet sizes-are ∙ sym (ap summaryOf (was .is)))
+
+    pub numbers-sheet : {ns : List ℕ} → ns ≡ numbersFrom p z → ns ≡ numbersOf (readLent bs work)
+    numbers-sheet f = f ∙ ap₂ numbersFrom (was .parts) sizes-are ∙ sym (ap numbersOf (was .is))
 
 -- the rows
 module _ {g : reading.Reading} {r : Reading} (a : ReadAs g r) where
@@ -190,11 +208,6 @@ module _ {g : reading.Reading} {r : Reading} (a : ReadAs g r) where
       go (refused n) o = o .places
       go (sheet s) o = o .places
 
-pub work-cleared : (bs work after : List ℕ) {s : tree.Sheet} (n : ℕ) → readLent bs work ≡ sheet s → after ≡ replicate n 0 → n ≡ length work → after ≡ workAfter bs work
-unfolding readLent workAfter
-work-cleared bs work after {s} n e f k = go (isLength (length bs)) refl (leb 65536 (length work)) refl
-  where
-    go : (b : Bool) → isLength (length bs) ≡ b → (d : Bool) → leb 65536 (length work) ≡ d → after ≡ workAfter bs work
-    go false x d y = absurd (let z : refused 1 ≡ sheet s = rw (x, readLent) at e in let u : _≡_ {A = ℕ} 0 1 = cc in omega arith)
-    go true x false y = absurd (let z : refused 2 ≡ sheet s = rw (x, y, readLent) at e in let u : _≡_ {A = ℕ} 0 1 = cc in omega arith)
-    go true x true y = rw (x, y, workAfter) (f ∙ ap (λ m. replicate m 0) k)
+pub ruleset summaries = (summary-refused, numbers-refused, standing, summary-sheet, numbers-sheet)
+
+pub ruleset rows-out = (ids-out, names-out, places-out)

@@ -1,70 +1,17 @@
 -- `sheet::judge::bodies_are_distinct` meets its contract.
-use borrow.Author.Tests.{not-true, not-false}
 use borrow.Author.Needs.{needs}
+use Rattle.sheet.proofs.Laws.Judge.{bodies}
 use Rattle.sheet.proofs.judge.bodies_are_distinct.Statement.{statement}
 use Rattle.sheet.proofs.judge.bodies_are_distinct.Tie as tie
-
-sort-is-distinct-requires : tie.Need-sort-is-distinct-requires
-sort-is-distinct-requires c κs = search needs
-
-same-length : tie.Need-same-length
-same-length c = search needs
-
-returns : tie.Need-returns
-returns c = λ f. simp (← (c .before .before .before .sort-is-distinct .ensures f), not-true (c .before .before .before .sort-is-distinct .result) (c .if1 .taken))
-
-sort-is-distinct-requires-2 : tie.Need-sort-is-distinct-requires-2
-sort-is-distinct-requires-2 c κs = search needs
-
-same-length-2 : tie.Need-same-length-2
-same-length-2 c = search needs
-
-returns-2 : tie.Need-returns-2
-returns-2 c = λ f. simp (← (c .before .before .before .before .before .before .before .before .sort-is-distinct .ensures f), not-false (c .before .before .before .before .before .before .before .before .sort-is-distinct .result) (c .before .before .before .before .before .if1 .left), ← (c .before .before .before .sort-is-distinct2 .ensures f), not-true (c .before .before .before .sort-is-distinct2 .result) (c .if2 .taken))
-
-sort-is-distinct-requires-3 : tie.Need-sort-is-distinct-requires-3
-sort-is-distinct-requires-3 c κs = search needs
-
-same-length-3 : tie.Need-same-length-3
-same-length-3 c = search needs
-
-returns-3 : tie.Need-returns-3
-returns-3 c = λ f. simp (← (c .before .before .before .before .before .before .before .before .before .before .before .before .before .sort-is-distinct .ensures f), not-false (c .before .before .before .before .before .before .before .before .before .before .before .before .before .sort-is-distinct .result) (c .before .before .before .before .before .before .before .before .before .before .if1 .left), ← (c .before .before .before .before .before .before .before .before .sort-is-distinct2 .ensures f), not-false (c .before .before .before .before .before .before .before .before .sort-is-distinct2 .result) (c .before .before .before .before .before .if2 .left), ← (c .before .before .before .sort-is-distinct3 .ensures f), not-true (c .before .before .before .sort-is-distinct3 .result) (c .if3 .taken))
-
-sort-is-distinct-requires-4 : tie.Need-sort-is-distinct-requires-4
-sort-is-distinct-requires-4 c κs = search needs
-
-same-length-4 : tie.Need-same-length-4
-same-length-4 c = search needs
-
-returns-4 : tie.Need-returns-4
-returns-4 c = λ f. simp (← (c .before .before .before .before .before .before .before .before .before .before .before .before .before .before .before .before .before .before .sort-is-distinct .ensures f), not-false (c .before .before .before .before .before .before .before .before .before .before .before .before .before .before .before .before .before .before .sort-is-distinct .result) (c .before .before .before .before .before .before .before .before .before .before .before .before .before .before .before .if1 .left), ← (c .before .before .before .before .before .before .before .before .before .before .before .before .before .sort-is-distinct2 .ensures f), not-false (c .before .before .before .before .before .before .before .before .before .before .before .before .before .sort-is-distinct2 .result) (c .before .before .before .before .before .before .before .before .before .before .if2 .left), ← (c .before .before .before .before .before .before .before .before .sort-is-distinct3 .ensures f), not-false (c .before .before .before .before .before .before .before .before .sort-is-distinct3 .result) (c .before .before .before .before .before .if3 .left), ← (c .before .before .before .sort-is-distinct4 .ensures f), not-true (c .before .before .before .sort-is-distinct4 .result) (c .if4 .taken))
-
-sort-is-distinct-requires-5 : tie.Need-sort-is-distinct-requires-5
-sort-is-distinct-requires-5 c κs = search needs
-
-same-length-5 : tie.Need-same-length-5
-same-length-5 c = search needs
-
-returns-5 : tie.Need-returns-5
-returns-5 c = λ f. simp (← (c .before .before .before .before .before .before .before .before .before .before .before .before .before .before .before .before .before .before .before .before .before .before .sort-is-distinct .ensures f), not-false (c .before .before .before .before .before .before .before .before .before .before .before .before .before .before .before .before .before .before .before .before .before .before .sort-is-distinct .result) (c .before .before .before .before .before .before .before .before .before .before .before .before .before .before .before .before .before .before .before .if1 .left), ← (c .before .before .before .before .before .before .before .before .before .before .before .before .before .before .before .before .before .sort-is-distinct2 .ensures f), not-false (c .before .before .before .before .before .before .before .before .before .before .before .before .before .before .before .before .before .sort-is-distinct2 .result) (c .before .before .before .before .before .before .before .before .before .before .before .before .before .before .if2 .left), ← (c .before .before .before .before .before .before .before .before .before .before .before .before .sort-is-distinct3 .ensures f), not-false (c .before .before .before .before .before .before .before .before .before .before .before .before .sort-is-distinct3 .result) (c .before .before .before .before .before .before .before .before .before .if3 .left), ← (c .before .before .before .before .before .before .before .sort-is-distinct4 .ensures f), not-false (c .before .before .before .before .before .before .before .sort-is-distinct4 .result) (c .before .before .before .before .if4 .left)) (c .before .before .sort-is-distinct5 .ensures f)
 
 pub bodies-are-distinct-spec : {M : Type 1} → statement M
 bodies-are-distinct-spec =
     tie.close
     (tie.spec
-    sort-is-distinct-requires
-    same-length
-    returns
-    sort-is-distinct-requires-2
-    same-length-2
-    returns-2
-    sort-is-distinct-requires-3
-    same-length-3
-    returns-3
-    sort-is-distinct-requires-4
-    same-length-4
-    returns-4
-    sort-is-distinct-requires-5
-    same-length-5
-    returns-5)
+    (λ c κs. search (needs, bodies))
+    (λ c κs. search (needs, bodies))
+    (λ c κs. search (needs, bodies))
+    (λ c κs. search (needs, bodies))
+    (λ c κs. search (needs, bodies))
+    (λ c. search (needs, bodies))
+    (λ c. search (needs, bodies)))

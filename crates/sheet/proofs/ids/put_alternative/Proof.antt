@@ -1,9 +1,0 @@
--- `sheet::ids::put_alternative` meets its contract.
-use borrow.Author.Needs.{needs}
-use Rattle.sheet.proofs.ids.put_alternative.Statement.{statement}
-use Rattle.sheet.proofs.ids.put_alternative.Tie as tie
-use Rattle.sheet.proofs.Laws.Ids.{puts}
-
-pub put-alternative-spec : {M : Type 1} → statement M
-put-alternative-spec =
-    tie.close (tie.spec (λ c κs. search (needs, puts)) (λ c κs. search (needs, puts)) (λ c. search (needs, puts)) (λ c. search (needs, puts)) (λ c. search (needs, puts)))

@@ -1,0 +1,17 @@
+-- `words::walk::alternative_head` meets its contract.
+use borrow.Author.Needs.{needs}
+use Rattle.words.proofs.walk.alternative_head.Statement.{statement}
+use Rattle.words.proofs.walk.alternative_head.Tie as tie
+use Rattle.grammar.specs.Laws.Found.{heads}
+
+pub alternative-head-spec : {M : Type 1} → statement M
+alternative-head-spec =
+    tie.close
+    (tie.spec
+    (λ c. search (needs, heads))
+    (λ c κs. search (needs, heads))
+    (λ c. search (needs, heads))
+    (λ c. search (needs, heads))
+    (λ c κs. search (needs, heads))
+    (λ c κs. search (needs, heads))
+    (λ c. search (needs, heads)))
