@@ -1,255 +1,105 @@
 #!/usr/bin/env python3
-"""Holds the definition in crates/reference against stored answers of the harness.
+"""Holds the definition in crates/reference against the stored answers of the harness (SPECIFICATION 1.2, 1.4).
 
     check_answers.py [options] ANSWERS...
 
-ANSWERS are files of answers, or folders of them. Each answer becomes checks, outside the
-crates, that the definition computes to the same refusal, or to the same plans, steps, result
-words and trail, the same origins of every node, and the same clause for every cycle that is
-left. Of a long result origins and clauses are not asked. The checker runs them in batches; an
-answer that it cannot compute within its limits counts as left out. The exit status is 1 where an
-answer disagrees.
+ANSWERS are files of answers, or folders of them. Each answer becomes an equation, outside the
+crates, that the checker closes by computing: the definition gives the same refusal, or the same
+plans, steps, words of result and trail, and origins of every node (12.6), and where a cycle is left
+the same clause for it (10). Of a long result (claims.LONG) origins and clauses are not asked. A sheet
+of more than claims.READ bytes is not handed to `read`, which takes time by the square of a sheet's
+length: a quick reader makes its tree, which must encode to the sheet's words.
+
+Where a folder is given, `outcome` is computed too, for the calls in answers/calls.py (3): the five
+numbers and every byte of the three buffers, which are not zero at entry, and are as long as they
+must be, longer, or a byte short. A call takes a second, for the length of its buffers; so not every
+answer has one, but every refusal, sheets joined and left, each line that a length draws, and either
+reading of left corners (14).
+
+None is left out: the exit status is 1 where an answer disagrees, and where the checker cannot compute
+one within its limits.
 """
 import argparse
 import re
-import shutil
-import subprocess
 import sys
 from pathlib import Path
+from queue import Empty, SimpleQueue
+from threading import Thread
 
-LINE = 60          # numbers to a line of a list
-SMALL = 600        # bytes of a sheet that is small
-LONG = 5000        # words of a result that is long
-# what the checker says where it ends for its own limits
-STOPS = ('stopped at the step limit', 'outgrew the memory limit')
+from answers.calls import Call, calls
+from answers.definitions import copy_definitions
+from answers.room import Room
+from answers.stored import gather, read_file
 
-HEAD = '''use Prim.Native.Nat.{{ℕ, zero, suc}}
-use mathlib.Core.Path.{{_≡_, refl}}
-use mathlib.Core.List.{{List, [], _∷_, _++_, map}}
-use mathlib.Core.Bool.{{Bool, true, false, _&&_}}
-use lib.ListN.{{length}}
-use lib.Dec.{{eqb}}
-use Rattle.grammar.specs.Tree.{{Rule, bodyDepth, Sheet}}
-use Rattle.grammar.specs.Words.{{bytes}}
-use Rattle.grammar.specs.Encode.{{each}}
-use Rattle.grammar.specs.Reading.{{read, refused, sheet}}
-use Rattle.grammar.specs.Corners.{{rust}}
-use Rattle.reference.specs.Analysis.{{grammarOf, leftCornerCycles}}
-use Rattle.reference.specs.Substitute.{{Clause, noHub, hubWithArguments, satelliteNotInlinable, budget, danglingReference, blockedCorner, labelCollision, bindingCollision, optionCollision, noSteps, notDirectlyRewritable, decided, declined, overfull, standard}}
-use Rattle.reference.specs.Plan.{{planCycle}}
-use Rattle.reference.specs.Apply.{{Node, Origin, Origins, provenance, origins}}
-use Rattle.reference.specs.Run.{{Stage, Run, ended, stopped, innerDepth, eliminateMutualLeftRecursion, Answer, refusal, answer, answerRun, answerTo, sheetAfter, entriesOf}}
+__all__ = ['Room', 'all_asked', 'check', 'copy_definitions', 'differing', 'gather', 'read_file']
 
--- The answer.
-to : List ℕ → Answer
-unfolding {opened}
-to = answerTo standard rust
-
-number : Clause → ℕ
-number noHub = 1
-number hubWithArguments = 2
-number satelliteNotInlinable = 3
-number budget = 4
-number danglingReference = 5
-number blockedCorner = 6
-number labelCollision = 7
-number bindingCollision = 8
-number optionCollision = 9
-number noSteps = 10
-number notDirectlyRewritable = 11
-
--- Each cycle still there, behind the number of its clause.
-report : Sheet → List (List ℕ)
-unfolding {opened} number
-report s =
-    let g = grammarOf bodyDepth (s .rules) in
-    map
-      (λ cycle. elim (planCycle standard rust g innerDepth (s .rules) (s .preserved) cycle) [ decided p ↦ [] | overfull ↦ [] | declined c ↦ number c ∷ cycle ])
-      (leftCornerCycles rust g bodyDepth (s .rules))
-
-flat : List Origin → List ℕ
-flat = each λ o. o .reason ∷ o .owner .id ∷ []
-
--- Of each node asked for its origins, behind them all the number of nodes that have any.
-lists : List Stage → List Node → List (List ℕ)
-unfolding {opened} flat
-lists ss ns =
-    let index = provenance (entriesOf ss) in
-    map (λ n. flat (origins index n)) ns ++ ((length index ∷ []) ∷ [])
-
--- The answer, the cycles left with their clauses, and the origins.
-data Whole : Type 0 where
-  whole : Answer → (clauses origins : List (List ℕ)) → Whole
-
-parser : ℕ → List (List ℕ) → List (List ℕ)
-parser k cs = elim (eqb k 2) [ true ↦ cs | false ↦ [] ]
-
-all′ : List ℕ → List Node → Whole
-unfolding {opened} report lists parser
-all′ bs ns =
-    elim (read bs)
-    [ refused n ↦ whole (refusal n) [] []
-    | sheet s ↦ elim (eliminateMutualLeftRecursion standard rust s)
-        [ stopped n ↦ whole (refusal n) [] []
-        | ended ss ↦ whole (answerRun s (ended ss)) (parser (s .kind) (report (sheetAfter s ss))) (lists ss ns) ] ]
-
-'''
+WORK = 25000   # of a batch: about the bytes of its sheets
 
 
-class Stored:
-    """One stored answer: a name, the sheet's bytes and what was answered."""
-
-    def __init__(self, name):
-        self.name, self.sheet, self.refused, self.plans, self.steps = name, b'', None, 0, 0
-        self.result, self.trail, self.origins, self.clauses = [], [], [], []
-
-    def take(self, key, rest):
-        """One line of the record; lines of the listing that `out` and `t` repeat are passed over."""
-        if key == 'in':
-            self.sheet = bytes_of(numbers(rest))
-        elif key == 'hex':
-            self.sheet = bytes.fromhex(rest)
-        elif key == 'refused':
-            self.refused = int(rest)
-        elif key == 'ok':
-            self.plans, self.steps = numbers(rest)
-        elif key == 't':
-            self.trail += numbers(rest)
-        elif key == 'out':
-            self.result = words_of(self.sheet) if rest == 'same' else numbers(rest)
-        elif key == 'o':
-            self.origins.append(numbers(rest))
-        elif key == 'c':
-            self.clauses.append(numbers(rest))
+def all_asked(paths, pattern=''):
+    """The answers in files and folders, and where there is a folder the calls, whose names fit."""
+    asked = gather(paths)
+    if any(Path(path).is_dir() for path in paths):
+        asked += calls(asked)
+    return [one for one in asked if re.search(pattern, one.name)]
 
 
-def numbers(text):
-    return [int(word) for word in text.split()]
+def effort(one):
+    """About what the checker takes for it, in bytes of a sheet; a call has long buffers."""
+    return 4000 if isinstance(one, Call) else max(len(one.sheet), 300)
 
 
-def bytes_of(words):
-    return b''.join(word.to_bytes(4, 'little') for word in words)
+def batches(asked):
+    """Lists of answers of about the same work, the large ones first."""
+    made, room = [], 0
+    for one in sorted(asked, key=effort, reverse=True):
+        if effort(one) > room:
+            made.append([])
+            room = WORK
+        made[-1].append(one)
+        room -= effort(one)
+    return made
 
 
-def words_of(sheet):
-    return [int.from_bytes(sheet[at:at + 4], 'little') for at in range(0, len(sheet), 4)]
+def work(room, waiting, wrong, large, first):
+    """Takes batches until there are none, or until something disagrees and one is enough."""
+    while not (first and wrong):
+        try:
+            batch = waiting.get_nowait()
+        except Empty:
+            return
+        bad, stopped = room.run(batch)
+        wrong.update(bad)
+        large.update({name: why for name, why in stopped.items() if name not in bad})
 
 
-def read_file(path):
-    """The answers of one file."""
-    stored = []
-    for line in path.read_text().splitlines():
-        key, _, rest = line.partition(' ')
-        if key == 'sheet':
-            stored.append(Stored(f'{path.name}: {rest}'))
-        elif stored:
-            stored[-1].take(key, rest)
-    return stored
+def check(asked, crates, place, processes=1, first=False):
+    """What disagrees and what could not be computed of these, by name, with the definitions in `crates`."""
+    wrong, large, waiting = {}, {}, SimpleQueue()
+    made = batches(asked)
+    for batch in made:
+        waiting.put(batch)
+    rooms = [Room(place / '0', crates)]
+    rooms[0].prepare()
+    rooms += [rooms[0].beside(place / str(at)) for at in range(1, min(processes, len(made)))]
+    threads = [Thread(target=work, args=(room, waiting, wrong, large, first)) for room in rooms]
+    for thread in threads:
+        thread.start()
+    for thread in threads:
+        thread.join()
+    if any(room.failed for room in rooms):
+        sys.exit('\n'.join(room.failed for room in rooms if room.failed))
+    return wrong, large
 
 
-def literal(values):
-    """A list of numbers, folded into lines."""
-    lines = [' ∷ '.join(map(str, values[at:at + LINE])) for at in range(0, len(values), LINE)]
-    return ' ∷\n      '.join(lines + ['[]'])
-
-
-def sheet_term(sheet):
-    if len(sheet) % 4:
-        return f'({literal(list(sheet))})'
-    return f'(bytes ({literal(words_of(sheet))}))'
-
-
-def answer_term(stored):
-    if stored.refused is not None:
-        return f'refusal {stored.refused}'
-    return (f'answer {stored.plans} {stored.steps} ({literal(stored.result)})'
-            f' ({literal(stored.trail)})')
-
-
-def lists_term(lists):
-    return ' ∷ '.join([f'({literal(one)})' for one in lists] + ['[]'])
-
-
-def node_term(node):
-    return f'record {{ kind = {node[0]}; id = {node[1]} }}'
-
-
-def checks(index, stored):
-    """The checks of one answer. A small or a long one is asked for by `answerTo` itself."""
-    sheet, answer, claims = sheet_term(stored.sheet), answer_term(stored), []
-    long = len(stored.result) > LONG
-    if stored.refused is not None or long or len(stored.sheet) <= SMALL:
-        claims.append(f'to {sheet} ≡ {answer}')
-    if stored.refused is None and not long:
-        nodes = ' ∷ '.join([node_term(node) for node in stored.origins] + ['[]'])
-        wanted = [node[2:] for node in stored.origins] + [[len(stored.origins)]]
-        claims.append(f'all′ {sheet} ({nodes})\n  ≡ whole ({answer}) ({lists_term(stored.clauses)}) ({lists_term(wanted)})')
-    return ''.join(
-        f'{kind}{index} : {claim}\nunfolding to all′\n{kind}{index} = refl\n\n'
-        for kind, claim in zip('ab', claims))
-
-
-def opened(crates):
-    """Every definition that a computation has to open, by its whole name."""
-    found = []
-    for crate in ('grammar', 'reference'):
-        for path in sorted((crates / crate / 'specs').glob('*.antt')):
-            for name in re.findall(r'^ *unfoldable pub (\S+)', path.read_text(), re.M):
-                found.append(f'Rattle.{crate}.specs.{path.stem}.{name}')
-    return ' '.join(found)
-
-
-def copy_definitions(crate, copy):
-    """A crate without its laws and its table: what is checked here are the definitions alone."""
-    shutil.rmtree(copy, ignore_errors=True)
-    shutil.copytree(crate, copy, ignore=shutil.ignore_patterns('Laws', 'Laws.antt', 'Starred.antt', 'must-fail'))
-    library = copy / 'specs/Lib.antt'
-    lines = library.read_text().splitlines(keepends=True)
-    library.write_text(''.join(line for line in lines if line.split()[-1] not in ('Laws', 'Starred')))
-
-
-class Room:
-    """A scratch repository whose crate `answers` holds the checks of one batch."""
-
-    def __init__(self, place, crates):
-        self.place = place
-        self.checks = place / 'crates/answers/specs/Checks.antt'
-        (place / 'crates/answers/src').mkdir(parents=True, exist_ok=True)
-        self.checks.parent.mkdir(parents=True, exist_ok=True)
-        (place / 'crates.txt').write_text('grammar:\nreference: grammar\nanswers: grammar reference\n')
-        for crate in ('grammar', 'reference'):
-            copy_definitions(crates / crate, place / 'crates' / crate)
-        (place / 'crates/answers/src/lib.rt').write_text('// Checks only, in specs/.\n')
-        (place / 'crates/answers/specs/Lib.antt').write_text('pub mod Checks\n')
-        self.head = HEAD.format(opened=opened(place / 'crates'))
-
-    def run(self, batch):
-        """The names in a batch that disagree, and those that were too large."""
-        text, at = self.head, []
-        for index, stored in enumerate(batch):
-            at.append(text.count('\n') + 1)
-            text += checks(index, stored)
-        self.checks.write_text(text)
-        done = subprocess.run(['rt', 'dev', 'answers'], cwd=self.place, capture_output=True, text=True)
-        said = done.stdout + done.stderr
-        wrong, large = {}, {}
-        for line, message in re.findall(r'Checks\.antt:(\d+):\d+: (.*)', said):
-            before = [stored.name for stored, start in zip(batch, at) if start <= int(line)]
-            if not before:
-                sys.exit(f'the checks cannot be read:\n{message}')
-            (large if any(stop in message for stop in STOPS) else wrong)[before[-1]] = message[:200]
-        if done.returncode and not wrong and not large:
-            sys.exit(f'the checker failed:\n{said[-3000:]}')
-        return wrong, large
-
-
-def gather(paths):
-    stored = []
-    for path in map(Path, paths):
-        files = sorted(path.rglob('*.txt')) if path.is_dir() else [path]
-        for file in files:
-            stored += read_file(file)
-    return stored
+def differing(asked, crates, place):
+    """The names of these for which the definitions in `crates` are shown, by computing, to give something else."""
+    room = Room(place / '0', crates)
+    room.prepare()
+    same, large = room.run(asked, differs=True)
+    if room.failed:
+        sys.exit(room.failed)
+    return [one.name for one in asked if one.name not in same and one.name not in large]
 
 
 def arguments():
@@ -257,36 +107,24 @@ def arguments():
     parser.add_argument('answers', nargs='+')
     parser.add_argument('--crates', default='crates', type=Path, help='the folder of crates')
     parser.add_argument('--room', default='target/answers', type=Path, help='the scratch folder')
-    parser.add_argument('--largest', default=32768, type=int, help='sheets of more bytes are left out')
-    parser.add_argument('--batch', default=200, type=int, help='answers to a batch')
-    parser.add_argument('--names', default='', help='take only answers whose names fit this pattern')
-    parser.add_argument('--every', default=1, type=int, help='take only each N-th answer')
-    parser.add_argument('--first', action='store_true', help='end with the first batch that disagrees')
+    parser.add_argument('--names', default='', help='take only answers and calls whose names fit this pattern')
+    parser.add_argument('--processes', default=2, type=int, help='checkers at a time')
+    parser.add_argument('--first', action='store_true', help='end soon after something disagrees')
     return parser.parse_args()
 
 
 def main():
     given = arguments()
-    stored = [s for s in gather(given.answers) if re.search(given.names, s.name)][::given.every]
-    if not stored:
+    asked = all_asked(given.answers, given.names)
+    if not asked:
         sys.exit('there are no such answers')
-    small = [s for s in stored if len(s.sheet) <= given.largest]
-    left = {s.name: f'{len(s.sheet)} bytes' for s in stored if len(s.sheet) > given.largest}
-    room, wrong, asked = Room(given.room.resolve(), given.crates.resolve()), {}, len(left)
-    for at in range(0, len(small), given.batch):
-        batch = small[at:at + given.batch]
-        bad, large = room.run(batch)
-        wrong.update(bad)
-        left.update({name: why for name, why in large.items() if name not in bad})
-        asked += len(batch)
-        if bad and given.first:
-            break
-    for name, why in left.items():
-        print(f'left out: {name} ({why})')
-    for name, why in wrong.items():
+    wrong, large = check(asked, given.crates.resolve(), given.room.resolve(), given.processes, given.first)
+    for name, why in sorted(large.items()):
+        print(f'not computed: {name}: {why}')
+    for name, why in sorted(wrong.items()):
         print(f'disagrees: {name}: {why}')
-    print(f'{asked - len(left) - len(wrong)} agree, {len(wrong)} disagree, {len(left)} left out as too large')
-    return 1 if wrong else 0
+    print(f'{len(asked) - len(large) - len(wrong)} agree, {len(wrong)} disagree, {len(large)} not computed')
+    return 1 if wrong or large else 0
 
 
 if __name__ == '__main__':

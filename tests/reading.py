@@ -1,5 +1,14 @@
 #!/usr/bin/env python3
-"""Runs a program on every sheet of tests/reading and compares what it prints.
+"""Runs a program on every sheet of tests/reading and compares what it prints (SPECIFICATION 16.1).
+
+A sheet's name begins with what it is about:
+  length                                          SPECIFICATION 4.1
+  kind, first-distance, second-distance           4.3
+  name, label, quantifier, depth, rules, list, .. 4.4
+  twice                                           4.5
+  counter                                         4.6
+  order                                           4.20
+  case                                            15, by its number there
 
 usage: reading.py [PROGRAM]   (the built `inspect` if none is named)
 """

@@ -1,5 +1,5 @@
 #!/usr/bin/env python3
-"""Turns a .words file into the bytes of a sheet.
+"""Turns a .words file into the bytes of a sheet (SPECIFICATION 2).
 
 A line holds decimal words; `#` starts a comment. Other lines:
   trailer KIND LIST A E L C P   kind, the words so far, the list's length, five counters
