@@ -8,7 +8,7 @@ use crate::strings::{Languages, can_be_empty, symbol};
 
 #[derive(Clone, Copy, Debug, Eq, Ord, PartialEq, PartialOrd)]
 pub enum Reading {
-    /// Document 01: past everything that can be empty.
+    /// SPECIFICATION 13.11: past everything that can be empty.
     Textbook,
     /// The original: never past a symbol, whatever its quantifier.
     Original,
@@ -54,7 +54,7 @@ impl Grammar<'_> {
         }
     }
 
-    /// The largest sets of more than one rule, each reaching each, by least id.
+    /// The cycles (SPECIFICATION 6.7), by least id.
     pub fn cycles(&self, reading: Reading) -> Vec<Vec<u32>> {
         let reach = self.reach(reading);
         let mut cycles: Vec<Vec<u32>> = Vec::new();

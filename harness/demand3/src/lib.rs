@@ -48,7 +48,7 @@ pub enum Fault {
 }
 
 impl Fault {
-    /// Whether it is a fault by document 01's left corners alone.
+    /// Whether it is a fault by the textbook's left corners alone.
     pub fn is_by_textbook_corners(self) -> bool {
         matches!(
             self,

@@ -1,6 +1,6 @@
 //! What a grammar derives, as sets of token strings of at most four symbols.
 //!
-//! Written from document 01, "How demand 3 reads a grammar". Sets of strings
+//! As SPECIFICATION 13 reads a grammar. Sets of strings
 //! over three symbols fit the 121 lowest bits of a word: by length, then by value.
 
 use std::collections::BTreeMap;

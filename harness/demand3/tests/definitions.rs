@@ -1,4 +1,4 @@
-//! The checker's own definitions, on grammars whose answers are plain to see.
+//! The checker's own definitions (SPECIFICATION 13), on grammars whose answers are plain to see.
 
 use std::collections::BTreeSet;
 
@@ -29,8 +29,9 @@ fn language(grammar: &str) -> u128 {
     languages(&made, &symbols)[&name]
 }
 
+/// SPECIFICATION 13.6.
 #[test]
-fn quantifiers_count_as_document_01_says() {
+fn quantifiers_count_as_the_specification_says() {
     assert_eq!(language("e: X;"), set(&["X"]));
     assert_eq!(language("e: X?;"), set(&["", "X"]));
     assert_eq!(language("e: X??;"), set(&["", "X"]));

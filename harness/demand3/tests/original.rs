@@ -1,5 +1,5 @@
-//! Demand 3 on the original's answers: the finding of docs/DIFFERENCES.md, and no
-//! other on the grammars that are run here.
+//! Demand 3 (SPECIFICATION 1.5 to 1.8) on the original's answers: finding 1 of
+//! docs/DIFFERENCES.md, and no other on the grammars that are run here.
 
 use std::collections::BTreeSet;
 

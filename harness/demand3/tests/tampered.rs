@@ -1,4 +1,5 @@
-//! Each sentence fails on an answer that was made to break it.
+//! Each sentence of demand 3 (SPECIFICATION 1.5 to 1.8) fails on an answer that was made to
+//! break it.
 
 use std::collections::BTreeSet;
 

@@ -13,7 +13,7 @@ use sheets::generate;
 use sheets::parse::sheet;
 
 use crate::written::WRITTEN;
-use crate::{Answer, ask, examples, text};
+use crate::{Answer, ask, edges, examples, text};
 
 /// A file of `answers/` and what is in it.
 pub struct File {
@@ -41,7 +41,7 @@ const fn seeds(profile: &'static str, sheets: usize, words: usize) -> Part {
     }
 }
 
-pub const FILES: [File; 6] = [
+pub const FILES: [File; 7] = [
     File {
         name: "examples.txt",
         parts: &[Part::Examples],
@@ -91,12 +91,15 @@ pub const FILES: [File; 6] = [
     File {
         name: "limits.txt",
         parts: &[
-            seeds("near-7", 40, 1_000),
-            seeds("near-8", 80, 500),
-            seeds("near-9", 30, 700),
+            seeds("near-7", 26, 1_000),
+            seeds("near-8", 70, 300),
+            seeds("near-9", 10, 400),
             seeds("just-9", 3, 8_192),
-            Part::Edges,
         ],
+    },
+    File {
+        name: "edges.txt",
+        parts: &[Part::Edges],
     },
     File {
         name: "reading.txt",
@@ -104,10 +107,13 @@ pub const FILES: [File; 6] = [
     },
 ];
 
+/// Characters of a grammar that is written beside its sheet.
+const LONGEST_GRAMMAR: usize = 400;
+
 /// A sheet to be asked about.
 pub struct Question {
     pub name: String,
-    pub grammar: Option<&'static str>,
+    pub grammar: Option<String>,
     pub bytes: Vec<u8>,
 }
 
@@ -129,7 +135,7 @@ impl Part {
         match self {
             Part::Examples => examples::examples().into_iter().map(from_example).collect(),
             Part::Written => WRITTEN.iter().enumerate().map(from_written).collect(),
-            Part::Edges => [34, 35].map(edge_of_nine).into(),
+            Part::Edges => edges::edges().into_iter().map(from_edge).collect(),
             Part::Seeds {
                 profile,
                 sheets,
@@ -150,26 +156,19 @@ fn from_example(example: examples::Example) -> Question {
 fn from_written((place, grammar): (usize, &&'static str)) -> Question {
     Question {
         name: format!("written {}", place + 1),
-        grammar: Some(grammar),
+        grammar: Some((*grammar).to_owned()),
         bytes: bytes_of(&encode(&sheet(grammar))),
     }
 }
 
-/// One plan of 300 new alternatives, and two words of its result for each option: 34 are the most
-/// that 32,768 bytes hold.
-fn edge_of_nine(options: usize) -> Question {
-    let list = |count: usize, part: &str, between: &str| vec![part; count].join(between);
-    let options_of: Vec<String> = (0..options).map(|at| format!("o{at}=1")).collect();
-    let grammar = format!(
-        "e: a | <{}> INT; a: {}; b: {};",
-        options_of.join(","),
-        list(15, "b T", " | "),
-        list(20, "e T", " | ")
-    );
+/// A long grammar is not told twice: `sheets show` prints it from the sheet.
+fn from_edge((name, grammar): edges::Edge) -> Question {
+    let bytes = bytes_of(&encode(&sheet(&grammar)));
+    let grammar = Some(grammar).filter(|text| text.len() <= LONGEST_GRAMMAR);
     Question {
-        name: format!("edge-9 with {options} options"),
-        grammar: None,
-        bytes: bytes_of(&encode(&sheet(&grammar))),
+        name,
+        grammar,
+        bytes,
     }
 }
 
@@ -190,7 +189,7 @@ fn from_seeds(name: &str, sheets: usize, words: usize) -> Vec<Question> {
 
 pub fn record(asked: &Question, answer: &Answer) -> String {
     let mut out = format!("sheet {}\n", asked.name);
-    if let Some(grammar) = asked.grammar {
+    if let Some(grammar) = &asked.grammar {
         let _ = writeln!(out, "grammar {grammar}");
     }
     let words = words_of(&asked.bytes);

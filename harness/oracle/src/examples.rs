@@ -1,9 +1,9 @@
-//! The 14 grammars of document 01, and what it says of each.
+//! The 14 grammars of SPECIFICATION 15, and what it says of each.
 
 use sheets::codec::{bytes_of, encode};
 use sheets::parse::sheet;
 
-/// What document 01 says of a grammar.
+/// What SPECIFICATION 15 says of a grammar.
 #[derive(Clone, Copy, Debug, Eq, PartialEq)]
 pub enum Says {
     /// These rules, read as a grammar of their own; steps where they are given.
@@ -32,7 +32,7 @@ pub fn examples() -> Vec<Example> {
     list
 }
 
-/// Name, grammar in the notation, and what document 01 says of it.
+/// Name, grammar in the notation, and what SPECIFICATION 15 says of it.
 pub const WRITTEN: [(&str, &str, Says); 12] = [
     (
         "1",

@@ -1,11 +1,12 @@
-//! The outcome that document 01 wants of a sheet, with the original as the judge.
+//! The outcome of a sheet (SPECIFICATION 3), with the original as the judge.
 //!
-//! Result words and origin lists are the unchanged original's. Plans, steps, the
-//! trail and the declining clauses are the traced copy's, whose result must be the
-//! same. Refusals 1 and 3 to 6 are the codec's, 7 and 9 document 01's definitions
-//! at the copy's hooks, 8 is the original's own panic.
+//! Result words and origin lists are the unchanged original's. Plans, steps, the trail
+//! and the declining clauses are the traced copy's, whose result must be the same.
+//! Refusals 1 and 3 to 6 are the codec's, 7 and 9 are told at the copy's hooks
+//! (SPECIFICATION 4.7, 4.9), 8 is the original's own panic.
 
 pub mod book;
+pub mod edges;
 pub mod examples;
 pub mod text;
 pub mod written;

@@ -7,7 +7,7 @@ use sheets::walk::{self, Node};
 
 use crate::{Answer, Done, Entry};
 
-/// Document 01's listing.
+/// The listing (SPECIFICATION 16.2).
 pub fn listing(answer: &Answer) -> String {
     let done = match answer {
         Ok(done) => done,

@@ -1,5 +1,5 @@
-//! Grammars written by hand: points that are easily misread, and one for each
-//! clause of order 3 with the nearest grammar that is joined.
+//! Grammars written by hand: points that are easily misread, and one for each clause
+//! (SPECIFICATION 10) with the nearest grammar that is joined.
 
 pub const WRITTEN: [&str; 96] = [
     // Left corners stop at a symbol, whatever its quantifier.

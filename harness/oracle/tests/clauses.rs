@@ -1,5 +1,5 @@
-//! The clause by which a cycle is declined: order 3's numbers, read off the
-//! original's planner from top to bottom.
+//! The clause by which a cycle is declined, by its number (SPECIFICATION 10), read off
+//! the original's planner from top to bottom.
 
 use oracle::ask_sheet;
 use sheets::parse::sheet;

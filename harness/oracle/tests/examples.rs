@@ -1,4 +1,4 @@
-//! The 14 grammars of document 01 against what document 01 says of each.
+//! The 14 grammars of SPECIFICATION 15 against what it says of each.
 
 use std::collections::BTreeSet;
 
@@ -51,7 +51,7 @@ fn bodies(sheet: &Sheet) -> BTreeSet<String> {
         .collect()
 }
 
-/// Document 01's result with the numbers that the example's names have.
+/// The result in SPECIFICATION 15 with the numbers that the example's names have.
 fn named_alike(example: &Example, grammar: &str) -> Sheet {
     let given = read(&example.bytes).expect("a sheet");
     let source = source_of(example.name);
@@ -95,7 +95,7 @@ fn grammar_with(names: &mut Names, grammar: &str) -> Sheet {
 }
 
 #[test]
-fn document_01_holds_of_the_original_on_all_14() {
+fn the_specification_holds_of_the_original_on_all_14() {
     let all = examples();
     let numbers: BTreeSet<&str> = all
         .iter()
@@ -108,7 +108,7 @@ fn document_01_holds_of_the_original_on_all_14() {
 }
 
 #[test]
-fn kept_and_removed_rules_are_those_of_document_01() {
+fn kept_and_removed_rules_are_those_of_the_specification() {
     let ids = |name: &str| {
         let all = examples();
         let example = all.iter().find(|one| one.name == name).expect("an example");
@@ -157,8 +157,9 @@ fn example_12_stops_at_step_65_and_13_at_the_sizes_named() {
     );
 }
 
+/// SPECIFICATION 15.20.
 #[test]
-fn case_1_is_listed_as_in_document_01() {
+fn case_1_is_listed_as_in_the_specification() {
     let listed = "ok 1 1\nr 1 1\na 0 13\ne 0 25 3 0 1\ne 0 26 4 0 4\ne 0 27 3 0 1\na 0 11\n\
                   e 0 21 4 0 3\nt 2 13 1 12\nt 3 25 2 22\nt 3 26 2 23\nt 3 27 2 24\nt 1 1 1 1\n";
     let case_1 = &examples()[0];

@@ -1,4 +1,5 @@
-//! Refusals 7 to 9: where each line runs, and which comes first.
+//! Refusals 7 to 9 (SPECIFICATION 4.7 to 4.9): where each line runs, and which comes first
+//! (4.21, 4.22).
 
 use oracle::ask_sheet;
 use sheets::codec::{bytes_of, encode, read};

@@ -4,6 +4,8 @@ pub mod compare;
 pub mod damage;
 pub mod grow;
 pub mod numbers;
+#[cfg(feature = "proved")]
+pub mod proved;
 pub mod random;
 pub mod read;
 pub mod sheets;

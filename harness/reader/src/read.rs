@@ -1,4 +1,5 @@
-//! A second reader of sheets, written from document 01 alone.
+//! A second reader of sheets (SPECIFICATION 2 and 4), which shares nothing with the
+//! first.
 //!
 //! It answers the lowest refusal that holds (1, 3, 4, 5 or 6), or the sheet's parts. Refusal 2 is
 //! about lent buffers, and this reader is lent none.

@@ -1,4 +1,5 @@
-//! Each clause of refusals 1, 3 and 4: a sheet just inside and one just outside.
+//! Each clause of refusals 1, 3 and 4 (SPECIFICATION 4.1, 4.3, 4.4): a sheet just inside and
+//! one just outside.
 
 mod common;
 

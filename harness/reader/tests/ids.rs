@@ -1,4 +1,4 @@
-//! Refusals 5 and 6, and which of two refusals is given.
+//! Refusals 5 and 6 (SPECIFICATION 4.5, 4.6), and which of two refusals is given (4.20).
 
 mod common;
 

@@ -1,4 +1,4 @@
-//! Trees to words and back, with refusals 1 and 3 to 6 of document 01.
+//! Trees to words and back, with refusals 1 and 3 to 6 (SPECIFICATION 4).
 
 use crate::tree::{
     Alternative, Counters, Element, Kind, Label, OptionDecl, Reference, Rule, Semantics, Sheet,

@@ -1,4 +1,4 @@
-//! Sheets of document 01: trees and words, a notation for grammars, a generator.
+//! Sheets (SPECIFICATION 2): trees and words, a notation for grammars, a generator.
 
 pub mod codec;
 pub mod generate;

@@ -1,4 +1,4 @@
-//! What document 01's sheet holds, as a tree.
+//! What a sheet holds (SPECIFICATION 2.7), as a tree.
 
 #[derive(Clone, Debug, Default, Eq, PartialEq)]
 pub struct Sheet {

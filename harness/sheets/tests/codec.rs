@@ -1,4 +1,4 @@
-//! Sheets as words: round trips, and the refusals on both sides of each line.
+//! Sheets as words (SPECIFICATION 2): round trips, and the refusals (4) on both sides of each line.
 
 use sheets::codec::{bytes_of, encode, read};
 use sheets::generate::{PROFILES, damaged};
@@ -9,7 +9,7 @@ fn refusal(words: &[u32]) -> Option<u32> {
     read(&bytes_of(words)).err()
 }
 
-/// The words of case 1, with its 69 words written out in document 01's terms.
+/// The 69 words of case 1 (SPECIFICATION 15.20), record by record.
 fn case_1() -> Vec<u32> {
     encode(&sheet("e: a | INT; a: e PLUS e;"))
 }
@@ -20,8 +20,9 @@ fn edited(place: usize, value: u32) -> Option<u32> {
     refusal(&words)
 }
 
+/// SPECIFICATION 2.7 and 15.20.
 #[test]
-fn case_1_is_laid_out_as_document_01_says() {
+fn case_1_is_laid_out_as_the_specification_says() {
     let e = [1, 1, 0, 2];
     let call_a = [10, 0, 0, 0, 1, 20, 0, 3, 0, 0, 0, 2, 0];
     let int = [11, 0, 0, 0, 1, 21, 0, 4, 0, 0, 0, 3];

@@ -1,4 +1,4 @@
-//! The codec here, from document 01's table, against the second reader on the sheets of the readers' comparison.
+//! The codec here against the second reader on the sheets of the readers' comparison.
 
 use sheets::codec;
 

@@ -1,5 +1,5 @@
-//! What the inserted lines call. They write down; where document 01's refusal 7
-//! or 9 is met they end the run.
+//! What the inserted lines call. They write down; where refusal 7 or 9 is met
+//! (SPECIFICATION 4) they end the run.
 
 use std::cell::RefCell;
 use std::collections::BTreeSet;

@@ -49,7 +49,7 @@ pub const COPIES: [(&str, &str); 5] = [
     ),
 ];
 
-/// Document 01's numbers under 7 and 9.
+/// The numbers of SPECIFICATION 4.7 and 4.9.
 #[derive(Clone, Copy, Debug)]
 pub struct Limits {
     pub alternatives: usize,
@@ -69,7 +69,7 @@ impl Limits {
     };
 }
 
-/// A cycle that was turned down, and the clause of order 3 by which.
+/// A cycle that was turned down, and the clause (SPECIFICATION 10) by which.
 #[derive(Clone, Debug, Eq, PartialEq)]
 pub struct Decline {
     pub clause: u32,
