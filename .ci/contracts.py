@@ -1,48 +1,35 @@
 #!/usr/bin/env python3
 """The project's own check of what its crates promise and rest on.
 
-- Every `pub fn` and every `extern "C"` function of a library has an `ensures`.
+- Every `pub fn` and every `extern "C"` function of a library has an `ensures`; none says nothing, by
+  `⊤ₛ` or by an equation whose two sides are the same text, alone or beside other parts.
 - Every function at the outer boundary has no `requires`: the `extern "C"` functions, what is `pub`
-  in a library's root file src/lib.rt, and what that file hands on with `pub use`, the `pub` methods
-  of such types too. Functions of its open modules may rest on what the reader states, and have one.
+  in a library's root file src/lib.rt, and what that file hands on with `pub use`, under another name
+  or with all of its module too, and the `pub` methods of such types. Functions of its open modules
+  may rest on what the reader states, and have one.
 - No `axiom` and no hole stands in an .antt file.
 - No library assumes anything: it uses crates of this repository alone, since a library's verdict
   does not count the axioms of the kit's; and its last line, which `rt` keeps in target/log, has
-  neither `foreign=` nor, where it was built for linking, an `axioms=` other than 0.
+  neither `foreign=` nor, where it was built for linking, an `axioms=` other than 0, nor a word which
+  says that an earlier run, or another logic than the kit's, is trusted.
 
 One line for each breach, with file and line. usage: contracts.py [ROOT]
 """
 
-import os
 import pathlib
-import re
 import sys
 
-RATTLE = re.compile(
-    r"""(?P<skip>\s+|//[^\n]*|/\*.*?\*/)
-      | (?P<text>b?"(?:\\.|[^"\\])*"|b'(?:\\.[0-9a-f]*|[^'\\])')
-      | (?P<word>[A-Za-z_]\w*)
-      | (?P<mark>.)""",
-    re.VERBOSE | re.DOTALL,
-)
-# A name of antt is a run of anything but spaces and these marks; so `even?` is one name, and a
-# word that begins with `?` is a hole.
-ANTT = re.compile(
-    r"""(?P<skip>\s+|--[^\n]*)
-      | (?P<open>\{-)
-      | (?P<text>"(?:\\.|[^"\\])*"|«[^»]*»)
-      | (?P<word>[^\s(){}.;,@"«»]+)
-      | (?P<mark>.)""",
-    re.VERBOSE | re.DOTALL,
-)
+from clauses import says_nothing
+from lexer import BUILT, antt_words, files, line_of, rattle_words
+
 MODIFIERS = {"pub", "extern", '"C"', "const", "unsafe"}
 OPENING, CLOSING = {"(", "["}, {")", "]"}
-# What builds leave, and git.
-BUILT = (".git", "target", "harness/target")
+# Words of a verdict by which it rests on more than this run and the kit.
+TRUSTING = ("pinned=no", "cache=", "incremental=", "crate-checked=")
 
 
 class Function:
-    """A function's head: how it can be reached, whose method it is, and which clauses it has."""
+    """A function's head: how it can be reached, whose method it is, and its clauses, each with its text and place."""
 
     def __init__(self, name, place, before, owner):
         self.name = name
@@ -50,33 +37,10 @@ class Function:
         self.owner = owner
         self.public = "pub" in before
         self.exported = "extern" in before
-        self.clauses = set()
+        self.clauses = []
 
-
-def line_of(text, at):
-    return text.count("\n", 0, at) + 1
-
-
-def comment_end(text, at):
-    """The end of antt's block comment that starts at `at`; such comments nest."""
-    depth = 0
-    for found in re.compile(r"\{-|-\}").finditer(text, at):
-        depth += 1 if found.group() == "{-" else -1
-        if depth == 0:
-            return found.end()
-    return len(text)
-
-
-def antt_words(text, at=0):
-    """Each word and mark of antt from `at` on, with its place."""
-    while at < len(text):
-        found = ANTT.match(text, at)
-        if found.lastgroup == "open":
-            at = comment_end(text, at)
-            continue
-        if found.lastgroup in ("word", "mark"):
-            yield found.group(), at
-        at = found.end()
+    def has(self, kind):
+        return any(clause[0] == kind for clause in self.clauses)
 
 
 def clause_end(text, at):
@@ -87,15 +51,6 @@ def clause_end(text, at):
         if depth == 0:
             return place + 1
     return len(text)
-
-
-def rattle_words(text, at=0):
-    """Each word, text and mark of Rattle from `at` on, with its place."""
-    while at < len(text):
-        found = RATTLE.match(text, at)
-        if found.lastgroup != "skip":
-            yield found.group(), at
-        at = found.end()
 
 
 def head_end(text, at, function):
@@ -111,8 +66,21 @@ def head_end(text, at, function):
         elif depth == 0 and word in ("{", ";"):
             return place
         elif depth == 0 and word in ("requires", "ensures", "ghost"):
-            function.clauses.add(word)
-            at = clause_end(text, text.index("{", at))
+            start = text.index("{", at)
+            at = clause_end(text, start)
+            function.clauses.append((word, text[start + 1 : at - 1], start))
+
+
+def owner_of(text, at):
+    """The type of the `impl` that ends at `at`: the last name of its path, behind `for` if there is one."""
+    name, depth = None, 0
+    for word, _ in rattle_words(text, at):
+        depth += {"<": 1, ">": -1}.get(word, 0)
+        if word == "{":
+            return name
+        if depth == 0 and (word[0].isalpha() or word[0] == "_") and word != "for":
+            name = word
+    return name
 
 
 def functions(text):
@@ -132,7 +100,7 @@ def functions(text):
             at = head_end(text, named + len(name), function)
             found.append(function)
         elif word == "impl":
-            owner = next(rattle_words(text, at), (None, 0))[0]
+            owner = owner_of(text, at)
         elif word == "{":
             open_blocks.append(owner)
             owner = None
@@ -142,29 +110,92 @@ def functions(text):
         before = []
 
 
+def branches(words, front=()):
+    """The paths of a `use`, from its words up to the `;`: each a list of names, of which the last may be `*`."""
+    paths, path, at = [], list(front), 0
+    while at < len(words):
+        word = words[at]
+        if word == "{":
+            end = at + group_length(words[at:])
+            paths += branches(words[at + 1 : end - 1], path)
+            path, at = [], end
+            continue
+        if word == ",":
+            paths, path = paths + [path], list(front)
+        elif word == "as":
+            at += 1
+        elif word != ":":
+            path.append(word)
+        at += 1
+    return [path for path in paths + [path] if path and path != list(front)]
+
+
+def group_length(words):
+    """How many words a group in braces has, from its first brace on."""
+    depth = 0
+    for at, word in enumerate(words):
+        depth += {"{": 1, "}": -1}.get(word, 0)
+        if depth == 0:
+            return at + 1
+    return len(words)
+
+
 def handed_on(text):
-    """The names that a root file hands on with `pub use`."""
+    """The paths that a file hands on with `pub use`, by the names that things have where they are made."""
     words = [word for word, _ in rattle_words(text)]
-    names = set()
+    paths = []
     for at in range(len(words) - 1):
         if words[at : at + 2] == ["pub", "use"]:
-            path = words[at + 2 : words.index(";", at)]
-            names |= {word for word, after in zip(path, path[1:] + [";"]) if after in (";", ",", "}")}
-    return names
+            paths += branches(words[at + 2 : words.index(";", at)])
+    return paths
+
+
+def renamed(text):
+    """The other names that a file's `use` lines give: each with the name that it stands for."""
+    words = [word for word, _ in rattle_words(text)]
+    return {words[at + 1]: words[at - 1] for at in range(1, len(words) - 1) if words[at] == "as" and words[at + 1][0].isalpha()}
+
+
+def module_of(file):
+    return file.parent.name if file.stem == "mod" else file.stem
+
+
+def outside_of(source):
+    """What a library's root file hands on: names of functions and types, and modules of which it hands on all."""
+    texts = {file: file.read_text(encoding="utf-8") for file in files(source, ".rt")}
+    other = {}
+    for text in texts.values():
+        other.update(renamed(text))
+    names, modules, todo = set(), set(), [source / "lib.rt"]
+    while todo:
+        for path in handed_on(texts[todo.pop()]):
+            if path[-1] != "*":
+                names.add(path[-1])
+            elif len(path) > 1 and path[-2] not in modules:
+                modules.add(path[-2])
+                todo += [file for file in texts if module_of(file) == path[-2]]
+    for name in list(names):
+        while name in other and other[name] not in names:
+            name = other[name]
+            names.add(name)
+    return names, modules
 
 
 def breaches_of_functions(where, text, is_root, outside):
-    """What is wrong with a library's file, whose names `outside` are handed on; how many were looked at."""
+    """What is wrong with a library's file that is its root or handed on whole, or of which names `outside` are."""
     wrong, seen = [], 0
     for function in functions(text):
         if not (function.public or function.exported):
             continue
         seen += 1
         place = f"{where}:{line_of(text, function.place)}"
-        if "ensures" not in function.clauses:
+        if not function.has("ensures"):
             wrong.append(f"{place}: fn {function.name} is open to callers and has no ensures")
+        for kind, clause, _ in function.clauses:
+            if kind == "ensures" and says_nothing(clause):
+                wrong.append(f"{place}: fn {function.name} has an ensures that says nothing: {says_nothing(clause)}")
         outer = is_root or function.exported or (function.owner or function.name) in outside
-        if outer and "requires" in function.clauses:
+        if outer and function.has("requires"):
             wrong.append(f"{place}: fn {function.name} is at the outer boundary and has a requires")
     return wrong, seen
 
@@ -205,17 +236,9 @@ def breaches_of_verdicts(root, crate):
             wrong.append(f"{place}: library {crate} declares foreign functions: {line}")
         if any(word.startswith("axioms=") and word != "axioms=0" for word in words):
             wrong.append(f"{place}: library {crate} rests on axioms: {line}")
+        if any(word.startswith(TRUSTING) for word in words):
+            wrong.append(f"{place}: library {crate} rests on what is not of this run and the kit: {line}")
     return wrong
-
-
-def files(root, suffix, left_out=()):
-    """The files below a folder that end so, but for some folders by their paths from there."""
-    for folder, inner, names in os.walk(root):
-        here = pathlib.Path(folder)
-        inner[:] = sorted(name for name in inner if (here / name).relative_to(root).as_posix() not in left_out)
-        for name in sorted(names):
-            if name.endswith(suffix):
-                yield here / name
 
 
 def libraries(root):
@@ -238,10 +261,10 @@ def breaches(root):
     wrong, seen, read = [], 0, 0
     for crate in libraries(root):
         source = root / "crates" / crate / "src"
-        outside = handed_on((source / "lib.rt").read_text(encoding="utf-8"))
+        outside, whole = outside_of(source)
         for file in files(source, ".rt"):
             text = file.read_text(encoding="utf-8")
-            is_root = file == source / "lib.rt"
+            is_root = file == source / "lib.rt" or module_of(file) in whole
             bad, count = breaches_of_functions(file.relative_to(root), text, is_root, outside)
             wrong, seen, read = wrong + bad, seen + count, read + 1
         wrong += breaches_of_verdicts(root, crate)

@@ -1,11 +1,12 @@
 #!/usr/bin/env python3
-"""Checks that the definition can be held beside the original.
+"""Checks that the definition can be held beside the original and the specification.
 
 - Each function of the definition has a comment, above it or behind its signature, that names a
-  function or file of the original with a line, or says that it is document 01's.
+  function or file of the original with a line, or the place of the specification whose it is.
 - Where a comment names a function of the original with a line, that function has this line.
 - Each function of the original's pass is named with a line.
-- The definition has fewer than 1,000 lines.
+- Each paragraph or section that any file cites, as SPECIFICATION 4.7, or 2 and 4, is there; no file
+  cites a document that is not in the repository.
 
 One line for each breach. usage: places.py [ROOT]
 """
@@ -14,16 +15,27 @@ import pathlib
 import re
 import sys
 
+from lexer import BUILT, files, line_of
+
 FILES = ("Walks", "Analysis", "Substitute", "Plan", "Apply", "Run")
 DEFINITION = "crates/reference/specs"
 ORIGINAL = "harness/original/upstream/crates/antlr-rust-codegen/src/grammar/mutual_recursion.rs"
-LIMIT = 1000
+SPECIFICATION = "docs/SPECIFICATION.md"
+# The original's own files cite nothing of ours.
+LEFT_OUT = (*BUILT, "harness/original/upstream", "harness/answers")
+SUFFIXES = (".antt", ".rt", ".rs", ".py", ".sh", ".md", ".edit", ".words", ".txt")
 
 SIGNATURE = re.compile(r"\s*(?:abbrev|unfoldable) pub (\S+) :")
 # 'name, l. 12' or 'name, l. 12 to 20'; 'l. 12 to 20 of name'
 NAMED = re.compile(r"\b(\w+), l\. (\d+)(?: to (\d+))?")
 NAMED_AFTER = re.compile(r"\bl\. (\d+)(?: to (\d+))? of (\w+)")
-ADDED = re.compile(r"\bdocument 01", re.I)
+ADDED = re.compile(r"\bSPECIFICATION \d")
+# 'SPECIFICATION 4.7', 'SPECIFICATION 3.1 to 3.4, 4 and 12', over a line's end and the marks of a comment too
+NUMBER = r"\d+(?:\.\d+)?"
+CITED = re.compile(rf"\bSPECIFICATION\s+(?:[/#*-]+\s+)?({NUMBER}(?:(?:,? and |, | to ){NUMBER})*)")
+ELSEWHERE = re.compile(r"\bdocument 0\d\b", re.I)
+SECTION = re.compile(r"^## (\d+)\.", re.M)
+PARAGRAPH = re.compile(r"^(?:- )?\*\*(\d+\.\d+)\*", re.M)
 
 
 def spans(text):
@@ -76,12 +88,11 @@ def places(text):
         yield name, int(first), int(last or first)
 
 
-def breaches(root):
-    original, named, total = spans((root / ORIGINAL).read_text()), set(), 0
+def breaches_of_places(root):
+    original, named = spans((root / ORIGINAL).read_text()), set()
     for file in FILES:
         path = root / DEFINITION / f"{file}.antt"
         lines = path.read_text().split("\n")
-        total += len(lines) - 1
         for at, line in enumerate(lines):
             function = SIGNATURE.match(line)
             if function and not has_place(comment(lines, at)):
@@ -95,13 +106,29 @@ def breaches(root):
                     yield f"{path}:{number}: {name} is not in lines {first} to {last}"
     for name in sorted(set(original) - named):
         yield f"{root / ORIGINAL}:{original[name][0]}: {name} is named nowhere"
-    if total >= LIMIT:
-        yield f"{root / DEFINITION}: {total} lines"
+
+
+def breaches_of_citations(root):
+    specification = (root / SPECIFICATION).read_text(encoding="utf-8")
+    there = set(SECTION.findall(specification)) | set(PARAGRAPH.findall(specification))
+    for path in files(root, SUFFIXES, LEFT_OUT):
+        text = path.read_text(encoding="utf-8", errors="replace")
+        for cited in CITED.finditer(text):
+            for number in re.findall(NUMBER, cited[1]):
+                if number not in there:
+                    yield f"{path}:{line_of(text, cited.start())}: SPECIFICATION has no {number}"
+        for cited in ELSEWHERE.finditer(text):
+            yield f"{path}:{line_of(text, cited.start())}: {cited[0]} is not in the repository"
+
+
+def breaches(root):
+    yield from breaches_of_places(root)
+    yield from breaches_of_citations(root)
 
 
 def main():
     found = list(breaches(pathlib.Path(sys.argv[1] if len(sys.argv) > 1 else ".")))
-    print("\n".join(found) if found else "places: every function of the definition has its place")
+    print("\n".join(found) if found else "places: every function of the definition has its place, every citation its paragraph")
     sys.exit(1 if found else 0)
 
 

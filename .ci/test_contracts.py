@@ -120,6 +120,34 @@ class Tree(unittest.TestCase):
         self.edit("crates/tree/src/inner.rt", "pub fn", 'extern "C" fn bare(x: u8) {}\npub fn')
         self.assert_breach("crates/tree/src/inner.rt:1: fn bare is open to callers and has no ensures")
 
+    def test_ensures_that_says_nothing(self):
+        for clause in (
+            "λ r. ⌜ r ≡ r ⌝",
+            "λ r. ⌜ (r ≡ x + x) × (f  x .n ≡ (f x .n)) ⌝",
+            "λ r. ⌜ r ≡ x + x ⌝ ∗ ⌜ _≡_ {A = ℕ} (g x) (g x) ⌝",
+            "λ r. ⌜ x < 4 → Answer.None ≡ Answer.None ⌝",
+            "λ _. ⊤ₛ",
+        ):
+            with self.subTest(clause):
+                self.edit("crates/tree/src/lib.rt", "λ r. ⌜ r ≡ x + x ⌝", clause)
+                status, out = self.check()
+                self.edit("crates/tree/src/lib.rt", clause, "λ r. ⌜ r ≡ x + x ⌝")
+                self.assertEqual(status, 1, out)
+                self.assertIn("crates/tree/src/lib.rt:4: fn twice has an ensures that says nothing: ", out)
+
+    def test_ensures_with_two_like_sides(self):
+        for clause in (
+            "λ r. ⌜ r .n ≡ r .m ⌝",
+            'λ r. ⌜ f r "a" ≡ f r "b" ⌝',
+            "λ r. ⌜ (x ≡ r) × (r ≡ x) ⌝",
+            "λ r. ⌜ Answer.None ≡ Answer.Some r ⌝",
+        ):
+            with self.subTest(clause):
+                self.edit("crates/tree/src/lib.rt", "λ r. ⌜ r ≡ x + x ⌝", clause)
+                status, out = self.check()
+                self.edit("crates/tree/src/lib.rt", clause, "λ r. ⌜ r ≡ x + x ⌝")
+                self.assertEqual(status, 0, out)
+
     def test_requires_in_the_root_file(self):
         old = "    ensures { λ r. ⌜ r ≡ x + x ⌝ }\n"
         self.edit("crates/tree/src/lib.rt", old, "    requires { ⌜ x < 9 ⌝ }\n" + old)
@@ -144,6 +172,39 @@ class Tree(unittest.TestCase):
         self.assert_breach(
             "crates/tree/src/inner.rt:1: fn sum is at the outer boundary and has a requires"
         )
+
+    def test_requires_handed_on_in_other_ways(self):
+        for line in (
+            "pub use inner::sum as add;",
+            "pub use inner::*;",
+            "pub use crate::{inner::{sum as add}, other};",
+            "pub use crate::{other, inner::{self as all, *}};",
+        ):
+            with self.subTest(line):
+                self.edit("crates/tree/src/lib.rt", "mod inner;", f"mod inner;\n{line}")
+                self.assert_breach("crates/tree/src/inner.rt:1: fn sum is at the outer boundary and has a requires")
+                self.edit("crates/tree/src/lib.rt", f"mod inner;\n{line}", "mod inner;")
+
+    def test_requires_handed_on_twice(self):
+        for first, second in (
+            ("pub use crate::inner::sum as add;", "pub use between::add as plus;"),
+            ("pub use crate::inner::*;", "pub use between::*;"),
+            ("pub use crate::inner::sum as add;", "pub use between::*;"),
+        ):
+            with self.subTest(f"{first} {second}"):
+                self.write("crates/tree/src/between.rt", first + "\n")
+                self.edit("crates/tree/src/lib.rt", "mod inner;", f"mod inner;\nmod between;\n{second}")
+                self.assert_breach("crates/tree/src/inner.rt:1: fn sum is at the outer boundary and has a requires")
+                self.edit("crates/tree/src/lib.rt", f"mod inner;\nmod between;\n{second}", "mod inner;")
+
+    def test_requires_of_a_generic_type_s_method(self):
+        for head in ("impl<T> Sum<T>", "impl<const N: usize> crate::sum::Sum<[u8; N]>", "impl<T> Adds<T> for Sum<T>"):
+            with self.subTest(head):
+                method = "pub fn add(self) -> T\n    requires { ⌜ y < 4 ⌝ }\n    ensures { λ r. ⌜ r ≡ self .n ⌝ }\n{ self.n }\n"
+                self.write("crates/tree/src/sum.rt", f"pub struct Sum<T> {{ n: T }}\n\n{head} {{\n{method}}}\n")
+                self.edit("crates/tree/src/lib.rt", "mod inner;", "mod inner;\nmod sum;\npub use sum::Sum;")
+                self.assert_breach("crates/tree/src/sum.rt:4: fn add is at the outer boundary and has a requires")
+                self.edit("crates/tree/src/lib.rt", "\nmod sum;\npub use sum::Sum;", "")
 
     def test_requires_of_a_method_handed_on(self):
         method = "pub fn add(self, y: u32) -> Sum\n    requires { ⌜ y < 4 ⌝ }\n    ensures { λ r. ⌜ r .n ≡ y ⌝ }\n{ self }\n"
@@ -199,6 +260,20 @@ class Tree(unittest.TestCase):
         line = "logic=proved functions=5 foreign=tree::write sum=0"
         self.write("target/log/tree.out", line + "\n")
         self.assert_breach(f"target/log/tree.out:1: library tree declares foreign functions: {line}")
+
+    def test_words_of_trust(self):
+        for word in ("pinned=no", "cache=trusted", "incremental=trusted", "crate-checked=trusted"):
+            with self.subTest(word):
+                line = f"logic=proved functions=5 sum=0 native=nat logic-built=trusted {word}"
+                self.write("target/log/tree.say", line + "\n")
+                self.assert_breach(
+                    f"target/log/tree.say:1: library tree rests on what is not of this run and the kit: {line}"
+                )
+
+    def test_words_of_the_kit(self):
+        line = "logic=proved functions=5 sum=0 native=nat,char,string logic-built=trusted libraries-built=trusted"
+        self.write("target/log/tree.say", line + "\n")
+        self.assertEqual(self.check()[0], 0)
 
     def test_not_proved(self):
         self.write("target/log/tree.say", "logic=not-proved\n")
