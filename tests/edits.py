@@ -10,6 +10,7 @@
 
 An edit stands in a folder named like its crate. Those of one line are the form that `rt must-fail` takes.
 """
+import re
 
 ALONE = 'answers'
 
@@ -98,6 +99,12 @@ class Crates:
         for used in self.uses[name]:
             found += [inner for inner in self.reached(used) if inner not in found]
         return found + [name]
+
+    def needed(self, some, program):
+        """The crates that edits change and those that a program's text names, with all that these use."""
+        named = [name for name in self.uses if re.search(rf'\b{name}::', program)]
+        tops = [*(edit.crate for edit in some), *named]
+        return list(dict.fromkeys(name for top in tops for name in self.reached(top)))
 
     def must_fail(self):
         """The edits that `rt ci` tries by itself, as paths."""

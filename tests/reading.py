@@ -8,6 +8,8 @@ A sheet's name begins with what it is about:
   twice                                           4.5
   counter                                         4.6
   order                                           4.20
+  nullable, corners, cycles                       6
+  inlining                                        7.5
   case                                            15, by its number there
 
 usage: reading.py [PROGRAM]   (the built `inspect` if none is named)

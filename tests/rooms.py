@@ -15,6 +15,7 @@ DRIVER = 'driver'
 CHECKS = 'specs/Checks.antt'
 ERROR = re.compile(r'crates/(\w+)/(\S+?\.antt):\d+:\d+: error: `([^`]+)`(.*)')
 FUNCTION = re.compile(r'^fn (\S+): (?:not proved|no proof)', re.M)
+ENDED = ' ended, '
 FOUND = re.compile(r'^(?:FAIL: (.*)\n(?:.*, found (".*"))?|ok: .*)', re.M)
 
 
@@ -107,13 +108,21 @@ class Room:
         self.list(**{DRIVER: f'{" ".join(self.names)} io libc'})
 
     def printed(self, sheet):
-        """What the program prints of a sheet, unproved, on the interpreter; or how its run ends."""
+        """What the program prints of a sheet, unproved, on the interpreter; or how its run ends, if not as it should."""
         (self.place / 'crates' / DRIVER / 'stdin').write_bytes(sheet)
         _, said = self.rt('try', DRIVER)
         first = FOUND.search(said)
         if not first:
             raise SystemExit(f'the program does not run in {self.place}:\n{said[-1500:]}')
-        return first[2] or first[1] or ''
+        how, text = first[1] or '', first[2] or ''
+        return text if ENDED in how else how
+
+    def printed_to_the_end(self, sheet):
+        """What the program prints; the script ends where its run does not, since how far that comes tells nothing."""
+        text = self.printed(sheet)
+        if not text.startswith('"'):
+            raise SystemExit(f'the program without an edit does not end in {self.place}: {text or "nothing is printed"}')
+        return text
 
     # ---- folders of checked modules
 

@@ -92,7 +92,13 @@ class Fitting(Tree):
 
     def test_must_fail_of_a_crate_without_edits_here(self):
         self.write('crates/apart/must-fail/own.edit', TEXT)
-        self.assertEqual(list(wrong.strangers(edits.Crates(self.root / 'crates'), [self.edit()])), [])
+        self.assertEqual(len(list(wrong.strangers(edits.Crates(self.root / 'crates'), [self.edit()]))), 1)
+
+    def test_crates_that_a_program_names(self):
+        crates = edits.Crates(self.root / 'crates')
+        self.assertEqual(crates.needed([self.edit()], ''), ['lower'])
+        self.assertEqual(crates.needed([self.edit()], 'use apart::A;\nupper::f();'), ['lower', 'upper', 'apart'])
+        self.assertEqual(crates.needed([], 'fn upper() { kapart::f() }'), [])
 
     def test_must_fail_of_an_edit_refused_above(self):
         crates, edit = edits.Crates(self.root / 'crates'), self.edit()
@@ -200,6 +206,16 @@ class Printing(Tree):
 
     def test_run_that_breaks_off(self):
         self.assertEqual(self.printed('FAIL: the interpreter broke off\nwhat the run said:\n'), 'the interpreter broke off')
+
+    def test_run_out_of_steps(self):
+        said = 'FAIL: the interpreter failed, with status 83\non standard output, at byte 0, expected "", found " 0 2"\n'
+        self.assertEqual(self.printed(said), 'the interpreter failed, with status 83')
+
+    def test_unedited_program_that_does_not_end(self):
+        (self.root / 'crates/driver').mkdir()
+        for said in ('FAIL: the interpreter broke off\nwhat the run said:\n', 'ok: the interpreter ended\n'):
+            with self.assertRaises(SystemExit):
+                Stub(1, said, self.root).printed_to_the_end(b'')
 
     def test_program_that_does_not_run(self):
         with self.assertRaises(SystemExit):

@@ -70,10 +70,10 @@ class Bench:
         self.bare.list(answers=' '.join(uses))
         for name in self.bare_crates:
             self.bare.with_sources(name, crates)
-        needed = [name for edit in within + code for name in crates.reached(edit.crate)]
-        self.whole = Room(place / 'whole', crates, list(dict.fromkeys(needed)))
+        driver = (HERE / 'wrong/driver.txt').read_text(encoding='utf-8') if code else ''
+        self.whole = Room(place / 'whole', crates, crates.needed(within + code, driver))
         if code:
-            self.whole.drive((HERE / 'wrong/driver.txt').read_text(encoding='utf-8'))
+            self.whole.drive(driver)
 
     def warm(self, built):
         """Has the unedited crates accepted; returns the folders as they then are. That the unedited definition gives
@@ -148,7 +148,7 @@ class Trial:
     def of_code(self, bench, edit):
         sheet = self.named.sheet(edit.shown)
         if edit.shown not in self.printed:
-            self.printed[edit.shown] = bench.whole.printed(sheet)
+            self.printed[edit.shown] = bench.whole.printed_to_the_end(sheet)
         bench.whole.make(edit)
         now = bench.whole.printed(sheet)
         bench.whole.undo()
@@ -181,14 +181,10 @@ def told(edit, differs, where, why, equal=False):
 
 
 def strangers(crates, every):
-    """What stands in a crate's must-fail and is no link to an edit that this crate must refuse. A crate of which
-    there is no edit here, since no program prints what its code gives, has its own."""
+    """What stands in a crate's must-fail and is no link to an edit that this crate must refuse."""
     good = {edit.path.resolve(): edit for edit in every if edit.refused == edit.crate}
-    own = {edit.crate for edit in every}
     for path in crates.must_fail():
         edit = good.get(path.resolve())
-        if path.parent.parent.name not in own:
-            continue
         if not edit or edit.crate != path.parent.parent.name:
             yield f'{path.relative_to(crates.folder)}: it is no link to an edit of tests/wrong that this crate refuses'
 

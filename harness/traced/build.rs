@@ -1,7 +1,8 @@
 //! Copies the original's files and inserts the lines of `insertions.txt`.
 //!
 //! Each insertion is a whole line that stands in front of, or behind, a line of
-//! the unchanged text which occurs there exactly once.
+//! the unchanged text which occurs there exactly once. Behind the text of one file
+//! stands that of `behind.rs`, which calls its private functions.
 
 use std::fs;
 use std::path::{Path, PathBuf};
@@ -22,12 +23,16 @@ fn main() {
     let insertions = parse(&list);
     for file in FILES {
         println!("cargo::rerun-if-changed={}", upstream.join(file).display());
-        let text = insert(&read(&upstream.join(file)), file, &insertions);
+        let mut text = insert(&read(&upstream.join(file)), file, &insertions);
+        if file == "mutual_recursion.rs" {
+            text.push_str(&read(&here.join("behind.rs")));
+        }
         fs::write(out.join(flat(file)), text).expect("the build folder can be written");
     }
     let frontend = here.join("../original/src/grammar/frontend.rs");
     fs::write(out.join("grammar.rs"), modules(&out, &frontend)).expect("as above");
     println!("cargo::rerun-if-changed=insertions.txt");
+    println!("cargo::rerun-if-changed=behind.rs");
     println!("cargo::rerun-if-changed=build.rs");
 }
 

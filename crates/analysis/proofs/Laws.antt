@@ -1,11 +1,9 @@
--- The laws that the answers cite, from the bits of words up to the cycles that the definition lists.
-pub mod Words
-pub mod Rows
-pub mod Paths
-pub mod Reach
-pub mod Filled
-pub mod Trim
-pub mod Cycles
-pub mod Graph
-pub mod Listed
-pub mod Given
+-- The laws that the answers cite: what is seen at a leaf, the walk over a body, and what it means by the definition.
+pub mod Names
+pub mod Seen
+pub mod Walks
+pub mod Meant
+pub mod Standing
+pub mod Rounds
+pub mod Agree
+pub mod Rounded

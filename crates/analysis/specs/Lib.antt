@@ -1,5 +1,4 @@
-pub mod Rows
-pub mod Reach
-pub mod Steps
-pub mod Cycles
-pub mod Listed
+pub mod Names
+pub mod Survey
+pub mod Facts
+pub mod Rounds

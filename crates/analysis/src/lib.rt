@@ -1,7 +1,9 @@
 // What is found out about a grammar before anything is planned (SPECIFICATION 6), as the definition in `reference` has it.
-// That the cycles are the textbook's, the largest sets of several rules that reach each other, in the order of their
-// least ids, is the theorem `cyclesListed` of `laws`.
-pub mod cycles;
-pub mod reach;
-pub mod rows;
-mod trim;
+// By theorems of `laws` these are the textbook's notions: a rule is nullable exactly if it derives the empty string
+// (`emptyDerivation`); left corners are those of the derivations (`leftCornersListed`, and `textbookCorners` for the
+// textbook's reading); the cycles are the largest sets of several rules that reach each other, in the order of their least
+// ids (`cyclesListed`). What plans leave of them is `factsStay`.
+pub mod facts;
+pub mod leaf;
+pub mod names;
+pub mod survey;

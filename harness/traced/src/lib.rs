@@ -16,10 +16,12 @@ mod grammar {
 
 mod quiet;
 
-use std::collections::BTreeSet;
+use std::collections::{BTreeMap, BTreeSet};
 use std::panic::{AssertUnwindSafe, catch_unwind};
 
-use grammar::mutual_recursion::eliminate_mutual_left_recursion_with_action_reference_parser;
+use grammar::mutual_recursion::{
+    self, eliminate_mutual_left_recursion_with_action_reference_parser,
+};
 use grammar::provenance::ProvenanceIndex;
 use sheets::tree::Sheet;
 
@@ -93,6 +95,21 @@ pub struct Trace {
     pub declined: Vec<Decline>,
     /// Of the last round, by `nullable_rules`.
     pub nullable: BTreeSet<u32>,
+}
+
+/// What the original's functions say of the rules of a grammar as it stands, by id.
+#[derive(Clone, Debug, Default)]
+pub struct Facts {
+    pub nullable: BTreeSet<u32>,
+    pub inlinable: BTreeSet<u32>,
+    /// Of each rule the rules it calls, and its left corners.
+    pub calls_and_corners: BTreeMap<u32, [BTreeSet<u32>; 2]>,
+    pub cycles: Vec<Vec<u32>>,
+}
+
+/// For a unit of any kind.
+pub fn facts(sheet: &Sheet) -> Facts {
+    mutual_recursion::facts(&load::load(sheet).unit)
 }
 
 /// Thrown by a hook: the number of the refusal.

@@ -8,7 +8,7 @@ use lib.ListN.{length, replicate, length-append}
 use lib.Dec.{leb}
 use borrow.Author.Tests.{leb-true}
 use Rattle.grammar.specs.Stands.{Stands}
-use Rattle.grammar.specs.Numbers.{leastBytes, trailerWords, workBytes}
+use Rattle.grammar.specs.Numbers.{leastBytes, trailerWords, workBytes, ruleLimit}
 use Rattle.grammar.specs.Tree as tree
 use Rattle.grammar.specs.Words.{words}
 use Rattle.grammar.specs.Encode.{encode, encodeRules, encodeCounters}
@@ -16,7 +16,8 @@ use Rattle.grammar.specs.Reading as reading
 use Rattle.grammar.specs.Reading.{refused, sheet, isLength, readWords, read}
 use Rattle.grammar.specs.Laws.Words.{length-words}
 use Rattle.grammar.specs.Laws.Stands.{stands-self, stands-split, stands-length, stands-within}
-use Rattle.grammar.specs.Laws.Whole.{words-sound, reads-sheet}
+use Rattle.grammar.specs.Laws.Whole as Whole
+use Rattle.grammar.specs.Laws.Whole.{words-sound, reads-sheet, parts-valid}
 use Rattle.sheet.specs.declared.answer.Parts.{Parts}
 use Rattle.sheet.specs.declared.answer.Answer.the-variants.{Refused, Sheet}
 use Rattle.grammar.specs.Found.{FoundRules, RulesSpan}
@@ -28,9 +29,10 @@ use Rattle.sheet.specs.declared.sizes.Sizes.{Sizes}
 use Rattle.sheet.specs.declared.sizes.Summary as summary
 use Rattle.sheet.specs.declared.sizes.Summary.the-variants as summary-of
 use Rattle.records.specs.Rules.{RowsOf}
-use Rattle.sheet.specs.Answer.{answerOf, partsOf, numberIn, readLent, ReadAs, RowsIn, Lent}
+use Rattle.sheet.specs.Answer.{answerOf, partsOf, numberIn, readLent, workAfter, ReadAs, RowsIn, Lent}
 use Rattle.sheet.specs.Sizes.{Standing, Counted, sizesOf, summaryOf, numbersFrom, numbersOf, idsOf, namesOf, placesOf}
 use Rattle.sheet.specs.Sizes.{numberOf, valuesOf, valuesIn, SummedAs}
+use Rattle.sheet.specs.Read.{WasRead}
 use Rattle.sheet.proofs.Laws.Lent.{lent-all}
 
 -- as many ids as stand there
@@ -42,6 +44,8 @@ sizes-counted p s f = record { rules = refl; alternatives = s .alternativeCount 
 record Good (bs : List ℕ) (s : tree.Sheet) : Type 0 where
   next : ℕ
   spans : RulesSpan (words bs) (length (encodeRules (s .rules))) 0 (s .rules) next
+  ends : next ≡ length (encodeRules (s .rules))
+  parts : Whole.Parts s
   room : 4 * length (encodeRules (s .rules)) + leastBytes ≤ length bs
 
 -- the words behind the rules: the preserved ids and the trailer
@@ -75,6 +79,8 @@ good-words bs s h e =
     record {
       next = t .0;
       spans = record { stands = stands-within (length (encodeRules (s .rules))) (omega arith) (t .1); fine = i .parts .rules };
+      ends = k;
+      parts = i .parts;
       room = omega arith;
     }
 
@@ -130,7 +136,7 @@ summed-as g e = record { summary = e; number = ap numberOf e ∙ number-same g; 
 
 -- a refusal
 module _ (bs work : List ℕ) {r : Reading} (a : ReadAs (readLent bs work) r) {n : ℕ} (e : r .answer ≡ Refused n) where
-  is-refused : readLent bs work ≡ refused n
+  pub is-refused : readLent bs work ≡ refused n
   is-refused = was-refused (readLent bs work) n (sym (a .answer) ∙ e)
 
   pub summary-refused : SummedAs (readLent bs work) (summary-of.Refused n)
@@ -165,6 +171,24 @@ module _ (bs work : List ℕ) {r : Reading} (a : ReadAs (readLent bs work) r) {p
       let y = g .0 .room in
       let z = g .1 .most in
       record { room = record { trailer = omega arith; low = omega arith }; found = found-rules }
+
+  pub was-read : WasRead bs work (p .preserved) (r .rules)
+  unfolding found-rules workAfter
+  was-read =
+      let g = good bs work (was .tree) (was .is) in
+      let k : p .preserved ≡ length (encodeRules (was .tree .rules)) = ap (λ q. q .preserved) (was .parts) in
+      let few : length (was .tree .rules) ≤ ruleLimit = leb-true (length (was .tree .rules)) ruleLimit (g .0 .parts .few) in
+      let count = rows-of .count in
+      record {
+        tree = was .tree;
+        is = was .is;
+        good = parts-valid (was .tree) (g .0 .parts);
+        room = standing .room;
+        rows = record { found = found-rules; ends = g .0 .ends ∙ sym k; rows = rows-of; few = omega arith };
+        trees = refl;
+        lent = g .1 .room;
+        cleared = let t = taken bs work (was .tree) (was .is) in rw (t .long, t .enough, workAfter) refl;
+      }
 
   module _ {z : Sizes}
       (c : (f : FoundRules (words bs) (p .preserved) (r .rules .n) 0) → Counted (f .trees) (r .rules .n) (p .count) z) where

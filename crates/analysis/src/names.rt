@@ -1,0 +1,55 @@
+// The rule that has a name, by a table in the lent work area.
+ghost use mathlib.Core.Path.{_≡_};
+ghost use Prim.Native.Nat.{_<_, _≤_};
+ghost use lib.ListN.{length};
+ghost use Rattle.grammar.specs.Numbers.{ruleLimit, mostName};
+ghost use Rattle.analysis.specs.Names.{Told, Tabled, IsTarget, tableWith};
+
+pub enum Target {
+    Unknown,
+    Rule(usize),
+}
+
+// A name as an index.
+pub fn index(name: u32) -> usize
+    ensures { λ r. ⌜ r ≡ name ⌝ }
+{
+    name as usize
+}
+
+// Puts the places of the first n names into the table.
+pub fn put_names(names: &[u32], n: usize, table: &mut [u8])
+    requires { ⌜ (n ≤ ruleLimit) × (mostName < length (now table)) ⌝ }
+    requires { ⌜ Told (now names) n ⌝ }
+    ensures { λ _. ⌜ now (table .exit) ≡ tableWith (now (names .entry)) n (now (table .entry)) ⌝ }
+    ensures { λ _. ⌜ Tabled (now (names .entry)) n (now (table .exit)) ⌝ }
+{
+    let mut i = 0;
+    while i < n {
+        let at = index(names[i]);
+        table[at] = i as u8;
+        i += 1;
+    }
+}
+
+// A byte of the table as a place.
+fn place(x: u8) -> usize
+    ensures { λ r. ⌜ r ≡ x ⌝ }
+{
+    x as usize
+}
+
+// A byte of the table says where to look, and the name there decides: the other bytes may be anything.
+pub fn look_up(names: &[u32], n: usize, table: &[u8], name: u32) -> Target
+    requires { ⌜ name ≤ mostName ⌝ }
+    requires { ⌜ Tabled (now names) n (now table) ⌝ }
+    ensures { λ r. ⌜ IsTarget (now (names .entry)) n name r ⌝ }
+{
+    let i = place(table[name as usize]);
+    if i < n {
+        if names[i] == name {
+            return Target::Rule(i);
+        }
+    }
+    Target::Unknown
+}

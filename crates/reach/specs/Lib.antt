@@ -1,0 +1,5 @@
+pub mod Rows
+pub mod Reach
+pub mod Steps
+pub mod Cycles
+pub mod Listed

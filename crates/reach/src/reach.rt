@@ -1,0 +1,87 @@
+// Reachability over rows (SPECIFICATION 6.6, 17.1). Rules are numbered by their places in the sheet; those below n are there.
+use crate::rows::Row;
+use crate::rows::add_if;
+use crate::rows::has;
+use crate::rows::meet;
+use crate::rows::union;
+use crate::rows::without;
+ghost use Prim.Native.Nat.{_<_, _≤_};
+ghost use Rattle.grammar.specs.Numbers.{ruleLimit};
+ghost use Rattle.reach.specs.Reach.{Others, Closed, Loops, Around};
+ghost use Rattle.reach.specs.Steps.{Through};
+
+// The edges between different rules.
+pub fn others(rows: [[u64; Row::WORDS]; Row::RULES], n: usize) -> [[u64; Row::WORDS]; Row::RULES]
+    requires { ⌜ n ≤ ruleLimit ⌝ }
+    ensures { λ r. ⌜ Others rows n r ⌝ }
+{
+    let mut r = rows;
+    let mut i = 0;
+    while i < n {
+        let t = without(r[i], i);
+        r[i] = t;
+        i += 1;
+    }
+    r
+}
+
+// A row, and where rule k leads, if k is in it.
+fn through(row: [u64; Row::WORDS], k: usize, via: [u64; Row::WORDS]) -> [u64; Row::WORDS]
+    requires { ⌜ k < ruleLimit ⌝ }
+    ensures { λ r. ⌜ Through row k via r ⌝ }
+{
+    if has(row, k) {
+        return union(row, via);
+    }
+    row
+}
+
+// Closed under reachability: with the paths through rules below k, for each k in turn (Warshall).
+pub fn closed(rows: [[u64; Row::WORDS]; Row::RULES], n: usize) -> [[u64; Row::WORDS]; Row::RULES]
+    requires { ⌜ n ≤ ruleLimit ⌝ }
+    ensures { λ r. ⌜ Closed rows n r ⌝ }
+{
+    let mut r = rows;
+    let mut k = 0;
+    while k < n {
+        let via = r[k];
+        let mut i = 0;
+        while i < n {
+            let t = through(r[i], k, via);
+            r[i] = t;
+            i += 1;
+        }
+        k += 1;
+    }
+    r
+}
+
+// The rules that reach themselves.
+pub fn loops(reach: [[u64; Row::WORDS]; Row::RULES], n: usize) -> [u64; Row::WORDS]
+    requires { ⌜ n ≤ ruleLimit ⌝ }
+    ensures { λ r. ⌜ Loops reach n r ⌝ }
+{
+    let mut r = [0; Row::WORDS];
+    let mut i = 0;
+    while i < n {
+        let t = add_if(r, i, has(reach[i], i));
+        r = t;
+        i += 1;
+    }
+    r
+}
+
+// The rules that rule i reaches and that reach it.
+pub fn around(reach: [[u64; Row::WORDS]; Row::RULES], i: usize, n: usize) -> [u64; Row::WORDS]
+    requires { ⌜ (i < n) × (n ≤ ruleLimit) ⌝ }
+    ensures { λ r. ⌜ Around reach i n r ⌝ }
+{
+    let mut r = [0; Row::WORDS];
+    let mut j = 0;
+    while j < n {
+        let t = add_if(r, j, has(reach[j], i));
+        r = t;
+        j += 1;
+    }
+    meet(reach[i], r)
+}

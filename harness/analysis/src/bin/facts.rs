@@ -1,0 +1,94 @@
+//! `facts --count N --seed S`: the proved facts against the second opinion, on all stored sheets and on N generated ones.
+
+use std::process::ExitCode;
+use std::time::Instant;
+
+use analysis::proved::proved;
+use analysis::run::{Difference, Run, Tally};
+use analysis::stored::stored;
+use sheets::codec;
+use sheets::names::Names;
+use sheets::print::{Style, print};
+
+struct Options {
+    count: u64,
+    seed: u64,
+}
+
+fn options() -> Result<Options, String> {
+    let mut options = Options {
+        count: 20_000,
+        seed: 1,
+    };
+    let mut words = std::env::args().skip(1);
+    while let Some(word) = words.next() {
+        let value = words.next().unwrap_or_default();
+        let number = value
+            .parse()
+            .map_err(|_| format!("{word} needs a number"))?;
+        match word.as_str() {
+            "--count" => options.count = number,
+            "--seed" => options.seed = number,
+            _ => return Err(format!("unknown option {word}")),
+        }
+    }
+    Ok(options)
+}
+
+fn compared(options: &Options) -> Result<Tally, String> {
+    let mut run = Run::new(&proved);
+    for (turn, sheet) in (0..).zip(stored()?) {
+        let name = format!("stored sheet {}", sheet.name);
+        run.ask(name, &sheet.bytes, turn).map_err(told)?;
+    }
+    println!("stored sheets compared {}", run.tally.sheets());
+    run.seeds(options.seed, options.count).map_err(told)?;
+    Ok(run.tally)
+}
+
+/// The difference, with the sheet in hex, and in the notation where it can be read.
+fn told(differs: Difference) -> String {
+    let hex: String = differs.sheet.iter().map(|b| format!("{b:02x}")).collect();
+    let shown =
+        codec::read(&differs.sheet).map(|sheet| print(&sheet, &Names::default(), Style::Plain));
+    let shown = shown.unwrap_or_default();
+    format!("{}: {}\n{hex}\n{shown}", differs.name, differs.what)
+}
+
+fn show(tally: &Tally, options: &Options, began: Instant) {
+    println!(
+        "generated sheets compared {} (seed {})",
+        options.count, options.seed
+    );
+    for refusal in [1, 3, 4, 5, 6] {
+        println!("refused {refusal}: {}", tally.answers[refusal]);
+    }
+    println!("time {:.1} s", began.elapsed().as_secs_f64());
+    println!(
+        "agreed on {} sheets in both readings: {} accepted, {} with cycles",
+        tally.sheets(),
+        tally.answers[0],
+        tally.cyclic
+    );
+}
+
+fn main() -> ExitCode {
+    let options = match options() {
+        Ok(options) => options,
+        Err(what) => {
+            eprintln!("facts: {what}\nusage: facts [--count N] [--seed S]");
+            return ExitCode::from(2);
+        }
+    };
+    let began = Instant::now();
+    match compared(&options) {
+        Ok(tally) => {
+            show(&tally, &options, began);
+            ExitCode::SUCCESS
+        }
+        Err(what) => {
+            eprintln!("facts: {what}");
+            ExitCode::FAILURE
+        }
+    }
+}
