@@ -21,8 +21,8 @@ use Rattle.reach.specs.Rows.{bit, edge, RowOf, holds}
 use Rattle.analysis.specs.Names.{isNamed, anyBelow}
 use Rattle.analysis.specs.Survey.{View, reading}
 use Rattle.analysis.specs.declared.survey.Survey.{Survey}
-use Rattle.analysis.specs.declared.facts.Marks.{Marks}
-use Rattle.analysis.specs.declared.facts.Round.{Round}
+use Rattle.analysis.specs.declared.rounds.Marks.{Marks}
+use Rattle.analysis.specs.declared.rounds.Round.{Round}
 
 -- What is known of the rules by their places is what a grammar says of them by their ids.
 pub record Agrees (g : Grammar) (ids : List ℕ) (v : View) : Type 0 where

@@ -8,7 +8,7 @@ use Rattle.grammar.specs.Numbers.{ruleLimit}
 use Rattle.reach.specs.Rows.{bit, AddIf}
 use Rattle.analysis.specs.Survey.{View, Surveyed}
 use Rattle.analysis.specs.declared.survey.Survey.{Survey}
-use Rattle.analysis.specs.declared.facts.Round.{Round}
+use Rattle.analysis.specs.declared.rounds.Round.{Round}
 
 abbrev pub oneIf : Bool → ℕ
 oneIf true = 1

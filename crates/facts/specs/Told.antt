@@ -17,7 +17,7 @@ use Rattle.analysis.specs.Survey.{reading}
 use Rattle.analysis.specs.Facts.{FactsOf, Standing}
 use Rattle.reach.specs.Rows.{Behind}
 use Rattle.reach.specs.Listed.{CycleRows}
-use Rattle.analysis.specs.declared.facts.Marks.{Marks}
+use Rattle.analysis.specs.declared.rounds.Marks.{Marks}
 
 -- The reading of left corners: the original's for 0.
 abbrev pub readingOf : ℕ → Corners

@@ -1,7 +1,7 @@
 // What is found out about a sheet, for callers in other languages: its facts and its cycles, as `analysis` and `reach` find
 // them.
-use analysis::facts::Marks;
-use analysis::facts::find_rows;
+use analysis::rounds::Marks;
+use analysis::rounds::find_rows;
 use reach::cycles::list_cycles;
 use reach::rows::Row;
 use records::rules::Rules;

@@ -20,7 +20,7 @@ use Rattle.reach.specs.Rows.{bit, holds, RowOf, Behind}
 use Rattle.analysis.specs.Survey.{View, reading}
 use Rattle.analysis.specs.Rounds.{oneIf, countBelow, Recorded, Recording}
 use Rattle.analysis.specs.Facts.{SurveyOf, Among, Standing, RowsBy, stopping, RoundBy, FactsOf, FactsFound}
-use Rattle.analysis.specs.declared.facts.Round.{Round}
+use Rattle.analysis.specs.declared.rounds.Round.{Round}
 use Rattle.reach.proofs.Laws.Rows.{no-bits}
 use Rattle.analysis.proofs.Laws.Standing.{among, few, all-rules, id-at, rule-spans}
 use Rattle.analysis.proofs.Laws.Agree.{agrees, behind}

@@ -23,7 +23,7 @@ use Rattle.reach.specs.Rows.{bit, AddIf}
 use Rattle.analysis.specs.Survey.{View, Surveyed}
 use Rattle.analysis.specs.Rounds.{oneIf, countBelow, Marked, Recorded, Recording}
 use Rattle.analysis.specs.declared.survey.Survey.{Survey}
-use Rattle.analysis.specs.declared.facts.Round.{Round}
+use Rattle.analysis.specs.declared.rounds.Round.{Round}
 use Rattle.reach.proofs.Laws.Rows.{no-bits}
 
 count-low : (f : ℕ → Bool) (i : ℕ) → countBelow f i ≤ i

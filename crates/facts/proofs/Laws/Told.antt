@@ -31,7 +31,7 @@ use Rattle.analysis.specs.Survey.{reading}
 use Rattle.analysis.specs.Facts.{Among, Standing, FactsOf, FactsFound}
 use Rattle.reach.specs.Listed.{rowAt, cornerRows, Numbered, Edges, Ids, CycleRows, CyclesIn}
 use Rattle.facts.specs.Told.{noRows, marksOf, TellsRules, RulesTold, TellsSheet, TellsRefusal, Tells}
-use Rattle.analysis.specs.declared.facts.Marks.{Marks}
+use Rattle.analysis.specs.declared.rounds.Marks.{Marks}
 use Rattle.reach.proofs.Laws.Rows.{two-words}
 use Rattle.analysis.proofs.Laws.Standing.{key-at, all-rules, id-at, rule-of}
 

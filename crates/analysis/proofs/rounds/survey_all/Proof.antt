@@ -1,4 +1,4 @@
--- `analysis::facts::survey_all` meets its contract: the rules below i are surveyed.
+-- `analysis::rounds::survey_all` meets its contract: the rules below i are surveyed.
 use borrow.Author.Needs.{needs}
 use Prim.Native.Nat.{_-_, _≤_}
 use native.Mathlib.Omega.{arith}
@@ -8,8 +8,8 @@ use Rattle.analysis.specs.Survey.{viewOf}
 use Rattle.analysis.specs.Rounds.{Recording}
 use Rattle.analysis.proofs.Laws.Standing.{standing}
 use Rattle.analysis.proofs.Laws.Rounds.{record-more, recording}
-use Rattle.analysis.proofs.facts.survey_all.Statement.{statement}
-use Rattle.analysis.proofs.facts.survey_all.Tie as tie
+use Rattle.analysis.proofs.rounds.survey_all.Statement.{statement}
+use Rattle.analysis.proofs.rounds.survey_all.Tie as tie
 
 abbrev Inv-loop : tie.InvT-loop
 Inv-loop s end known table calls₀ corners₀ names places n r₀ i₀ calls corners r i = (i ≤ n) × (n ≤ ruleLimit) × Recording (viewOf names known) (words s) end places calls₀ corners₀ i calls corners r

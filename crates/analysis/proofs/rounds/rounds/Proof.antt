@@ -1,11 +1,11 @@
--- `analysis::facts::rounds` meets its contract: the definition's rounds go on from what is found so far.
+-- `analysis::rounds::rounds` meets its contract: the definition's rounds go on from what is found so far.
 use borrow.Author.Needs.{needs}
 use native.Mathlib.Omega.{arith}
 use Rattle.grammar.specs.Words.{words}
 use Rattle.reach.specs.Rows.{Behind}
 use Rattle.analysis.proofs.Laws.Rounded.{Finding, finding}
-use Rattle.analysis.proofs.facts.rounds.Statement.{statement}
-use Rattle.analysis.proofs.facts.rounds.Tie as tie
+use Rattle.analysis.proofs.rounds.rounds.Statement.{statement}
+use Rattle.analysis.proofs.rounds.rounds.Tie as tie
 
 abbrev Inv-loop : tie.InvT-loop
 Inv-loop s end rules past table calls₀ corners₀ n found₀ count₀ left₀ calls corners found count left = Finding (words s) end rules left found count × Behind (rules .n) calls₀ calls × Behind (rules .n) corners₀ corners

@@ -1,8 +1,8 @@
--- `analysis::facts::find_rows` meets its contract.
+-- `analysis::rounds::find_rows` meets its contract.
 use borrow.Author.Needs.{needs}
 use Rattle.analysis.proofs.Laws.Standing.{told}
-use Rattle.analysis.proofs.facts.find_rows.Statement.{statement}
-use Rattle.analysis.proofs.facts.find_rows.Tie as tie
+use Rattle.analysis.proofs.rounds.find_rows.Statement.{statement}
+use Rattle.analysis.proofs.rounds.find_rows.Tie as tie
 
 pub find-rows-spec : {M : Type 1} → statement M
 find-rows-spec =
