@@ -4,6 +4,7 @@
     refused: CRATE      where the prover must refuse it: the edited crate, or one that uses it; `answers` where no law
                         speaks of it, and the stored answer alone does
     shown: NAME         what is answered otherwise: a stored answer of the harness, or for code a sheet of tests/reading
+    when: asked         where the gate need not try it: another edit is much like it
     file: FILE          of the crate; then pairs of
     old: TEXT           which stands there once; a text of more lines has an `old:` for each
     new: TEXT           as many lines
@@ -13,12 +14,13 @@ An edit stands in a folder named like its crate. Those of one line are the form 
 import re
 
 ALONE = 'answers'
+ASKED = 'asked'
 
 
 class Edit:
     def __init__(self, path):
         self.path, self.crate, self.name = path, path.parent.name, path.stem
-        self.what = self.refused = self.shown = ''
+        self.what = self.refused = self.shown = self.when = ''
         self.pairs, file, before = [], '', None
         for line in path.read_text(encoding='utf-8').splitlines():
             key, _, rest = line.partition(' ')
@@ -28,6 +30,8 @@ class Edit:
                 self.refused = rest
             elif key == 'shown:':
                 self.shown = rest
+            elif key == 'when:':
+                self.when = rest
             elif key == 'file:':
                 file = rest
             elif key in ('old:', 'new:'):
@@ -70,6 +74,8 @@ class Edit:
             found.append(f'{self}: it does not say what is wrong, or has no old: and new:')
         if self.crate not in crates.reached(self.refused) and (self.refused != ALONE or self.is_code()):
             found.append(f'{self}: refused: {self.refused or "nowhere"}, which is not {self.crate} and does not use it')
+        if self.when not in ('', ASKED):
+            found.append(f'{self}: when: {self.when}, which is not {ASKED}')
         if self.shown not in known(self):
             found.append(f'{self}: shown: there is no stored {self.shown or "name"}')
         return found + self.made(crates.folder / self.crate)[1]

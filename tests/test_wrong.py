@@ -47,6 +47,11 @@ class Fitting(Tree):
     def test_good(self):
         self.assertEqual(self.misfits(), [])
 
+    def test_waits_to_be_asked_for(self):
+        self.assertEqual(self.edit('file: ', 'when: asked\nfile: ').when, edits.ASKED)
+        self.assertEqual(self.misfits('file: ', 'when: asked\nfile: '), [])
+        self.assertEqual(self.misfits('file: ', 'when: never\nfile: '), ['lower/turned: when: never, which is not asked'])
+
     def test_old_text_not_there(self):
         self.assertEqual(self.misfits('not x', 'not y'), ['lower/turned: specs/A.antt: this stands 0 times: f x = not y'])
 

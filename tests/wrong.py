@@ -12,6 +12,8 @@ before, fails.
 The edits of tests/equal are definitions written otherwise, with the same answers. The prover refuses them too, so each
 must be found to answer as before: a refusal alone shows nothing wrong.
 
+Edits that wait to be asked for (`when: asked`) are tried where they are named, and all of them with --all.
+
 The edits in crates/CRATE/must-fail are links to some of these. `rt ci` sees that they are refused, so here they are
 only shown to be wrong.
 """
@@ -191,7 +193,8 @@ def strangers(crates, every):
 
 def arguments():
     parser = argparse.ArgumentParser(description=__doc__, formatter_class=argparse.RawDescriptionHelpFormatter)
-    parser.add_argument('names', nargs='*', help='edits, as CRATE/NAME; all where none is given')
+    parser.add_argument('names', nargs='*', help='edits, as CRATE/NAME; where none is given, all but those that wait to be asked for')
+    parser.add_argument('--all', action='store_true', help='those too')
     parser.add_argument('--crates', default=HERE.parent / 'crates', type=Path, help='the folder of crates')
     parser.add_argument('--answers', default=HERE.parent / 'harness/answers', type=Path, help='the stored answers')
     parser.add_argument('--built', default=HERE.parent / 'target', type=Path, help="what rt built of the crates, if it did")
@@ -209,6 +212,8 @@ def fitting(given, crates, named):
     misfits += [line for edit in wrong + equal for line in edit.misfits(crates, named.of)]
     if misfits:
         raise SystemExit('\n'.join(misfits) + f'\n{len(misfits)} misfits')
+    if not (given.names or given.all or given.fits):
+        wrong = [edit for edit in wrong if edit.when != edits.ASKED]
     return wrong, equal
 
 

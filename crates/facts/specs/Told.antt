@@ -1,4 +1,4 @@
--- What callers in other languages are told of a sheet: its facts and cycles as numbers and rows.
+-- What callers in other languages are told of a sheet: its facts and cycles as numbers and rows (SPECIFICATION 3.10).
 use Prim.Native.Nat.{ℕ}
 use mathlib.Core.Path.{_≡_}
 use mathlib.Core.List.{List, [], _∷_}
@@ -58,7 +58,7 @@ pub record TellsRefusal (number : ℕ) (numbers marks : List ℕ) (calls corners
   pub cornersNone : corners ≡ noRows
   pub cyclesNone : cycles ≡ noRows
 
--- Of what the reader finds (SPECIFICATION 3.9).
+-- Of what the reader finds.
 pub record Tells (c : Corners) (found : Reading) (numbers marks : List ℕ) (calls corners cycles : List (List ℕ)) : Type 0 where
   pub refusal : (n : ℕ) → found ≡ refused n → TellsRefusal n numbers marks calls corners cycles
   pub sheet : (s : Sheet) → found ≡ sheet s → TellsSheet c (s .rules) numbers marks calls corners cycles

@@ -4,6 +4,7 @@ use libc::STDIN_FILENO;
 use libc::STDOUT_FILENO;
 use sheet::Sizes;
 use sheet::Summary;
+use words::numbers::Sheet;
 
 fn print_field(n: u32) {
     io::write_all(STDOUT_FILENO, b" ");
@@ -19,7 +20,7 @@ fn print_sizes(sizes: Sizes) {
 }
 
 fn main() {
-    let mut bytes = [0u8; 32772];
+    let mut bytes = [0u8; Sheet::MOST_BYTES + 4];
     let n = io::read_full(STDIN_FILENO, &mut bytes);
     let mut work = io::large_buffer();
     match sheet::summary(&bytes[..n], &mut work) {

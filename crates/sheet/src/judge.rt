@@ -11,6 +11,7 @@ ghost use mathlib.Core.Bool.{_&&_};
 ghost use Prim.Native.Nat.{_+_, _*_, _<_, _≤_};
 ghost use lib.ListN.{length, take};
 ghost use lib.Dec.{leb};
+ghost use Rattle.grammar.specs.Numbers.{ruleLimit};
 ghost use Rattle.grammar.specs.Words.{words};
 ghost use Rattle.grammar.specs.Ids.{isDistinct, isBelow};
 ghost use Rattle.grammar.specs.Lists.{distinct};
@@ -131,7 +132,7 @@ fn judge_bodies(s: &[u8], end: usize, n: u32, counters: Counters, work: &mut [u8
 
 // The verdict on good rules, whose rows are given; the work area is left in any state.
 pub fn judge(s: &[u8], end: usize, rules: Rules, counters: Counters, work: &mut [u8]) -> Verdict
-    requires { ⌜ Room (now s) end × (4 * end + 512 ≤ length (now work)) ⌝ }
+    requires { ⌜ Room (now s) end × (4 * (end + ruleLimit) ≤ length (now work)) ⌝ }
     requires { ⌜ FoundRows (words (now s)) end rules ⌝ }
     ensures { λ r. ⌜ ((f : FoundRows (words (now (s .entry))) end rules) → r .distinct ≡ isDistinct (f .found .trees)) ⌝ }
     ensures { λ r. ⌜ ((f : FoundRules (words (now (s .entry))) end (rules .n) 0)

@@ -1,10 +1,10 @@
 -- Rules that stand in a sheet: each by its place among them, and what tells them apart.
-use Prim.Native.Nat.{ℕ, zero, suc, _+_, _-_, _<_, _≤_}
+use Prim.Native.Nat.{ℕ, zero, suc, _+_, _<_, _≤_}
 use mathlib.Core.Path.{_≡_, refl, sym, ap, _∙_, subst}
 use mathlib.Core.List.{List, [], _∷_, _++_, map, map-id}
 use mathlib.Core.Bool.{true}
 use native.Mathlib.Omega.{arith}
-use lib.ListN.{length, getD, length-map, length-append, length-replicate, List·getD-append}
+use lib.ListN.{length, getD, length-map, List·getD-append}
 use lib.Dec.{leb}
 use borrow.Author.Tests.{leb-true}
 use Rattle.grammar.specs.Numbers.{mostName, ruleLimit}
@@ -21,6 +21,7 @@ use Rattle.grammar.specs.Laws.Opened.{first-spans}
 use Rattle.grammar.specs.Laws.Found.{rule-room}
 use Rattle.records.specs.Rules.{row, placesFrom, FoundRows}
 use Rattle.records.specs.declared.rules.Rules.{Rules}
+use Rattle.records.proofs.Laws.Rules.{row-long}
 use Rattle.analysis.specs.Names.{Told}
 use Rattle.analysis.specs.Facts.{Standing, Among}
 use Rattle.reach.proofs.Laws.Graph.{one-place}
@@ -38,10 +39,6 @@ few {rs} {i} a = subst (λ xs. i < length xs) (a .parts) (let l = go (a .front) 
     go : (xs : List Rule) → length xs < length (xs ++ (a .rule ∷ a .rest))
     go [] = omega arith
     go (x ∷ xs) = let l = go xs in omega arith
-
-row-long : (xs : List ℕ) → length xs ≤ ruleLimit → length (row xs) ≡ ruleLimit
-unfolding row
-row-long xs l = rw (length-append, length-replicate) (omega arith)
 
 -- What a rule gives, by its place in a row of numbers with zeros behind.
 pub key-at : {B : Type 0} (f : Rule → B) (d : B) {rs : List Rule} {i : ℕ} (a : Among rs i) → getD (map f rs) i d ≡ f (a .rule)

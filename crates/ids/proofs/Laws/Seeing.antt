@@ -2,7 +2,7 @@
 use Prim.Native.Nat.{ℕ, zero, suc, _+_, _-_, _%_, _<_, _≤_}
 use mathlib.Core.Path.{_≡_, refl, sym, ap, _∙_}
 use mathlib.Core.List.{List, [], _∷_, _++_, append-assoc, append-nil}
-use mathlib.Core.Bool.{Bool, true, false, _&&_, not}
+use mathlib.Core.Bool.{Bool, true, false, _&&_, not, and-true, and-false}
 use native.Mathlib.Omega.{arith}
 use lib.ListN.{length, getD, take}
 use lib.Dec.{eqb, leb}
@@ -28,14 +28,6 @@ use Rattle.ids.specs.declared.ids.Place.{Place}
 use Rattle.ids.specs.Ids.{ownIds, alternativeId, seeing, behind, CollectedSort}
 
 -- the own ids of an element's words are those of its tree
-and-false : (b : Bool) → (b && false) ≡ false
-and-false true = refl
-and-false false = refl
-
-pub and-true : (b : Bool) → (b && true) ≡ b
-and-true true = refl
-and-true false = refl
-
 label-ids : (sort i n : ℕ) (l : Label) → i ≡ labelId l → n ≡ labelName l → okLabel l ≡ true
     → only (eqb sort labelSort && not (eqb n 0)) i ≡ labelIds sort l
 unfolding labelIds okLabel
@@ -87,13 +79,13 @@ module _ {ws : List ℕ} {end at : ℕ} (sort : ℕ) {h : ElementHead} {kind p :
 -- the steps of a walk that sees ids
 module _ {S : Type 0} (see : S → (ℕ → List ℕ) → S) (d : ℕ) {ws : List ℕ} {end at : ℕ} where
   module _ {k p : ℕ} (head : HeadAt ws end at k p) where
-    pub seeing-leaf : (k ≡ 6 → ⊥) → {there : ℕ} {s r : S} → LeafEnd ws end d at p there → r ≡ see s (ownIds ws at p)
+    pub seeing-leaf : (k ≡ blockKind → ⊥) → {there : ℕ} {s r : S} → LeafEnd ws end d at p there → r ≡ see s (ownIds ws at p)
         → ElementWalked (seeing see) ws end d at s there r
     unfolding seeing
     seeing-leaf other {s = s} e f =
         fold-leaf (seeing see) head d other e λ h l q w u. f ∙ ap (see s) λ i sort. leaf-own sort w l refl (u .stands) i
 
-    pub seeing-block : k ≡ 6 → {m q : ℕ} {s i t : S} → m ≡ getD ws p 0 → i ≡ see s (ownIds ws at p)
+    pub seeing-block : k ≡ blockKind → {m q : ℕ} {s i t : S} → m ≡ getD ws p 0 → i ≡ see s (ownIds ws at p)
         → AlternativesWalked (seeing see) ws end (d - 1) m (p + 1) i q t → ElementWalked (seeing see) ws end d at s q t
     unfolding seeing
     seeing-block six {s = s} c f w =

@@ -2,7 +2,7 @@
 use Prim.Native.Nat.{ℕ, _+_, _<_, _≤_}
 use mathlib.Core.Path.{_≡_, refl, sym, ap, _∙_}
 use mathlib.Core.List.{List, [], _∷_}
-use mathlib.Core.Bool.{Bool, true, false, _&&_, _||_}
+use mathlib.Core.Bool.{Bool, true, false, _&&_, _||_, and-true}
 use native.Mathlib.Omega.{arith}
 use lib.Dec.{eqb, leb, ltb}
 use borrow.Author.Tests.{le-leb, lt-leb, lt-ltb, leb-true, leb-false, ltb-true, ltb-false, eqb-true}
@@ -10,7 +10,6 @@ use Rattle.grammar.specs.Lists.{member, distinct, below}
 use Rattle.ids.specs.declared.survey.Track.{Track}
 use Rattle.ids.specs.Survey.{seen, tracked, fresh}
 use Rattle.ids.proofs.Laws.Lists.{never}
-use Rattle.ids.proofs.Laws.Seeing.{and-true}
 
 -- one id
 pub see-higher : (t : Track) (id : ℕ) → t .top ≤ id → record { top = id + 1; falls = t .falls } ≡ seen t id

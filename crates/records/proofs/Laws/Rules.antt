@@ -4,7 +4,7 @@ use mathlib.Core.Path.{_≡_, refl, sym, ap, _∙_}
 use mathlib.Core.List.{List, [], _∷_, _++_, map, append-assoc, append-nil}
 use mathlib.Core.Bool.{true, false}
 use native.Mathlib.Omega.{arith}
-use lib.ListN.{length, getD, set, replicate, length-append}
+use lib.ListN.{length, getD, set, replicate, length-append, length-map, length-replicate}
 use lib.Seq.{set-append-seam}
 use borrow.Author.Tests.{eq-eqb, ne-eqb}
 use Rattle.grammar.specs.Stands.{Stands}
@@ -60,9 +60,9 @@ map-more : (f : Rule → ℕ) (rs : List Rule) (r : Rule) → map f (rs ++ (r �
 map-more f [] r = refl
 map-more f (x ∷ rs) r = ap (λ l. f x ∷ l) (map-more f rs r)
 
-pub map-length : (f : Rule → ℕ) (rs : List Rule) → length (map f rs) ≡ length rs
-map-length f [] = refl
-map-length f (x ∷ rs) = ap suc (map-length f rs)
+pub row-long : (xs : List ℕ) → length xs ≤ ruleLimit → length (row xs) ≡ ruleLimit
+unfolding row
+row-long xs l = rw (length-append, length-replicate) (omega arith)
 
 places-length : (rs : List Rule) (at : ℕ) → length (placesFrom at rs) ≡ length rs
 unfolding placesFrom
@@ -88,10 +88,10 @@ rows-more : {rules more : Rules} {id name at : ℕ} (rs : List Rule) (r : Rule) 
 rows-more {rules} {more} {id} {name} {at} rs r o h p e f w =
     record {
       ids =
-          row-with (ruleIds rs) _ (rules .n) id (w .ids) (o .ids) (o .count ∙ sym (map-length _ rs)) h
+          row-with (ruleIds rs) _ (rules .n) id (w .ids) (o .ids) (o .count ∙ sym (length-map rs _)) h
           (map-more (λ x. x .id) rs r ∙ ap (λ i. ruleIds rs ++ (i ∷ [])) (sym e));
       names =
-          row-with (ruleNames rs) _ (rules .n) name (w .names) (o .names) (o .count ∙ sym (map-length _ rs)) h
+          row-with (ruleNames rs) _ (rules .n) name (w .names) (o .names) (o .count ∙ sym (length-map rs _)) h
           (map-more (λ x. x .name) rs r ∙ ap (λ i. ruleNames rs ++ (i ∷ [])) (sym f));
       places =
           row-with (placesFrom 0 rs) _ (rules .n) at (w .places) (o .places) (o .count ∙ sym (places-length rs 0)) h

@@ -4,7 +4,7 @@ use mathlib.Core.Path.{_≡_, refl, sym, ap, _∙_}
 use mathlib.Core.List.{List}
 use mathlib.Core.Bool.{Bool, true, _&&_}
 use native.Mathlib.Omega.{arith}
-use lib.ListN.{length, take, replicate, length-append, length-replicate}
+use lib.ListN.{length, take, replicate, length-map}
 use lib.Seq.{take-append-seam}
 use lib.Dec.{leb}
 use Rattle.grammar.specs.Tree as tree
@@ -20,7 +20,7 @@ use Rattle.ids.specs.Survey.{RisesApart, Surveyed, SortDistinct, PartsDistinct,
 use Rattle.grammar.specs.Found.{FoundRules}
 use Rattle.ids.specs.Ids.{CollectedSort}
 use Rattle.records.specs.Rules.{row, FoundRows}
-use Rattle.records.proofs.Laws.Rules.{map-length}
+use Rattle.records.proofs.Laws.Rules.{row-long}
 use Rattle.ids.proofs.Laws.Track.{and-assoc}
 
 module _ {ws : List ℕ} {end n sort : ℕ} where
@@ -76,27 +76,23 @@ unfolding row
 row-front xs n e = rw e (take-append-seam xs _)
 
 pub ids-front : (rs : List Rule) {ids : List ℕ} {n : ℕ} → ids ≡ row (ruleIds rs) → n ≡ length rs → take n ids ≡ ruleIds rs
-ids-front rs {n = n} e f = rw e (row-front (ruleIds rs) n (f ∙ sym (map-length _ rs)))
+ids-front rs {n = n} e f = rw e (row-front (ruleIds rs) n (f ∙ sym (length-map rs _)))
 
 pub names-front : (rs : List Rule) {names : List ℕ} {n : ℕ} → names ≡ row (ruleNames rs) → n ≡ length rs → take n names ≡ ruleNames rs
-names-front rs {n = n} e f = rw e (row-front (ruleNames rs) n (f ∙ sym (map-length _ rs)))
-
-row-long : (xs : List ℕ) → length xs ≤ 128 → length (row xs) ≡ 128
-unfolding row
-row-long xs h = let a = length-append xs (replicate (128 - length xs) 0) in let b = length-replicate {A = ℕ} (128 - length xs) 0 in omega arith
+names-front rs {n = n} e f = rw e (row-front (ruleNames rs) n (f ∙ sym (length-map rs _)))
 
 module _ {ws : List ℕ} {end : ℕ} {rules : Rules} (f : FoundRows ws end rules) where
   pub ids-long : rules .n ≤ length (rules .ids)
   ids-long =
       let e = f .rows .count in
-      let m = map-length (λ r. r .id) (f .found .trees) in
+      let m = length-map (f .found .trees) (λ r. r .id) in
       let h = f .few in
       rw (f .rows .ids) (let l = row-long (ruleIds (f .found .trees)) (omega arith) in omega arith)
 
   pub names-long : rules .n ≤ length (rules .names)
   names-long =
       let e = f .rows .count in
-      let m = map-length (λ r. r .name) (f .found .trees) in
+      let m = length-map (f .found .trees) (λ r. r .name) in
       let h = f .few in
       rw (f .rows .names) (let l = row-long (ruleNames (f .found .trees)) (omega arith) in omega arith)
 
