@@ -9,6 +9,7 @@ use lib.ListN.{length, getD}
 use lib.Dec.{ltb}
 use Rattle.grammar.specs.Numbers.{ruleLimit}
 use Rattle.grammar.specs.Tree.{Rule, bodyDepth, innerDepth}
+use Rattle.grammar.specs.Found.{RuleSpans}
 use Rattle.grammar.specs.Lists.{member, keep, distinct}
 use Rattle.grammar.specs.Ids.{ruleIds, ruleNames}
 use Rattle.grammar.specs.Corners.{Corners}
@@ -38,6 +39,11 @@ pub record SurveyOf (c : Corners) (g : Grammar) (ids : List ℕ) (n : ℕ) (t : 
   pub corners : RowOf ids n (blockCorners c g bodyDepth (t .body)) (r .corners)
   pub stops : r .stops ≡ not (satelliteIsInlinable innerDepth t)
   pub nullable : r .nullable ≡ blockIsNullable g bodyDepth (t .body)
+
+-- A survey of the rule that stands at a place, by any grammar that agrees with what is known.
+pub record Surveyed (v : View) (ws : List ℕ) (end at : ℕ) (r : Survey) : Type 0 where
+  pub by : (g : Grammar) (ids : List ℕ) → Agrees g ids v → (t : Rule) (q : ℕ) → RuleSpans ws end bodyDepth at t q
+      → SurveyOf (reading (v .past)) g ids (v .n) t r
 
 -- Rules that stand in a sheet, told apart by ids and by names.
 pub record Standing (ws : List ℕ) (end : ℕ) (rules : Rules) : Type 0 where

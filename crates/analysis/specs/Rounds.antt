@@ -6,7 +6,8 @@ use mathlib.Core.Bool.{Bool, true, false}
 use lib.ListN.{length, getD}
 use Rattle.grammar.specs.Numbers.{ruleLimit}
 use Rattle.reach.specs.Rows.{bit, AddIf}
-use Rattle.analysis.specs.Survey.{View, Surveyed}
+use Rattle.analysis.specs.Survey.{View}
+use Rattle.analysis.specs.Facts.{Surveyed}
 use Rattle.analysis.specs.declared.survey.Survey.{Survey}
 use Rattle.analysis.specs.declared.rounds.Round.{Round}
 

@@ -199,7 +199,7 @@ module _ (v : View) (ws : List ℕ) (end : ℕ) where
 abbrev pub seenBy : Survey → Seen
 seenBy r = record { calls = bit (r .calls); corners = bit (r .corners); stops = r .stops; seeks = true; null = r .nullable }
 
--- What is found of the rule that stands at a place.
-pub record Surveyed (v : View) (ws : List ℕ) (end at : ℕ) (r : Survey) : Type 0 where
+-- What the walk has seen of the rule that stands at a place.
+pub record BodySeen (v : View) (ws : List ℕ) (end at : ℕ) (r : Survey) : Type 0 where
   pub is : (t : Rule) (q : ℕ) → RuleSpans ws end bodyDepth at t q
       → seenBy r ≡ whole (eqb (t .flags) 0) (folded (pastOutermost v innerDepth) unseen (t .body))

@@ -24,7 +24,8 @@ ghost use Rattle.grammar.specs.Fold.{ElementWalked, ElementsWalked, Alternative
 ghost use Rattle.words.specs.Room.{Room};
 ghost use Rattle.analysis.specs.Names.{Tabled};
 ghost use Rattle.analysis.specs.Survey.{viewOf, seenOf, skipping, surveying, StopSeen, BitSeen, pastCall, SymbolSeen, NameSeen, LeafSeen};
-ghost use Rattle.analysis.specs.Survey.{OutermostWalked, BodyWalked, Surveyed};
+ghost use Rattle.analysis.specs.Survey.{OutermostWalked, BodyWalked};
+ghost use Rattle.analysis.specs.Facts.{Surveyed};
 
 // Where the walk is, whether left corners are still sought, and whether all in front is nullable.
 struct Place {

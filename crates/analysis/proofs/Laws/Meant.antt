@@ -19,8 +19,8 @@ use Rattle.reference.specs.Analysis.{Grammar, target, calls, collectCallsInto, 
 use Rattle.reference.specs.Analysis.{collectLeftCornerCalls, blockCorners}
 use Rattle.reference.specs.Plan.{satelliteHasEmbeddedSemantics, satelliteIsInlinable}
 use Rattle.analysis.specs.Survey.{View, Seen, reading, isSemantic, callsTo, leafNull, leafEnds, pastLeaf, into, pastBlock}
-use Rattle.analysis.specs.Survey.{pastAlternative, surveying, pastOutermost, unseen, Surveyed}
-use Rattle.analysis.specs.Facts.{Agrees, SurveyOf}
+use Rattle.analysis.specs.Survey.{pastAlternative, surveying, pastOutermost, unseen, BodySeen}
+use Rattle.analysis.specs.Facts.{Agrees, SurveyOf, Surveyed}
 use Rattle.reach.specs.Rows.{holds}
 use Rattle.analysis.specs.declared.survey.Survey.{Survey}
 
@@ -267,8 +267,8 @@ module _ {g : Grammar} {ids : List ℕ} {v : View} (w : Agrees g ids v) where
       stopped false q true y = refl
       stopped false q false y = refl
 
-pub survey-meant : {g : Grammar} {ids : List ℕ} {v : View} → Agrees g ids v → {ws : List ℕ} {end at : ℕ} {r : Survey}
-    → Surveyed v ws end at r → (t : Rule) (q : ℕ) → RuleSpans ws end bodyDepth at t q → SurveyOf (reading (v .past)) g ids (v .n) t r
+survey-meant : {g : Grammar} {ids : List ℕ} {v : View} → Agrees g ids v → {ws : List ℕ} {end at : ℕ} {r : Survey}
+    → BodySeen v ws end at r → (t : Rule) (q : ℕ) → RuleSpans ws end bodyDepth at t q → SurveyOf (reading (v .past)) g ids (v .n) t r
 unfolding satelliteIsInlinable stopsBody
 survey-meant w y t q u =
     let e = y .is t q u in
@@ -284,3 +284,6 @@ survey-meant w y t q u =
     either-stops : (a b : Bool) → (not b || not a) ≡ not (a && b)
     either-stops true b = or-false (not b)
     either-stops false b = or-true (not b)
+
+pub surveyed : {v : View} {ws : List ℕ} {end at : ℕ} {r : Survey} → BodySeen v ws end at r → Surveyed v ws end at r
+surveyed s = record { by = λ g ids a t q u. survey-meant a s t q u }

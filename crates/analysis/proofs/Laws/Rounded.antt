@@ -24,7 +24,6 @@ use Rattle.analysis.specs.declared.rounds.Round.{Round}
 use Rattle.reach.proofs.Laws.Rows.{no-bits}
 use Rattle.analysis.proofs.Laws.Standing.{among, few, all-rules, id-at, rule-spans}
 use Rattle.analysis.proofs.Laws.Agree.{agrees, behind}
-use Rattle.analysis.proofs.Laws.Meant.{survey-meant}
 
 -- Of the rules that pass a test, with ids that no two share, one is told by its id.
 is-among : {rs : List Rule} {i : ℕ} (a : Among rs i) → List·Memᴰ (a .rule) rs
@@ -96,7 +95,7 @@ module _ {ws : List ℕ} {end : ℕ} {rules : Rules} (s : Standing ws end rules)
     meant {i} a =
         let z = rule-spans (s .rows) a in
         subst (λ n. SurveyOf (reading past) grammar (rules .ids) n (a .rule) (kept a .survey)) (all-rules (s .rows))
-        (survey-meant (agrees s o past) (kept a .surveyed) (a .rule) (z .0) (z .1))
+        (kept a .surveyed .by grammar (rules .ids) (agrees s o past) (a .rule) (z .0) (z .1))
 
     pub round-by : RoundBy (reading past) rs (rules .ids) xs cs ks m
     unfolding stopping nullableRound

@@ -20,7 +20,8 @@ use Rattle.grammar.specs.Laws.Found.{rule-room}
 use Rattle.records.specs.Rules.{row, placesFrom, FoundRows}
 use Rattle.records.specs.declared.rules.Rules.{Rules}
 use Rattle.reach.specs.Rows.{bit, AddIf}
-use Rattle.analysis.specs.Survey.{View, Surveyed}
+use Rattle.analysis.specs.Survey.{View}
+use Rattle.analysis.specs.Facts.{Surveyed}
 use Rattle.analysis.specs.Rounds.{oneIf, countBelow, Marked, Recorded, Recording}
 use Rattle.analysis.specs.declared.survey.Survey.{Survey}
 use Rattle.analysis.specs.declared.rounds.Round.{Round}

@@ -23,7 +23,7 @@ use Rattle.grammar.specs.Laws.Fold.{Folding, folding-found, fold-leaf, fold-blo
 use Rattle.reference.specs.Walks.{isOptional}
 use Rattle.reach.specs.Rows.{bit}
 use Rattle.analysis.specs.Survey.{View, Seen, seenOf, surveying, skipping, pastBlock, pastAlternative, pastLeaf, LeafSeen, StopSeen, unseen, whole}
-use Rattle.analysis.specs.Survey.{pastOutermost, OutermostWalked, BodyWalked, Surveyed}
+use Rattle.analysis.specs.Survey.{pastOutermost, OutermostWalked, BodyWalked, BodySeen}
 use Rattle.reach.proofs.Laws.Rows.{no-bits}
 use Rattle.analysis.proofs.Laws.Seen.{same-seen}
 
@@ -133,7 +133,7 @@ body-room v g some = alternative-room innerDepth (folding-found g some)
 -- A whole rule.
 pub rule-surveyed : (v : View) {ws : List ℕ} {end at m f q : ℕ} (ys : List ℕ) (seeks : Bool) {null : Bool} → m ≡ getD ws (at + 3) 0 → f ≡ getD ws (at + 2) 0
     → BodyWalked v ws end m (at + 4) (seenOf (replicate 5 0) true false) q (seenOf ys seeks null)
-    → Surveyed v ws end at
+    → BodySeen v ws end at
     (record {
       calls = getD ys 0 0 ∷ getD ys 1 0 ∷ [];
       corners = getD ys 2 0 ∷ getD ys 3 0 ∷ [];

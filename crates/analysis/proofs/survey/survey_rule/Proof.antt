@@ -2,6 +2,7 @@
 use borrow.Author.Needs.{needs}
 use Rattle.grammar.specs.Laws.Fold.{bodies}
 use Rattle.analysis.proofs.Laws.Walks.{rule-surveyed}
+use Rattle.analysis.proofs.Laws.Meant.{surveyed}
 use Rattle.analysis.proofs.survey.survey_rule.Statement.{statement}
 use Rattle.analysis.proofs.survey.survey_rule.Tie as tie
 
@@ -15,10 +16,10 @@ survey-rule-spec =
     (λ c κs. search needs)
     (λ c. search needs)
     (λ c. search needs)
-    (λ c κs. search (needs, bodies, rule-surveyed))
+    (λ c κs. search (needs, bodies))
     (λ c. search needs)
     (λ c. search needs)
     (λ c. search needs)
     (λ c. search needs)
     (λ c. search needs)
-    (λ c. search (needs, bodies, rule-surveyed)))
+    (λ c. search (needs, surveyed, rule-surveyed)))
