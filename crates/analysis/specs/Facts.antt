@@ -1,13 +1,11 @@
 -- The facts about a grammar as rows of bits: bit j of row i is about the i-th and the j-th rule of the sheet (SPECIFICATION
 -- 6, 7.5). Each bit is membership in what the definition lists.
-use Prim.Native.Nat.{ℕ, _<_, _≤_}
+use Prim.Native.Nat.{ℕ}
 use mathlib.Core.Path.{_≡_}
 use mathlib.Core.List.{List, [], _∷_, _++_}
 use mathlib.Core.Option.{none, some}
 use mathlib.Core.Bool.{Bool, true, false, _&&_, not}
 use lib.ListN.{length, getD}
-use lib.Dec.{ltb}
-use Rattle.grammar.specs.Numbers.{ruleLimit}
 use Rattle.grammar.specs.Tree.{Rule, bodyDepth, innerDepth}
 use Rattle.grammar.specs.Found.{RuleSpans}
 use Rattle.grammar.specs.Lists.{member, keep, distinct}
@@ -18,7 +16,7 @@ use Rattle.reference.specs.Analysis.{blockIsNullable}
 use Rattle.reference.specs.Plan.{satelliteIsInlinable}
 use Rattle.records.specs.Rules.{FoundRows}
 use Rattle.records.specs.declared.rules.Rules.{Rules}
-use Rattle.reach.specs.Rows.{bit, edge, RowOf, holds}
+use Rattle.reach.specs.Rows.{bit, RowOf, holds}
 use Rattle.analysis.specs.Names.{isNamed, anyBelow}
 use Rattle.analysis.specs.Survey.{View, reading}
 use Rattle.analysis.specs.declared.survey.Survey.{Survey}

@@ -2,7 +2,7 @@
 use Prim.Native.Nat.{ℕ}
 use mathlib.Core.Path.{_≡_}
 use mathlib.Core.List.{List, [], _∷_}
-use mathlib.Core.Bool.{Bool, not}
+use mathlib.Core.Bool.{not}
 use lib.ListN.{length, getD, replicate}
 use lib.Dec.{eqb}
 use Rattle.grammar.specs.Numbers.{ruleLimit}

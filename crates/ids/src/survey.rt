@@ -6,7 +6,6 @@ use words::walk::alternative_head;
 use words::walk::element_head;
 use words::walk::leaf_end;
 use words::words::word;
-ghost use mathlib.Core.Path.{_≡_};
 ghost use mathlib.Core.List.{[], _∷_};
 ghost use Prim.Native.Nat.{_+_, _*_, _<_, _≤_, _^_};
 ghost use lib.ListN.{length, getD};

@@ -1,25 +1,24 @@
 -- What is known of rules by their places is what the definition's grammar says of them by their ids.
-use Prim.Native.Nat.{ℕ, zero, suc, _<_}
-use mathlib.Core.Path.{_≡_, refl, sym, ap, ap₂, _∙_}
-use mathlib.Core.List.{List, [], _∷_, _++_, map}
+use Prim.Native.Nat.{ℕ, suc, _<_}
+use mathlib.Core.Path.{_≡_, refl, sym, ap, _∙_}
+use mathlib.Core.List.{List, [], _∷_, _++_}
 use mathlib.Core.Option.{none, some}
-use mathlib.Core.Bool.{Bool, true, false, _&&_, _||_, and-true, and-false, or-false}
+use mathlib.Core.Bool.{Bool, true, false, _&&_, and-true, and-false, or-false}
 use native.Mathlib.Omega.{arith}
 use lib.ListN.{length, getD}
 use lib.Dec.{eqb, ltb}
 use borrow.Author.Tests.{eqb-true, eqb-false, ltb-true, lt-ltb, eq-eqb, ne-eqb}
 use Rattle.grammar.specs.Tree.{Rule}
-use Rattle.grammar.specs.Lists.{member, first, distinct}
+use Rattle.grammar.specs.Lists.{member, first}
 use Rattle.grammar.specs.Laws.Parse.{either}
-use Rattle.reference.specs.Analysis.{Name, Grammar, nameOf, namesOf, target}
-use Rattle.records.specs.Rules.{FoundRows}
+use Rattle.reference.specs.Analysis.{Grammar, nameOf, namesOf, target}
 use Rattle.records.specs.declared.rules.Rules.{Rules}
 use Rattle.reach.specs.Rows.{bit, holds, RowOf}
 use Rattle.analysis.specs.Names.{isNamed, anyBelow}
 use Rattle.analysis.specs.Survey.{View}
 use Rattle.analysis.specs.Facts.{Agrees, Among, Standing}
 use Rattle.analysis.proofs.Laws.Seen.{any-only, any-none}
-use Rattle.analysis.proofs.Laws.Standing.{among, few, all-rules, id-at, name-at, one-rule, rule-of}
+use Rattle.analysis.proofs.Laws.Standing.{among, few, all-rules, id-at, name-at, one-rule}
 
 -- The first rule of a name, or none.
 data Named (rs : List Rule) (m : ℕ) : Type 0 where

@@ -1,11 +1,11 @@
 -- What a round finds, by the definition: a round by the nullable rules in a list, and the rounds until they stand.
-use Prim.Native.Nat.{ℕ, zero, suc, _+_, _-_, _<_, _≤_}
+use Prim.Native.Nat.{ℕ, zero, suc, _+_, _-_, _≤_}
 use mathlib.Core.Path.{_≡_, refl, sym, ap, ap₂, _∙_, subst}
-use mathlib.Core.List.{List, [], _∷_, _++_, map, List·Memᴰ, List·Memᴰ·head, Memᴰ·append-right, Memᴰ·of-map}
+use mathlib.Core.List.{List, [], _∷_, List·Memᴰ, List·Memᴰ·head, Memᴰ·append-right, Memᴰ·of-map}
 use mathlib.Core.Bool.{Bool, true, false, _&&_, not, true≢false, and-false}
 use native.Mathlib.Omega.{arith}
 use lib.ListN.{length, getD, replicate, length-map}
-use lib.Dec.{eqb, ltb}
+use lib.Dec.{ltb}
 use borrow.Author.Tests.{ltb-true, ltb-false, eq-eqb, ne-eqb}
 use Rattle.grammar.specs.Tree.{Rule, bodyDepth, innerDepth}
 use Rattle.grammar.specs.Numbers.{ruleLimit}
@@ -19,7 +19,7 @@ use Rattle.records.specs.declared.rules.Rules.{Rules}
 use Rattle.reach.specs.Rows.{bit, holds, RowOf, Behind}
 use Rattle.analysis.specs.Survey.{View, reading}
 use Rattle.analysis.specs.Rounds.{oneIf, countBelow, Recorded, Recording}
-use Rattle.analysis.specs.Facts.{SurveyOf, Among, Standing, RowsBy, stopping, RoundBy, FactsOf, FactsFound}
+use Rattle.analysis.specs.Facts.{SurveyOf, Among, Standing, stopping, RoundBy, FactsOf, FactsFound}
 use Rattle.analysis.specs.declared.rounds.Round.{Round}
 use Rattle.reach.proofs.Laws.Rows.{no-bits}
 use Rattle.analysis.proofs.Laws.Standing.{among, few, all-rules, id-at, rule-spans}

@@ -1,24 +1,17 @@
 -- A round of surveys: where each rule stands, and one rule more.
-use Prim.Native.Nat.{ℕ, zero, suc, _+_, _-_, _<_, _≤_}
+use Prim.Native.Nat.{ℕ, zero, suc, _+_, _<_, _≤_}
 use mathlib.Core.Path.{_≡_, refl, sym, ap, _∙_}
-use mathlib.Core.List.{List, [], _∷_, _++_}
-use mathlib.Core.Bool.{Bool, true, false, _&&_, _||_, and-true, and-false, or-false}
+use mathlib.Core.List.{List, []}
+use mathlib.Core.Bool.{Bool, true, false, and-true, and-false, or-false}
 use native.Mathlib.Omega.{arith}
 use native.Mathlib.Numerals.{add-one}
-use lib.ListN.{length, getD, set, replicate, length-set, List·getD-append}
+use lib.ListN.{length, getD, set, replicate, length-set}
 use lib.Seq.{getD-set-same, getD-set-other}
 use lib.Dec.{eqb}
 use borrow.Author.Tests.{eqb-true, eqb-false, eq-eqb, ne-eqb}
 use Rattle.grammar.specs.Numbers.{ruleLimit}
-use Rattle.grammar.specs.Tree.{Rule, bodyDepth, innerDepth}
-use Rattle.grammar.specs.Encode.{encodeRule, encodeBlock}
-use Rattle.grammar.specs.Found.{FoundRule, RuleSpans, RulesSpan}
 use Rattle.grammar.specs.Laws.Parse.{either}
-use Rattle.grammar.specs.Laws.Stands.{stands-length}
-use Rattle.grammar.specs.Laws.Opened.{first-spans}
-use Rattle.grammar.specs.Laws.Found.{rule-room}
-use Rattle.records.specs.Rules.{row, placesFrom, FoundRows}
-use Rattle.records.specs.declared.rules.Rules.{Rules}
+use Rattle.records.specs.Rules.{row}
 use Rattle.reach.specs.Rows.{bit, AddIf}
 use Rattle.analysis.specs.Survey.{View}
 use Rattle.analysis.specs.Facts.{Surveyed}

@@ -7,7 +7,7 @@ use native.Mathlib.Omega.{arith}
 use lib.ListN.{length, getD, set, length-set}
 use lib.Seq.{getD-set-same, getD-set-other}
 use lib.Dec.{eqb, ltb}
-use borrow.Author.Tests.{eqb-true, eqb-false, ltb-true, ltb-false, eq-eqb, ne-eqb}
+use borrow.Author.Tests.{eqb-true, eqb-false, ltb-true, ltb-false, ne-eqb}
 use Rattle.grammar.specs.Numbers.{ruleLimit, callKind, epsilonKind}
 use Rattle.grammar.specs.Laws.Parse.{either}
 use Rattle.grammar.specs.Stands.{Stands}

@@ -11,9 +11,9 @@ use Rattle.grammar.specs.Numbers.{mostName, ruleLimit}
 use Rattle.grammar.specs.Tree.{Rule, bodyDepth, innerDepth}
 use Rattle.grammar.specs.Encode.{encodeRule, encodeBlock}
 use Rattle.grammar.specs.Lists.{distinct}
-use Rattle.grammar.specs.Ids.{ruleIds, ruleNames}
+use Rattle.grammar.specs.Ids.{ruleNames}
 use Rattle.grammar.specs.Read.{isName}
-use Rattle.grammar.specs.Valid.{okRule, okBlock}
+use Rattle.grammar.specs.Valid.{okRule}
 use Rattle.grammar.specs.Found.{FoundRule, RuleSpans, RulesSpan}
 use Rattle.grammar.specs.Laws.Parse.{left-true, right-true}
 use Rattle.grammar.specs.Laws.Stands.{stands-length}

@@ -1,5 +1,5 @@
 -- The walk over a body as a fold: one element, one alternative.
-use Prim.Native.Nat.{ℕ, zero, suc, _+_, _-_, _*_, _/_, _%_, _<_, _≤_}
+use Prim.Native.Nat.{ℕ, _+_, _-_, _/_, _<_, _≤_}
 use mathlib.Core.Path.{_≡_, refl, sym, ap, _∙_}
 use mathlib.Core.List.{List, [], _∷_}
 use mathlib.Core.Bool.{Bool, true, false, _&&_, _||_, not, or-false, or-true}
@@ -8,7 +8,7 @@ use lib.ListN.{getD, replicate}
 use lib.Dec.{eqb, leb}
 use borrow.Author.Tests.{leb-true, eq-eqb, ne-eqb}
 use Rattle.grammar.specs.Numbers.{callKind, blockKind, kindEnd, mostName, optionalGreedy, zeroOrMoreNongreedy}
-use Rattle.grammar.specs.Tree.{ElementHead, Leaf, epsilon, action, predicate, call, token, terminal, Element, leaf, block, Block, innerDepth}
+use Rattle.grammar.specs.Tree.{ElementHead, Leaf, epsilon, action, predicate, call, token, terminal, Element, Block, innerDepth}
 use Rattle.grammar.specs.Encode.{leafKind, encodeLeaf, encodeAlternative, encodeBlock}
 use Rattle.grammar.specs.Valid.{okLeaf, okAlternative, okBlock}
 use Rattle.grammar.specs.Stands.{Spans}
@@ -21,7 +21,6 @@ use Rattle.grammar.specs.Laws.Opened.{HeadWords, Opened, opened-leaf, opened-bl
 use Rattle.grammar.specs.Laws.Found.{alternative-room}
 use Rattle.grammar.specs.Laws.Fold.{Folding, folding-found, fold-leaf, fold-block, fold-alternative}
 use Rattle.reference.specs.Walks.{isOptional}
-use Rattle.reach.specs.Rows.{bit}
 use Rattle.analysis.specs.Survey.{View, Seen, seenOf, surveying, skipping, pastBlock, pastAlternative, pastLeaf, LeafSeen, StopSeen, unseen, whole}
 use Rattle.analysis.specs.Survey.{pastOutermost, OutermostWalked, BodyWalked, BodySeen}
 use Rattle.reach.proofs.Laws.Rows.{no-bits}

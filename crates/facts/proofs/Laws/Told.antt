@@ -1,22 +1,21 @@
 -- What is told of a sheet: the facts found and the cycles listed are those of the rules that were read.
-use Prim.Native.Nat.{ℕ, _<_, _≤_}
+use Prim.Native.Nat.{ℕ, _<_}
 use mathlib.Core.Path.{_≡_, refl, sym, ap, _∙_, subst}
 use mathlib.Core.List.{List, [], _∷_, map}
-use mathlib.Core.Bool.{Bool, true, _&&_}
+use mathlib.Core.Bool.{Bool}
 use native.Mathlib.Omega.{arith}
 use lib.ListN.{length, getD, replicate, length-map, length-replicate}
-use lib.Dec.{ltb}
 use borrow.Author.Tests.{lt-ltb}
-use Rattle.grammar.specs.Numbers.{ruleLimit, mostName, workBytes}
+use Rattle.grammar.specs.Numbers.{ruleLimit, mostName}
 use Rattle.grammar.specs.Words.{words}
 use Rattle.grammar.specs.Tree.{Rule, bodyDepth}
 use Rattle.grammar.specs.Ids.{ruleIds, ruleNames, isDistinct}
-use Rattle.grammar.specs.Lists.{member, distinct}
-use Rattle.grammar.specs.Reading.{Reading, refused, sheet}
+use Rattle.grammar.specs.Lists.{distinct}
+use Rattle.grammar.specs.Reading.{Reading, sheet}
 use Rattle.grammar.specs.Corners.{Corners}
 use Rattle.grammar.specs.Laws.Parse.{left-true, right-true}
 use Rattle.grammar.specs.Laws.Whole.{valid-parts}
-use Rattle.reference.specs.Analysis.{Grammar, Row, rowIds, rowOf, grammarOf, leftCornerCycles}
+use Rattle.reference.specs.Analysis.{Grammar, rowIds, rowOf, grammarOf, leftCornerCycles}
 use Rattle.records.specs.Rules.{row}
 use Rattle.records.specs.declared.rules.Rules.{Rules}
 use Rattle.words.specs.Room.{Room}
@@ -26,11 +25,11 @@ use Rattle.sheet.specs.declared.answer.Parts.{Parts}
 use Rattle.sheet.specs.declared.answer.Answer.the-variants.{Refused, Sheet}
 use Rattle.sheet.proofs.Laws.Sizes.{is-refused, was-read}
 use Rattle.sheet.specs.Read.{WasRead}
-use Rattle.reach.specs.Rows.{edge, holds, RowOf, Behind}
+use Rattle.reach.specs.Rows.{holds, Behind}
 use Rattle.analysis.specs.Survey.{reading}
 use Rattle.analysis.specs.Facts.{Among, Standing, FactsOf, FactsFound}
 use Rattle.reach.specs.Listed.{rowAt, cornerRows, Numbered, Edges, Ids, CycleRows, CyclesIn}
-use Rattle.facts.specs.Told.{noRows, marksOf, TellsRules, RulesTold, TellsSheet, TellsRefusal, Tells}
+use Rattle.facts.specs.Told.{noRows, TellsRules, RulesTold, TellsSheet, Tells}
 use Rattle.analysis.specs.declared.rounds.Marks.{Marks}
 use Rattle.reach.proofs.Laws.Rows.{two-words}
 use Rattle.analysis.proofs.Laws.Standing.{key-at, all-rules, id-at, rule-of}

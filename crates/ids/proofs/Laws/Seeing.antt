@@ -2,12 +2,12 @@
 use Prim.Native.Nat.{ℕ, zero, suc, _+_, _-_, _%_, _<_, _≤_}
 use mathlib.Core.Path.{_≡_, refl, sym, ap, _∙_}
 use mathlib.Core.List.{List, [], _∷_, _++_, append-assoc, append-nil}
-use mathlib.Core.Bool.{Bool, true, false, _&&_, not, and-true, and-false}
+use mathlib.Core.Bool.{true, _&&_, not, and-true, and-false}
 use native.Mathlib.Omega.{arith}
-use lib.ListN.{length, getD, take}
+use lib.ListN.{getD, take}
 use lib.Dec.{eqb, leb}
 use borrow.Author.Tests.{ne-eqb, leb-true}
-use Rattle.grammar.specs.Stands.{Spans, Stands}
+use Rattle.grammar.specs.Stands.{Stands}
 use Rattle.grammar.specs.Numbers.{alternativeSort, elementSort, labelSort, actionSort, predicateSort}
 use Rattle.grammar.specs.Numbers.{mostName, oneOrMoreNongreedy, actionKind, predicateKind, blockKind, kindEnd}
 use Rattle.grammar.specs.Tree.{Label, unlabelled, labelled, ElementHead, Leaf, epsilon, action, predicate, call, token, terminal}

@@ -13,7 +13,7 @@ use Rattle.grammar.specs.Numbers.{alternativeSort, elementSort, labelSort, acti
 use Rattle.grammar.specs.Lists.{only}
 use Rattle.grammar.specs.Ids.{bodyIds}
 use Rattle.grammar.specs.Found.{FoundRules}
-use Rattle.grammar.specs.Fold.{folded, RulesWalked}
+use Rattle.grammar.specs.Fold.{RulesWalked}
 use Rattle.ids.specs.declared.survey.Track.{Track}
 use Rattle.ids.specs.declared.survey.Survey.{Survey}
 use Rattle.ids.specs.Ids.{ownIds, alternativeId, seeing}

@@ -20,7 +20,7 @@ use Rattle.grammar.specs.Lists.{rising}
 use Rattle.grammar.specs.Ids.{isDistinct, isBelow}
 use Rattle.grammar.specs.Reading as reading
 use Rattle.grammar.specs.Reading.{refused, sheet, trailer, unitKind, firstDistance, secondDistance, rulesEnd, isTrailer}
-use Rattle.grammar.specs.Reading.{preservedIds, countersOf, rulesOf, sheetOf, judge, readWords, read}
+use Rattle.grammar.specs.Reading.{preservedIds, countersOf, rulesOf, sheetOf, judge, readWords}
 use Rattle.grammar.specs.Laws.Words.{length-words}
 use Rattle.grammar.specs.Laws.Stands.{stands-length}
 use Rattle.grammar.specs.Laws.Parse.{left-true, right-true, yields-got}

@@ -1,10 +1,10 @@
 -- Tests of all the ids of one sort, and of one sort after the other.
-use Prim.Native.Nat.{ℕ, _-_, _≤_}
+use Prim.Native.Nat.{ℕ, _≤_}
 use mathlib.Core.Path.{_≡_, refl, sym, ap, _∙_}
 use mathlib.Core.List.{List}
 use mathlib.Core.Bool.{Bool, true, _&&_}
 use native.Mathlib.Omega.{arith}
-use lib.ListN.{length, take, replicate, length-map}
+use lib.ListN.{length, take, length-map}
 use lib.Seq.{take-append-seam}
 use lib.Dec.{leb}
 use Rattle.grammar.specs.Tree as tree

@@ -1,6 +1,5 @@
 -- `analysis::survey::see_name` meets its contract: a name is a rule's, or it is a symbol.
 use borrow.Author.Needs.{needs}
-use native.Mathlib.Omega.{arith}
 use Rattle.analysis.proofs.Laws.Seen.{sees}
 use Rattle.analysis.proofs.leaf.see_name.Statement.{statement}
 use Rattle.analysis.proofs.leaf.see_name.Tie as tie

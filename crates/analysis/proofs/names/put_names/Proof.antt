@@ -1,7 +1,6 @@
 -- `analysis::names::put_names` meets its contract: the names below i are in the table.
 use borrow.Author.Needs.{needs}
 use Prim.Native.Nat.{_-_}
-use native.Mathlib.Omega.{arith}
 use Rattle.analysis.proofs.Laws.Names.{Putting, puts}
 use Rattle.analysis.proofs.names.put_names.Statement.{statement}
 use Rattle.analysis.proofs.names.put_names.Tie as tie

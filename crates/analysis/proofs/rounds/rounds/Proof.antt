@@ -1,6 +1,5 @@
 -- `analysis::rounds::rounds` meets its contract: the definition's rounds go on from what is found so far.
 use borrow.Author.Needs.{needs}
-use native.Mathlib.Omega.{arith}
 use Rattle.grammar.specs.Words.{words}
 use Rattle.reach.specs.Rows.{Behind}
 use Rattle.analysis.proofs.Laws.Rounded.{Finding, finding}

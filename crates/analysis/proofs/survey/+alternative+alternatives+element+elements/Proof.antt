@@ -2,7 +2,7 @@
 use borrow.Author.Needs.{needs}
 use native.Mathlib.Omega.{arith}
 use mathlib.Core.Path.{_≡_}
-use Prim.Native.Nat.{ℕ, _<_, _≤_, _+_, _*_}
+use Prim.Native.Nat.{ℕ, _<_, _+_, _*_}
 use lib.ListN.{length}
 use Rattle.grammar.specs.Words.{words}
 use Rattle.grammar.specs.Laws.Found.{rooms, inner}
