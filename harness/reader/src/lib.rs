@@ -4,6 +4,7 @@ pub mod compare;
 pub mod damage;
 pub mod grow;
 pub mod numbers;
+pub mod options;
 #[cfg(feature = "proved")]
 pub mod proved;
 pub mod random;

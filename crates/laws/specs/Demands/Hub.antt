@@ -58,5 +58,6 @@ module _ (g : Grammar) (cycle : List ℕ) where
       wanted : {i : ℕ} (front rest : List ℕ) → front ++ (i ∷ rest) ≡ cycle → Candidate i → Wanted i
           → ((j : ℕ) → List·Memᴰ j front → Candidate j → Wanted j → ⊥) → HubTold (some i)
       unwanted : {i : ℕ} (front rest : List ℕ) → front ++ (i ∷ rest) ≡ cycle → Candidate i
-          → ((j : ℕ) → List·Memᴰ j front → Candidate j → ⊥) → ((j : ℕ) → List·Memᴰ j cycle → Candidate j → Wanted j → ⊥) → HubTold (some i)
+          → ((j : ℕ) → List·Memᴰ j front → Candidate j → ⊥)
+          → ((j : ℕ) → List·Memᴰ j cycle → Candidate j → Wanted j → ⊥) → HubTold (some i)
       nobody : ((j : ℕ) → List·Memᴰ j cycle → Candidate j → ⊥) → HubTold none

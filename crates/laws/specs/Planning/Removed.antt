@@ -47,7 +47,8 @@ module _ (round : List ℕ → List ℕ) (shrinks : (xs : List ℕ) → length (
 -- What each round keeps stays.
 rounds-above : (round : List ℕ → List ℕ) (ys : List ℕ)
     → ((xs : List ℕ) → ((i : ℕ) → List·Memᴰ i ys → List·Memᴰ i xs) → (i : ℕ) → List·Memᴰ i ys → List·Memᴰ i (round xs))
-    → (n : ℕ) (xs : List ℕ) → ((i : ℕ) → List·Memᴰ i ys → List·Memᴰ i xs) → (i : ℕ) → List·Memᴰ i ys → List·Memᴰ i (rounds round n xs)
+    → (n : ℕ) (xs : List ℕ) → ((i : ℕ) → List·Memᴰ i ys → List·Memᴰ i xs)
+    → (i : ℕ) → List·Memᴰ i ys → List·Memᴰ i (rounds round n xs)
 unfolding rounds
 rounds-above round ys h zero xs w i m = w i m
 rounds-above round ys h (suc n) xs w i m =

@@ -186,7 +186,8 @@ module _ (d : ℕ) (rs : List (RuleOf (Block (suc d)))) (g : Grammar) (cycle : L
   ends [] e = λ q m. absurd (List·Memᴰ·not-nil m)
   ends (p ∷ ps) e = go (reply p) refl (step d rs g cycle hub ps) (ends ps) e
     where
-      go : (o : Reply) → reply p ≡ o → (o′ : Reply) → (o′ ≡ none → Passed ps) → _≡_ {A = Reply} (stepBy p ps o o′) none → Passed (p ∷ ps)
+      go : (o : Reply) → reply p ≡ o → (o′ : Reply) → (o′ ≡ none → Passed ps)
+          → _≡_ {A = Reply} (stepBy p ps o o′) none → Passed (p ∷ ps)
       go none k none ih f = passed-more k (ih refl)
       go none k (some r) ih f = never (sym f)
       go (some r) k o′ ih f = never (sym f)

@@ -189,6 +189,7 @@ head-told x kind b t h {w} m =
     go q l o g (List·Memᴰ·tail (List·Memᴰ·tail (List·Memᴰ·tail (List·Memᴰ·head e)))) = label-told (x .label) l (inl e) (λ y m. m)
     go q l o g (List·Memᴰ·tail (List·Memᴰ·tail (List·Memᴰ·tail (List·Memᴰ·tail (List·Memᴰ·head e))))) = label-told (x .label) l (inr e)
         (λ y m. m)
-    go q l o g (List·Memᴰ·tail (List·Memᴰ·tail (List·Memᴰ·tail (List·Memᴰ·tail (List·Memᴰ·tail (List·Memᴰ·head e)))))) = small (omega arith)
+    go q l o g (List·Memᴰ·tail (List·Memᴰ·tail (List·Memᴰ·tail (List·Memᴰ·tail (List·Memᴰ·tail (List·Memᴰ·head e)))))) =
+        small (omega arith)
     go q l o g (List·Memᴰ·tail (List·Memᴰ·tail (List·Memᴰ·tail (List·Memᴰ·tail (List·Memᴰ·tail (List·Memᴰ·tail m)))))) =
         told-in (λ n. List·Memᴰ·tail n) (λ s n. n) (option-told (x .options) o {is = λ k. headIds k x} m)

@@ -6,34 +6,10 @@ use std::time::Instant;
 use analysis::proved::proved;
 use analysis::run::{Difference, Run, Tally};
 use analysis::stored::stored;
+use reader::options::{Options, options};
 use sheets::codec;
 use sheets::names::Names;
 use sheets::print::{Style, print};
-
-struct Options {
-    count: u64,
-    seed: u64,
-}
-
-fn options() -> Result<Options, String> {
-    let mut options = Options {
-        count: 20_000,
-        seed: 1,
-    };
-    let mut words = std::env::args().skip(1);
-    while let Some(word) = words.next() {
-        let value = words.next().unwrap_or_default();
-        let number = value
-            .parse()
-            .map_err(|_| format!("{word} needs a number"))?;
-        match word.as_str() {
-            "--count" => options.count = number,
-            "--seed" => options.seed = number,
-            _ => return Err(format!("unknown option {word}")),
-        }
-    }
-    Ok(options)
-}
 
 fn compared(options: &Options) -> Result<Tally, String> {
     let mut run = Run::new(&proved);

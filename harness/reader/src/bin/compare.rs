@@ -1,34 +1,10 @@
 //! `compare --count N --seed S`: the proved reader against the second one on N sheets.
 
 use reader::compare::{Disagreement, Tally, run};
+use reader::options::{Options, options};
 use reader::proved::proved;
 use std::process::ExitCode;
 use std::time::Instant;
-
-struct Options {
-    count: u64,
-    seed: u64,
-}
-
-fn options() -> Result<Options, String> {
-    let mut options = Options {
-        count: 20_000,
-        seed: 1,
-    };
-    let mut words = std::env::args().skip(1);
-    while let Some(word) = words.next() {
-        let value = words.next().unwrap_or_default();
-        let number = value
-            .parse()
-            .map_err(|_| format!("{word} needs a number"))?;
-        match word.as_str() {
-            "--count" => options.count = number,
-            "--seed" => options.seed = number,
-            _ => return Err(format!("unknown option {word}")),
-        }
-    }
-    Ok(options)
-}
 
 fn show(tally: &Tally, options: &Options, began: Instant) {
     let seconds = began.elapsed().as_secs_f64();
