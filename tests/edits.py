@@ -1,8 +1,9 @@
 """Edits that make a definition or a program wrong.
 
     # what is wrong
-    refused: CRATE      where the prover must refuse it: the edited crate, or one that uses it; `answers` where no law
-                        speaks of it, and the stored answer alone does
+    refused: CRATE      where the prover must refuse it: the edited crate; or CRATE/MODULE, the module of specs at which a
+                        crate of laws above it is refused first; `answers` where no law speaks of it, and the stored
+                        answer alone does
     shown: NAME         what is answered otherwise: a stored answer of the harness, or for code a sheet of tests/reading
     when: asked         where the gate need not try it: another edit is much like it
     file: FILE          of the crate; then pairs of
@@ -20,14 +21,14 @@ ASKED = 'asked'
 class Edit:
     def __init__(self, path):
         self.path, self.crate, self.name = path, path.parent.name, path.stem
-        self.what = self.refused = self.shown = self.when = ''
+        self.what = self.refused = self.module = self.shown = self.when = ''
         self.pairs, file, before = [], '', None
         for line in path.read_text(encoding='utf-8').splitlines():
             key, _, rest = line.partition(' ')
             if key == '#':
                 self.what = self.what or rest
             elif key == 'refused:':
-                self.refused = rest
+                self.refused, _, self.module = rest.partition('/')
             elif key == 'shown:':
                 self.shown = rest
             elif key == 'when:':
@@ -53,6 +54,9 @@ class Edit:
     def is_code(self):
         return all(file.startswith('src/') for file, _, _ in self.pairs)
 
+    def is_refused_above(self):
+        return self.refused not in (self.crate, ALONE)
+
     def made(self, crate):
         """The texts of the files that the edit changes, of a crate's folder; and what does not fit."""
         texts, misfits = {}, []
@@ -74,6 +78,10 @@ class Edit:
             found.append(f'{self}: it does not say what is wrong, or has no old: and new:')
         if self.crate not in crates.reached(self.refused) and (self.refused != ALONE or self.is_code()):
             found.append(f'{self}: refused: {self.refused or "nowhere"}, which is not {self.crate} and does not use it')
+        elif bool(self.module) != self.is_refused_above():
+            found.append(f'{self}: refused: {self.refused}, where a crate above {self.crate}, and it alone, has a module')
+        elif self.module and not (crates.folder / self.refused / 'specs' / f'{self.module}.antt').is_file():
+            found.append(f'{self}: refused: {self.refused} has no specs/{self.module}.antt')
         if self.when not in ('', ASKED):
             found.append(f'{self}: when: {self.when}, which is not {ASKED}')
         if self.shown not in known(self):

@@ -6,8 +6,9 @@
 Each edit of tests/wrong (its form is in edits.py) is tried on copies of the crates. An edited definition is computed on
 the stored answer, or the call of `outcome`, that the edit names, as check_answers.py does; edited code is run, unproved,
 on the sheet that it names, by the program in tests/wrong/driver.txt. What comes out must differ from what the unedited
-one gives, and the prover must refuse the edit in the crate that it names. An edit that is accepted, or that answers as
-before, fails.
+one gives, and the prover must refuse the edit: edited code in its crate, an edited definition at the module of laws that
+the edit names, which is checked with what it uses alone. An edit that is accepted, that is refused at another module, or
+that answers as before, fails.
 
 The edits of tests/equal are definitions written otherwise, with the same answers. The prover refuses them too, so each
 must be found to answer as before: a refusal alone shows nothing wrong.
@@ -27,7 +28,7 @@ from pathlib import Path
 import check_answers
 import edits
 import words
-from rooms import Kept, Room
+from benches import Definitions, Programs
 
 HERE = Path(__file__).resolve().parent
 AT_ONCE = 2
@@ -52,119 +53,64 @@ def short(name):
     return name if name.startswith('outcome: ') else name.partition(': ')[2]
 
 
-class Bench:
-    """Two scratch repositories: `bare`, where definitions have no laws or tables beside them, and `whole`."""
+class Lane:
+    """What one of the tries that run side by side works in: rooms of its own, made where they are asked for."""
 
-    def __init__(self, place, crates, asked, linked):
-        self.place = place
-        above = [edit for edit in asked if edit.refused not in (edit.crate, edits.ALONE)]
-        within = [edit for edit in asked if edit.refused == edit.crate and edit not in linked]
-        code = [edit for edit in asked if edit.is_code()]
-        defined = sorted({edit.crate for edit in asked if not edit.is_code()})
-        self.bare_crates = sorted({edit.refused for edit in above})
-        self.whole_crates = sorted({edit.refused for edit in within})
-        # check_answers makes its own repository; the crates above the definitions are put beside its crate of checks
-        self.answers = check_answers.Room(place / 'bare', crates.folder)
-        listed = (place / 'bare/crates.txt').read_text()
-        uses = dict(line.split(':') for line in listed.splitlines())['answers'].split()
-        needed = [name for top in [*self.bare_crates, *uses] for name in crates.reached(top)]
-        self.bare = Room(place / 'bare', crates, list(dict.fromkeys(needed)), defined)
-        self.bare.list(answers=' '.join(uses))
-        for name in self.bare_crates:
-            self.bare.with_sources(name, crates)
-        driver = (HERE / 'wrong/driver.txt').read_text(encoding='utf-8') if code else ''
-        self.whole = Room(place / 'whole', crates, crates.needed(within + code, driver))
-        if code:
-            self.whole.drive(driver)
+    def __init__(self, place, trial):
+        self.place, self.trial = place, trial
+        self.definitions = self.programs = None
 
-    def warm(self, built):
-        """Has the unedited crates accepted; returns the folders as they then are. That the unedited definition gives
-        the stored answers is what check_answers.py shows."""
-        self.differs()
-        version = self.bare.version('answers')
-        self.bare.start_from(built, [], version)
-        self.whole.start_from(built, self.whole_crates, version)
-        self.accepted()
-        return Kept(self.bare, self.bare_crates), Kept(self.whole, self.whole_crates)
+    def tried(self, unit):
+        trial = self.trial
+        if unit[0].is_code():
+            code = [edit for edit in trial.asked if edit.is_code()]
+            driver = (HERE / 'wrong/driver.txt').read_text(encoding='utf-8')
+            self.programs = self.programs or Programs(self.place / 'programs', trial.crates, code, trial.built, driver)
+            return self.programs.tried(unit, trial.named.sheet, trial.printed, trial.linked)
+        defined = [edit for edit in trial.asked if not edit.is_code()]
+        self.definitions = self.definitions or Definitions(self.place / 'definitions', trial.crates, defined, trial.built)
+        return [(edit, differs, trial.by_gate(edit) or where, why)
+                for edit, differs, where, why in self.definitions.tried(unit, trial.named.answers)]
 
-    def differs(self, *asked):
-        """Whether the definitions are shown, by computing, to give something else than is stored of each."""
-        same, large = self.answers.run(asked, differs=True)
-        if large or self.answers.failed:
-            raise SystemExit(f'{self.place} cannot compute: {self.answers.failed or large}')
-        return not same
-
-    def accepted(self):
-        for name in self.bare_crates:
-            self.bare.guest(name, self.answers.head)
-        for room, names in ((self.bare, self.bare_crates), (self.whole, self.whole_crates)):
-            for name in names:
-                room.accepts(name)
-
-    def copy(self, place):
-        """The same bench in another place, its folders warm too."""
-        shutil.copytree(self.place, place, symlinks=True)
-        other = object.__new__(Bench)
-        other.__dict__.update(self.__dict__, place=place)
-        for room in ('bare', 'whole'):
-            moved = object.__new__(Room)
-            moved.__dict__.update(getattr(self, room).__dict__, place=place / room, edited={})
-            setattr(other, room, moved)
-        other.answers = object.__new__(check_answers.Room)
-        other.answers.__dict__.update(self.answers.__dict__, place=place / 'bare')
-        other.answers.checks = place / self.answers.checks.relative_to(self.place)
-        return other
+    def end(self):
+        if self.definitions:
+            self.definitions.accepted()
 
 
 class Trial:
-    """Edits tried side by side, each on a bench of its own."""
+    """Edits tried in lanes, those together that are refused at the same place."""
 
-    def __init__(self, benches, kept, named, linked):
-        self.free, self.named, self.printed = queue.Queue(), named, {}
-        self.kept, self.linked = kept, linked
-        for bench in benches:
-            self.free.put(bench)
+    def __init__(self, asked, crates, named, linked, built):
+        self.asked, self.crates, self.named, self.linked, self.built = asked, crates, named, linked, built
+        self.printed, self.free = {}, queue.Queue()
 
-    def of(self, edit):
-        bench = self.free.get()
+    def by_gate(self, edit):
+        return f'{edit.crate}/must-fail, by rt ci' if edit in self.linked else None
+
+    def units(self):
+        """Edits of code by their crate, since they take longer, then definitions; the large units first."""
+        found = {}
+        for edit in self.asked:
+            found.setdefault((edit.is_code(), edit.crate, edit.refused, edit.module), []).append(edit)
+        return sorted(found.values(), key=lambda unit: (unit[0].is_code(), len(unit)), reverse=True)
+
+    def of(self, unit):
+        lane = self.free.get()
         try:
-            return (edit, *(self.of_code if edit.is_code() else self.of_definition)(bench, edit))
+            return lane.tried(unit)
         finally:
-            self.free.put(bench)
+            self.free.put(lane)
 
-    def of_definition(self, bench, edit):
-        """Whether the answer differs, where the prover refuses the edit, and why if nowhere."""
-        asked = self.named.answers[edit.shown]
-        bench.bare.make(edit)
-        if edit.refused in (edit.crate, edits.ALONE):
-            found = bench.differs(asked), None, None
-        else:
-            bench.bare.guest(edit.refused, bench.answers.head, asked)
-            found = bench.bare.differs_and_refusal(edit.refused)
-            if found[0] is None:
-                found = bench.differs(asked), *found[1:]
-            self.kept[0].restore(bench.bare, edit.refused)
-        bench.bare.undo()
-        return (found[0], *self.within(bench, edit)) if edit.refused == edit.crate else found
-
-    def of_code(self, bench, edit):
-        sheet = self.named.sheet(edit.shown)
-        if edit.shown not in self.printed:
-            self.printed[edit.shown] = bench.whole.printed_to_the_end(sheet)
-        bench.whole.make(edit)
-        now = bench.whole.printed(sheet)
-        bench.whole.undo()
-        return (now != self.printed[edit.shown], *self.within(bench, edit))
-
-    def within(self, bench, edit):
-        """Where the edited crate itself is refused."""
-        if edit in self.linked:
-            return f'{edit.crate}/must-fail, by rt ci', None
-        bench.whole.make(edit)
-        where = bench.whole.refusal(edit.crate)
-        bench.whole.undo()
-        self.kept[1].restore(bench.whole, edit.crate)
-        return where
+    def run(self, place):
+        """All edits with what was found of them; each lane ends with its crates accepted."""
+        lanes = [Lane(place / str(number), self) for number in range(AT_ONCE)]
+        for lane in lanes:
+            self.free.put(lane)
+        with ThreadPoolExecutor(AT_ONCE) as pool:
+            for found in pool.map(self.of, self.units()):
+                yield from found
+            for _ in pool.map(Lane.end, lanes):
+                pass
 
 
 def told(edit, differs, where, why, equal=False):
@@ -183,12 +129,17 @@ def told(edit, differs, where, why, equal=False):
 
 
 def strangers(crates, every):
-    """What stands in a crate's must-fail and is no link to an edit that this crate must refuse."""
+    """What stands in a crate's must-fail and is no link to an edit that this crate must refuse; and which definition must be
+    refused by its own crate and has no link there."""
     good = {edit.path.resolve(): edit for edit in every if edit.refused == edit.crate}
     for path in crates.must_fail():
         edit = good.get(path.resolve())
         if not edit or edit.crate != path.parent.parent.name:
             yield f'{path.relative_to(crates.folder)}: it is no link to an edit of tests/wrong that this crate refuses'
+    links = [path.resolve() for path in crates.must_fail()]
+    for edit in good.values():
+        if not edit.is_code() and edit.path.resolve() not in links:
+            yield f'{edit}: refused: {edit.crate}, which `rt ci` has no link to try; name a module of laws'
 
 
 def arguments():
@@ -224,23 +175,14 @@ def main():
     if given.fits or not wrong + equal:
         print(f'{len(wrong)} edits fit, and {len(equal)} equal ones')
         return 0 if given.fits else 1
-    room = given.room.resolve()
+    room, failed = given.room.resolve(), 0
     shutil.rmtree(room, ignore_errors=True)
     links = [path.resolve() for path in crates.must_fail()]
-    linked = [edit for edit in wrong if edit.path in links]
-    first = Bench(room / '0', crates, wrong + equal, linked)
-    kept = first.warm(given.built.resolve())
-    benches = [first, *(first.copy(room / str(n)) for n in range(1, AT_ONCE))]
-    for bench in benches[1:]:
-        bench.accepted()
-    trial, failed = Trial(benches, kept, named, linked), 0
-    with ThreadPoolExecutor(AT_ONCE) as pool:
-        for edit, *found in pool.map(trial.of, wrong + equal):
-            line, good = told(edit, *found, equal=edit in equal)
-            print(line, flush=True)
-            failed += not good
-        for _ in pool.map(Bench.accepted, benches):
-            pass
+    linked = [edit for edit in wrong if edit.path.resolve() in links]
+    for edit, *found in Trial(wrong + equal, crates, named, linked, given.built.resolve()).run(room):
+        line, good = told(edit, *found, equal=edit in equal)
+        print(line, flush=True)
+        failed += not good
     print(f'{len(wrong + equal) - failed} passed, {failed} failed')
     return 1 if failed else 0
 

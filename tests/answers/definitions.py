@@ -16,7 +16,7 @@ def modules(crate):
 
 def used(text):
     """The modules of crates that a text uses, each with its crate's name."""
-    return re.findall(r'^use Rattle·(\w+?)(?:·specs\.specs|\.specs)\.([\w.·′]+?)(?:\.\{|$)', text, re.M)
+    return re.findall(r'^(?:pub )?use Rattle·(\w+?)(?:·specs\.specs|\.specs)\.([\w.·′]+?)(?:\.\{| |$)', text, re.M)
 
 
 def is_law(module):
@@ -37,16 +37,37 @@ def law_files(crate):
 
 def copy_definitions(crate, copy):
     """A crate without its laws and its table: what is checked here are the definitions alone."""
-    laws = law_files(crate)
+    copy_without(crate, copy, law_files(crate))
+
+
+def copy_part(crate, copy, module):
+    """A crate with one module of its specs, and what that uses, alone."""
+    copy_without(crate, copy, {name for _, name in modules(crate)} - needed(crate, module))
+
+
+def copy_without(crate, copy, gone):
+    """A crate without some modules of its specs, and without its proofs."""
     shutil.rmtree(copy, ignore_errors=True)
     shutil.copytree(crate, copy, ignore=shutil.ignore_patterns('must-fail', 'proofs'))
     for path, module in list(modules(copy)):
-        if module in laws:
+        if module in gone:
             path.unlink()
     for node in (copy / 'specs').rglob('*.antt'):
         below = node.with_suffix('') if node.name != 'Lib.antt' else node.parent
         lines = node.read_text().splitlines(keepends=True)
         node.write_text(''.join(line for line in lines if is_there(line, below)))
+
+
+def needed(crate, module):
+    """A module of a crate's specs, those of the crate that it uses, and those in whose folders they stand."""
+    texts = {name: path.read_text() for path, name in modules(crate)}
+    found, todo = set(), [module]
+    while todo:
+        name = todo.pop()
+        if name in texts and name not in found:
+            found.add(name)
+            todo += [name.rpartition('.')[0], *(inner for owner, inner in used(texts[name]) if owner == crate.name)]
+    return found
 
 
 def is_there(line, folder):

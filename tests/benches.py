@@ -1,0 +1,151 @@
+"""Where wrong definitions and wrong programs are tried: what each answers, and where it is refused."""
+import re
+
+import check_answers
+from answers.claims import claim
+from answers.definitions import copy_definitions, copy_part
+from answers.room import STOPS
+from rooms import CHECKS, ERROR, Room, refused
+
+DRIVER = 'driver'
+ENDED = ' ended, '
+FOUND = re.compile(r'^(?:FAIL: (.*)\n(?:.*, found (".*"))?|ok: .*)', re.M)
+
+
+class Definitions(Room):
+    """Definitions without their laws and tables, and the crates of laws above them. The crates below a crate of laws are
+    checked in its own runs, over its own folder: most of a run is loading."""
+
+    def __init__(self, place, crates, asked, built):
+        self.defined = sorted({edit.crate for edit in asked})
+        self.tops = sorted({edit.refused for edit in asked if edit.is_refused_above()})
+        # check_answers makes its own repository; the crates of laws are put beside its crate of checks
+        self.answers = check_answers.Room(place, crates.folder)
+        listed = (place / 'crates.txt').read_text()
+        uses = dict(line.split(':') for line in listed.splitlines())['answers'].split()
+        needed = [name for top in [*self.tops, *uses] for name in crates.reached(top)]
+        super().__init__(place, crates, list(dict.fromkeys(needed)), built)
+        self.list(answers=' '.join(uses))
+        for top in self.tops:
+            below = crates.reached(top)[:-1]
+            used = {name: ','.join(crates.uses[name]) for name in below}
+            self.words[top] = [word for name in below for word in ('--lib', f'{name}:{used[name]}=crates/{name}/src/lib.rt')]
+            self.list(**{top: ''})
+            self.guest(top)
+        self.kept = {top: self.warm(top, crates.reached(top)) for top in self.tops}
+
+    def copy(self, name):
+        if name in self.defined:
+            copy_definitions(self.crates.folder / name, self.place / 'crates' / name)
+        else:
+            super().copy(name)
+
+    def accepted(self):
+        """That each crate of laws is accepted, whole and without an edit."""
+        for top in self.tops:
+            self.accepts(top)
+
+    def guest(self, crate, *asked):
+        """Puts a module beside a crate's own: what a computation needs, and for each answer that the definition gives
+        something else than is stored. One check then serves for both, since most of it is loading."""
+        texts = [claim(index, one, differs=True) for index, one in enumerate(asked)]
+        (self.place / 'crates' / crate / CHECKS).write_text(self.answers.head + ''.join(texts), encoding='utf-8')
+        library = self.place / 'crates' / crate / 'specs/Lib.antt'
+        lines = library.read_text(encoding='utf-8')
+        if 'pub mod Checks\n' not in lines:
+            library.write_text(lines + 'pub mod Checks\n', encoding='utf-8')
+
+    def tried(self, edits, asked):
+        """Of edits that name the same module: each with whether its answer differs, where it is refused, why if nowhere.
+        The module and what it uses are accepted without an edit first."""
+        crate, module = edits[0].refused, edits[0].module
+        if not module:
+            return [(edit, self.differs(edit, asked[edit.shown]), None, None) for edit in edits]
+        copy_part(self.crates.folder / crate, self.place / 'crates' / crate, module.replace('/', '.'))
+        self.guest(crate)
+        self.accepts(crate)
+        found = [(edit, *self.of(edit, asked[edit.shown])) for edit in edits]
+        self.copy(crate)
+        self.guest(crate)
+        return found
+
+    def of(self, edit, asked):
+        self.guest(edit.refused, asked)
+        self.make(edit)
+        differs, where, why = self.differs_and_refusal(edit.refused)
+        self.undo()
+        self.kept[edit.refused].restore()
+        if differs is None:
+            differs = self.differs(edit, asked)
+        if where and not where.endswith(f' in crates/{edit.refused}/specs/{edit.module}.antt'):
+            return differs, None, f'it is refused at {where}, not in {edit.refused}/{edit.module}'
+        return differs, where, why
+
+    def differs(self, edit, *asked):
+        """Whether the edited definitions are shown, by computing, to give something else than is stored of each."""
+        self.make(edit)
+        same, large = self.answers.run(asked, differs=True)
+        self.undo()
+        if large or self.answers.failed:
+            raise SystemExit(f'{self.place} cannot compute {edit}: {self.answers.failed or large}')
+        return not same
+
+    def differs_and_refusal(self, crate):
+        """Whether what stands in the guest is so, where the crate is refused, and why if nowhere. Where the guest is not
+        reached, nothing is known of it."""
+        status, said = self.dev(crate)
+        if not re.search(rf'^crate {crate}: modules ', said, re.M):
+            return (None, *refused(crate, status, said))
+        open_equations = [found for found in ERROR.finditer(said) if found[2] == CHECKS]
+        if any(found[3] != 'a0' or any(stop in found[4] for stop in STOPS) for found in open_equations):
+            raise SystemExit(f'{self.place} cannot compute: {open_equations[0][0]}')
+        return (not open_equations, *refused(crate, status, said))
+
+
+class Programs(Room):
+    """Crates of code, and a program over them that prints what they tell of a sheet."""
+
+    def __init__(self, place, crates, asked, built, driver):
+        super().__init__(place, crates, crates.needed(asked, driver), built)
+        program = place / 'crates' / DRIVER / 'src/main.rt'
+        program.parent.mkdir(parents=True, exist_ok=True)
+        program.write_text(driver, encoding='utf-8')
+        self.list(**{DRIVER: f'{" ".join(self.names)} io libc'})
+        self.take_proved()
+
+    def tried(self, edits, sheets, before, linked):
+        """Of edits of one crate: each with whether the program prints otherwise, where it is refused, why if nowhere. The
+        crate is accepted without an edit first and at the end. `before` has what the program prints without an edit."""
+        crate, found = edits[0].crate, []
+        kept = None if all(edit in linked for edit in edits) else self.warm(crate, [crate])
+        for edit in edits:
+            sheet = sheets(edit.shown)
+            if edit.shown not in before:
+                before[edit.shown] = self.printed_to_the_end(sheet)
+            self.make(edit)
+            differs = self.printed(sheet) != before[edit.shown]
+            where = (f'{crate}/must-fail, by rt ci', None) if edit in linked else self.refusal(crate)
+            self.undo()
+            if edit not in linked:
+                kept.restore()
+            found.append((edit, differs, *where))
+        if kept:
+            self.accepts(crate)
+        return found
+
+    def printed(self, sheet):
+        """What the program prints of a sheet, unproved, on the interpreter; or how its run ends, if not as it should."""
+        (self.place / 'crates' / DRIVER / 'stdin').write_bytes(sheet)
+        _, said = self.rt('try', DRIVER)
+        first = FOUND.search(said)
+        if not first:
+            raise SystemExit(f'the program does not run in {self.place}:\n{said[-1500:]}')
+        how, text = first[1] or '', first[2] or ''
+        return text if ENDED in how else how
+
+    def printed_to_the_end(self, sheet):
+        """What the program prints; the script ends where its run does not, since how far that comes tells nothing."""
+        text = self.printed(sheet)
+        if not text.startswith('"'):
+            raise SystemExit(f'the program without an edit does not end in {self.place}: {text or "nothing is printed"}')
+        return text
