@@ -9,6 +9,7 @@ from rooms import CHECKS, ERROR, Room, refused
 
 DRIVER = 'driver'
 ENDED = ' ended, '
+SHOWN = 25   # sheets of whose numbers all fit into what `rt try` shows
 FOUND = re.compile(r'^(?:FAIL: (.*)\n(?:.*, found (".*"))?|ok: .*)', re.M)
 
 
@@ -119,33 +120,64 @@ class Programs(Room):
         crate, found = edits[0].crate, []
         kept = None if all(edit in linked for edit in edits) else self.warm(crate, [crate])
         for edit in edits:
-            sheet = sheets(edit.shown)
-            if edit.shown not in before:
-                before[edit.shown] = self.printed_to_the_end(sheet)
-            self.make(edit)
-            differs = self.printed(sheet) != before[edit.shown]
-            where = (f'{crate}/must-fail, by rt ci', None) if edit in linked else self.refusal(crate)
-            self.undo()
-            if edit not in linked:
-                kept.restore()
+            differs = self.prints_otherwise(edit, sheets(edit.shown), before[edit.shown])
+            where = (f'{crate}/must-fail, by rt ci', None) if edit in linked else self.edited_refusal(edit, kept)
             found.append((edit, differs, *where))
         if kept:
             self.accepts(crate)
         return found
 
-    def printed(self, sheet):
-        """What the program prints of a sheet, unproved, on the interpreter; or how its run ends, if not as it should."""
-        (self.place / 'crates' / DRIVER / 'stdin').write_bytes(sheet)
+    def edited_refusal(self, edit, kept):
+        self.make(edit)
+        where = self.refusal(edit.crate)
+        self.undo()
+        kept.restore()
+        return where
+
+    def prints_otherwise(self, edit, sheet, before):
+        """Whether an edit changes what the program prints of a sheet. Where it no longer ends, the interpreter must be seen
+        to end without the edit, since it may have had too few steps for either."""
+        self.make(edit)
+        now = self.printed(sheet)
+        self.undo()
+        return now != (before if now.startswith('"') else self.printed_to_the_end(sheet))
+
+    def runs(self, sheets):
+        """How each run of the program on some sheets ends and what it prints, unproved: on the interpreter, then compiled."""
+        framed = b''.join(len(sheet).to_bytes(4, 'little') + sheet for sheet in sheets)
+        (self.place / 'crates' / DRIVER / 'stdin').write_bytes(framed)
         _, said = self.rt('try', DRIVER)
-        first = FOUND.search(said)
-        if not first:
+        found = [(run[1] or '', run[2] or '') for run in FOUND.finditer(said)]
+        if not found:
             raise SystemExit(f'the program does not run in {self.place}:\n{said[-1500:]}')
-        how, text = first[1] or '', first[2] or ''
+        return found
+
+    def printed(self, sheet):
+        """What the program prints of a sheet on the interpreter; or how its run ends, if not as it should."""
+        how, text = self.runs([sheet])[0]
         return text if ENDED in how else how
 
     def printed_to_the_end(self, sheet):
-        """What the program prints; the script ends where its run does not, since how far that comes tells nothing."""
+        """What the program without an edit prints on the interpreter; the script ends where its run does not."""
         text = self.printed(sheet)
         if not text.startswith('"'):
             raise SystemExit(f'the program without an edit does not end in {self.place}: {text or "nothing is printed"}')
         return text
+
+    def printed_before(self, sheets):
+        """What the program without an edit prints of each of these, by their names. The interpreter has steps for one or
+        two, so it must agree as far as it comes, and what is compiled tells the others; else the script ends."""
+        before, names = {}, sorted(sheets)
+        for at in range(0, len(names), SHOWN):
+            some = names[at:at + SHOWN]
+            (_, first), (how, text), *_ = *self.runs([sheets[name] for name in some]), ('', ''), ('', '')
+            numbers = numbers_in(text)
+            if ENDED not in how or len(numbers) != len(some) or numbers_in(first)[:1] != numbers[:1]:
+                raise SystemExit(f'the program without an edit does not tell of each sheet in {self.place}: {first}, then {text}')
+            before |= {name: f'" {number}\\n"' for name, number in zip(some, numbers)}
+        return before
+
+
+def numbers_in(text):
+    """The numbers that a program printed, as `rt try` shows them."""
+    return text.strip('"').replace('\\n', '').split()

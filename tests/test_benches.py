@@ -83,11 +83,58 @@ class Printing(Tree):
         said = 'FAIL: the interpreter failed, with status 83\non standard output, at byte 0, expected "", found " 0 2"\n'
         self.assertEqual(self.printed(said), 'the interpreter failed, with status 83')
 
-    def test_unedited_program_that_does_not_end(self):
+    def otherwise(self, edited, unedited):
+        """Whether the edit prints otherwise than 17, where `rt` says the one with it and the other without."""
+        (self.root / 'crates/driver').mkdir(exist_ok=True)
+        room, edit = Stub(1, '', self.root), self.edit()
+        room.edited, room.rt = {}, lambda *words: (1, edited if room.edited else unedited)
+        return room.prints_otherwise(edit, b'', '" 17\\n"')
+
+    def test_prints_otherwise(self):
+        line = 'FAIL: the interpreter ended, but\non standard output, at byte 0, expected "", found " {}\\n"\n'
+        self.assertTrue(self.otherwise(line.format(18), 'not asked'))
+        self.assertFalse(self.otherwise(line.format(17), 'not asked'))
+        stopped = 'FAIL: the interpreter failed, with status 83\n'
+        self.assertTrue(self.otherwise(stopped, line.format(17)))
+        with self.assertRaises(SystemExit):
+            self.otherwise(stopped, stopped)
+
+    def test_unedited_program_does_not_end_on_one_sheet(self):
         (self.root / 'crates/driver').mkdir()
         for said in ('FAIL: the interpreter broke off\nwhat the run said:\n', 'ok: the interpreter ended\n'):
             with self.assertRaises(SystemExit):
                 Stub(1, said, self.root).printed_to_the_end(b'')
+
+    def before(self, *runs):
+        """What is told of two sheets without an edit, where the runs end so, each with what it prints."""
+        (self.root / 'crates/driver').mkdir()
+        lines = [f'FAIL: the {run}\non standard output, at byte 0, expected "", found "{text}"\n' for run, text in runs]
+        return Stub(1, ''.join(lines), self.root).printed_before({'b': b'22', 'a': b'1'})
+
+    def test_unedited_program(self):
+        runs = [('interpreter failed, with status 83', ' 17 '), ('native program at -O0 ended, but', ' 17 18\\n')]
+        self.assertEqual(self.before(*runs), {'a': '" 17\\n"', 'b': '" 18\\n"'})
+        self.assertEqual((self.root / 'crates/driver/stdin').read_bytes(), b'\1\0\0\0001\2\0\0\00022')
+
+    def test_unedited_program_that_the_interpreter_ends(self):
+        runs = [('interpreter ended, but', ' 17 18\\n'), ('native program at -O0 ended, but', ' 17 18\\n')]
+        self.assertEqual(self.before(*runs), {'a': '" 17\\n"', 'b': '" 18\\n"'})
+
+    def test_unedited_program_that_does_not_end(self):
+        with self.assertRaises(SystemExit):
+            self.before(('interpreter failed', ' 17 '), ('native program at -O0 failed', ' 17 18\\n'))
+
+    def test_unedited_program_that_does_not_tell_of_each_sheet(self):
+        with self.assertRaises(SystemExit):
+            self.before(('interpreter ended, but', ' 17\\n'), ('native program at -O0 ended, but', ' 17\\n'))
+
+    def test_unedited_program_of_which_the_interpreter_says_another(self):
+        with self.assertRaises(SystemExit):
+            self.before(('interpreter failed', ' 16 '), ('native program at -O0 ended, but', ' 17 18\\n'))
+
+    def test_unedited_program_that_is_not_compiled(self):
+        with self.assertRaises(SystemExit):
+            self.before(('interpreter ended, but', ' 17 18\\n'))
 
     def test_program_that_does_not_run(self):
         with self.assertRaises(SystemExit):
@@ -158,6 +205,39 @@ class Parts(Tree):
         room.crates, room.answers = edits.Crates(self.root / 'crates'), type('Answers', (), {'head': ''})
         with self.assertRaises(SystemExit):
             room.tried([self.edit()], {})
+
+
+class Warm(Tree):
+    """Edits of a crate of code, over the folder in which it was accepted."""
+
+    def tried(self, accepted):
+        """What is found of the edit, and what `rt` was asked; the unedited crate is accepted as often as is said."""
+        room, asked = Stub(0, '', self.root), []
+        room.built, room.edited = self.root / 'none', {}
+        self.write('target/inc/lower/v/a', '')
+        (self.root / 'crates/driver').mkdir()
+
+        def rt(*words):
+            asked.append((words[0], bool(room.edited)))
+            if words[0] == 'try':
+                return 1, 'FAIL: the interpreter ended, but\non standard output, at byte 0, expected "", found " 18\\n"\n'
+            good = not room.edited and asked.count(('dev', False)) <= accepted
+            return (0, 'logic=proved\n') if good else (1, 'fn lower::f: not proved\nlogic=not-proved\n')
+
+        room.rt = rt
+        found = benches.Programs.tried(room, [self.edit()], lambda name: b'', {'sheet 1': '" 17\\n"'}, [])
+        return found, asked
+
+    def test_accepted_first_and_at_the_end(self):
+        [(_, *found)], asked = self.tried(2)
+        self.assertEqual(found, [True, 'lower::f in crates/lower/src', None])
+        self.assertEqual(asked, [('dev', False), ('try', True), ('dev', True), ('dev', False)])
+
+    def test_not_accepted_first_or_at_the_end(self):
+        for accepted in (0, 1):
+            self.setUp()
+            with self.assertRaises(SystemExit):
+                self.tried(accepted)
 
 
 class Keeping(Tree):

@@ -121,6 +121,15 @@ class Fitting(Tree):
         self.assertEqual(len(list(wrong.strangers(crates, [edit]))), 1)
 
 
+class Units(Tree):
+    def test_those_together_that_are_refused_at_the_same_place(self):
+        self.write('wrong/lower/again.edit', TEXT)
+        self.write('wrong/lower/below.edit', TEXT.replace('Laws/L', 'Laws/M'))
+        self.write('wrong/lower/code.edit', TEXT.replace('upper/Laws/L', 'lower').replace('specs/A.antt', 'src/a.rt'))
+        trial = wrong.Trial(edits.read(self.root / 'wrong'), None, None, [], None)
+        self.assertEqual([[edit.name for edit in unit] for unit in trial.units()], [['code'], ['again', 'turned'], ['below']])
+
+
 class Telling(Tree):
     def test_wrong_and_refused(self):
         line, good = wrong.told(self.edit(), True, 'f-law in crates/upper/specs/L.antt', None)

@@ -22,6 +22,7 @@ import argparse
 import queue
 import shutil
 import sys
+import threading
 from concurrent.futures import ThreadPoolExecutor
 from pathlib import Path
 
@@ -66,7 +67,7 @@ class Lane:
             code = [edit for edit in trial.asked if edit.is_code()]
             driver = (HERE / 'wrong/driver.txt').read_text(encoding='utf-8')
             self.programs = self.programs or Programs(self.place / 'programs', trial.crates, code, trial.built, driver)
-            return self.programs.tried(unit, trial.named.sheet, trial.printed, trial.linked)
+            return self.programs.tried(unit, trial.named.sheet, trial.printed(self.programs, code), trial.linked)
         defined = [edit for edit in trial.asked if not edit.is_code()]
         self.definitions = self.definitions or Definitions(self.place / 'definitions', trial.crates, defined, trial.built)
         return [(edit, differs, trial.by_gate(edit) or where, why)
@@ -82,7 +83,13 @@ class Trial:
 
     def __init__(self, asked, crates, named, linked, built):
         self.asked, self.crates, self.named, self.linked, self.built = asked, crates, named, linked, built
-        self.printed, self.free = {}, queue.Queue()
+        self.before, self.one, self.free = {}, threading.Lock(), queue.Queue()
+
+    def printed(self, programs, code):
+        """What the program prints without an edit of all sheets that edits of code name; asked once for all lanes."""
+        with self.one:
+            self.before = self.before or programs.printed_before({edit.shown: self.named.sheet(edit.shown) for edit in code})
+        return self.before
 
     def by_gate(self, edit):
         return f'{edit.crate}/must-fail, by rt ci' if edit in self.linked else None
