@@ -30,11 +30,11 @@ pub record Told (names : List ℕ) (n : ℕ) : Type 0 where
   pub low : (i : ℕ) → i < n → getD names i 0 ≤ mostName
   pub apart : (i j : ℕ) → i < j → j < n → getD names i 0 ≡ getD names j 0 → ⊥
 
--- A table in which each of n rules is found.
+-- A table in which each of n rules is found; or an empty one, where the names are looked through.
 pub record Tabled (names : List ℕ) (n : ℕ) (table : List ℕ) : Type 0 where
-  pub few : n ≤ length names
-  pub room : mostName < length table
-  pub at : (i : ℕ) → i < n → getD table (getD names i 0) 0 ≡ i
+  pub told : Told names n
+  pub room : (length table ≡ 0 → ⊥) → mostName < length table
+  pub at : (length table ≡ 0 → ⊥) → (i : ℕ) → i < n → getD table (getD names i 0) 0 ≡ i
 
 -- The rule that has a name: its place, or none.
 pub record At (names : List ℕ) (n m i : ℕ) : Type 0 where

@@ -39,12 +39,31 @@ fn place(x: u8) -> usize
     x as usize
 }
 
-// A byte of the table says where to look, and the name there decides: the other bytes may be anything.
+// The rule that has a name, found by looking through the names.
+pub fn scan(names: &[u32], n: usize, name: u32) -> Target
+    requires { ⌜ Told (now names) n ⌝ }
+    ensures { λ r. ⌜ IsTarget (now (names .entry)) n name r ⌝ }
+{
+    let mut i = 0;
+    while i < n {
+        if names[i] == name {
+            return Target::Rule(i);
+        }
+        i += 1;
+    }
+    Target::Unknown
+}
+
+// A byte of the table says where to look, and the name there decides: the other bytes may be anything. Without a table the
+// names are looked through.
 pub fn look_up(names: &[u32], n: usize, table: &[u8], name: u32) -> Target
     requires { ⌜ name ≤ mostName ⌝ }
     requires { ⌜ Tabled (now names) n (now table) ⌝ }
     ensures { λ r. ⌜ IsTarget (now (names .entry)) n name r ⌝ }
 {
+    if table.len() == 0 {
+        return scan(names, n, name);
+    }
     let i = place(table[name as usize]);
     if i < n {
         if names[i] == name {

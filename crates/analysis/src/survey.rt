@@ -27,14 +27,14 @@ ghost use Rattle.analysis.specs.Survey.{OutermostWalked, BodyWalked};
 ghost use Rattle.analysis.specs.Facts.{Surveyed};
 
 // Where the walk is, whether left corners are still sought, and whether all in front is nullable.
-struct Place {
-    at: usize,
-    seeks: bool,
-    null: bool,
+pub struct Place {
+    pub at: usize,
+    pub seeks: bool,
+    pub null: bool,
 }
 
 // The element at `w.at`, a block with all that is in it.
-fn element(
+pub fn element(
     s: &[u8],
     end: usize,
     depth: u32,

@@ -30,7 +30,7 @@ unfolding member
 member-append x [] ys = refl
 member-append x (y ∷ xs) ys = ap (λ b. eqb x y || b) (member-append x xs ys) ∙ sym (or-assoc (eqb x y) (member x xs) (member x ys))
 
-abbrev someIn : List ℕ → List ℕ → Bool
+abbrev pub someIn : List ℕ → List ℕ → Bool
 someIn xs ys = not (isEmpty (xs ++ ys))
 
 some-append : (as′ bs xs ys : List ℕ) → someIn (as′ ++ bs) (xs ++ ys) ≡ (someIn as′ xs || someIn bs ys)
@@ -40,11 +40,11 @@ some-append [] [] (x ∷ xs) ys = refl
 some-append [] [] [] ys = refl
 
 module _ (ids : List ℕ) (n : ℕ) where
-  holds-none : (j : ℕ) → holds ids n [] j ≡ false
+  pub holds-none : (j : ℕ) → holds ids n [] j ≡ false
   unfolding holds member
   holds-none j = and-false (ltb j n)
 
-  holds-append : (xs ys : List ℕ) (j : ℕ) → holds ids n (xs ++ ys) j ≡ (holds ids n xs j || holds ids n ys j)
+  pub holds-append : (xs ys : List ℕ) (j : ℕ) → holds ids n (xs ++ ys) j ≡ (holds ids n xs j || holds ids n ys j)
   unfolding holds
   holds-append xs ys j =
       ap (λ b. ltb j n && b) (member-append (getD ids j 0) xs ys)
@@ -55,10 +55,10 @@ module _ (ids : List ℕ) (n : ℕ) where
   holds-if false xs j = holds-none j
 
   -- What is seen from s to r: calls, left corners where they are sought at s, and whether anything stops inlining.
-  record Adds (s r : Seen) (cs ks : List ℕ) (st : Bool) : Type 0 where
-    calls : (j : ℕ) → r .calls j ≡ (s .calls j || holds ids n cs j)
-    corners : (j : ℕ) → r .corners j ≡ (s .corners j || (s .seeks && holds ids n ks j))
-    stops : r .stops ≡ (s .stops || st)
+  pub record Adds (s r : Seen) (cs ks : List ℕ) (st : Bool) : Type 0 where
+    pub calls : (j : ℕ) → r .calls j ≡ (s .calls j || holds ids n cs j)
+    pub corners : (j : ℕ) → r .corners j ≡ (s .corners j || (s .seeks && holds ids n ks j))
+    pub stops : r .stops ≡ (s .stops || st)
 
   adds-none : (s : Seen) → Adds s s [] [] false
   adds-none s =
@@ -79,10 +79,10 @@ module _ (ids : List ℕ) (n : ℕ) where
       }
 
   -- What a step sees of any item: left corners are sought behind it as in front of it, and one that is nullable is enough.
-  record Means {A : Type 0} (f : Seen → A → Seen) (cs ks : A → List ℕ) (st nu : A → Bool) : Type 0 where
-    adds : (s : Seen) (a : A) → Adds s (f s a) (cs a) (ks a) (st a)
-    seeks : (s : Seen) (a : A) → f s a .seeks ≡ s .seeks
-    null : (s : Seen) (a : A) → f s a .null ≡ (s .null || nu a)
+  pub record Means {A : Type 0} (f : Seen → A → Seen) (cs ks : A → List ℕ) (st nu : A → Bool) : Type 0 where
+    pub adds : (s : Seen) (a : A) → Adds s (f s a) (cs a) (ks a) (st a)
+    pub seeks : (s : Seen) (a : A) → f s a .seeks ≡ s .seeks
+    pub null : (s : Seen) (a : A) → f s a .null ≡ (s .null || nu a)
 
   -- The same of a list of items.
   module _ {A : Type 0} {f : Seen → A → Seen} {cs ks : A → List ℕ} {st nu : A → Bool} (m : Means f cs ks st nu) (su : List A → Bool)
@@ -167,7 +167,7 @@ module _ {g : Grammar} {ids : List ℕ} {v : View} (w : Agrees g ids v) where
   -- Elements and an alternative, by what is seen of their blocks.
   module _ {B : Type 0} {f : Seen → B → Seen} {cs ks : B → List ℕ} {nu : B → Bool} (xs ys : B → List ℕ)
       (m : Means ids (v .n) f cs ks (λ b. someIn (xs b) (ys b)) nu) where
-    elements-add : (s : Seen) (es : List (Element B))
+    pub elements-add : (s : Seen) (es : List (Element B))
         → Adds ids (v .n) s (folded (elementFold (surveying v) f) s es) (each (elementGives nothing (calls g) cs) es)
         (collectLeftCornerCalls (reading (v .past)) g ks nu es)
         (someIn (each (elementIds actionSort xs) es) (each (elementIds predicateSort ys) es))
@@ -198,7 +198,7 @@ module _ {g : Grammar} {ids : List ℕ} {v : View} (w : Agrees g ids v) where
     element-null s (leaf h l) = ap (λ b. s .null && (isOptional h || b)) (leaf-meant l .null)
     element-null s (block h b) = ap (λ a. s .null && (isOptional h || a)) (m .null (into false s) b)
 
-    elements-null : (s : Seen) (es : List (Element B))
+    pub elements-null : (s : Seen) (es : List (Element B))
         → folded (elementFold (surveying v) f) s es .null ≡ (s .null && all (elementNullable g nu) es)
     unfolding all
     elements-null s [] = sym (and-true (s .null))
@@ -222,7 +222,7 @@ module _ {g : Grammar} {ids : List ℕ} {v : View} (w : Agrees g ids v) where
           null = λ s a. ap (λ b. s .null || b) (elements-null (into true s) (a .elements));
         }
 
-  block-means : (d : ℕ)
+  pub block-means : (d : ℕ)
       → Means ids (v .n) (blockFold (surveying v) d) (collectCallsInto g d) (blockCorners (reading (v .past)) g d)
       (satelliteHasEmbeddedSemantics d) (blockIsNullable g d)
   unfolding blockFold collectCallsInto blockGives blockCorners blockIsNullable satelliteHasEmbeddedSemantics blockIds

@@ -57,7 +57,7 @@ module _ {ws : List ℕ} {end : ℕ} {rules : Rules} (s : Standing ws end rules)
     row-is : {i : ℕ} (a : Among rs i) → rowAt (cornerRows c g bodyDepth rs) i ≡ rowOf c g bodyDepth (a .rule)
     row-is a = key-at (rowOf c g bodyDepth) (record { id = 0; to = [] }) a
 
-    are-ids : Ids (cornerRows c g bodyDepth rs) (rules .n) (rules .ids)
+    pub are-ids : Ids (cornerRows c g bodyDepth rs) (rules .n) (rules .ids)
     are-ids =
         record {
           numbered = numbered;
@@ -65,7 +65,7 @@ module _ {ws : List ℕ} {end : ℕ} {rules : Rules} (s : Standing ws end rules)
         }
 
   module _ {c : Corners} {calls corners : List (List ℕ)} {m : Marks} (f : FactsOf c rs (rules .ids) calls corners m) where
-    are-edges : Edges (cornerRows c (grammarOf bodyDepth rs) bodyDepth rs) (rules .n) corners
+    pub are-edges : Edges (cornerRows c (grammarOf bodyDepth rs) bodyDepth rs) (rules .n) corners
     unfolding grammarOf holds
     are-edges =
         record {

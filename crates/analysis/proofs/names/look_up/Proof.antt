@@ -8,10 +8,12 @@ pub look-up-spec : {M : Type 1} → statement M
 look-up-spec =
     tie.close
     (tie.spec
-    (λ c. search needs)
     (λ c κs. search needs)
-    (λ c. search needs)
-    (λ c. search needs)
+    (λ c. search (needs, lookups))
+    (λ c. search (needs, lookups))
+    (λ c κs. search needs)
+    (λ c. search (needs, lookups))
+    (λ c. search (needs, lookups))
     (λ c. search (needs, lookups))
     (λ c. search (needs, lookups))
     (λ c. search (needs, lookups)))
