@@ -1,0 +1,11 @@
+pub mod Layout
+pub mod Halves
+pub mod List
+pub mod Moves
+pub mod Reading
+pub mod Laws
+pub mod Written
+pub mod Places
+pub mod Options
+pub mod Splice
+pub mod Split
