@@ -1,0 +1,17 @@
+-- `collisions::clash::see_label` meets its contract.
+use borrow.Author.Needs.{needs}
+use Rattle.collisions.proofs.Laws.Low.{low}
+use Rattle.collisions.proofs.Laws.Clash.{clashes}
+use Rattle.collisions.proofs.clash.see_label.Statement.{statement}
+use Rattle.collisions.proofs.clash.see_label.Tie as tie
+
+pub see-label-spec : {M : Type 1} → statement M
+see-label-spec =
+    tie.close
+    (tie.spec
+    (λ c. search needs)
+    (λ c κs. search needs)
+    (λ c. search (needs, low, clashes))
+    (λ c κs. search (needs, low, clashes))
+    (λ c κs. search (needs, low, clashes))
+    (λ c. search (needs, low, clashes)))

@@ -1,0 +1,16 @@
+-- `collisions::mark::mark_leaf` meets its contract.
+use borrow.Author.Needs.{needs}
+use Rattle.collisions.proofs.Laws.Mark.{leaf-laws}
+use Rattle.collisions.proofs.mark.mark_leaf.Statement.{statement}
+use Rattle.collisions.proofs.mark.mark_leaf.Tie as tie
+
+pub mark-leaf-spec : {M : Type 1} → statement M
+mark-leaf-spec =
+    tie.close
+    (tie.spec
+    (λ c κs. search needs)
+    (λ c. search (needs, leaf-laws))
+    (λ c. search needs)
+    (λ c κs. search (needs, leaf-laws))
+    (λ c. search needs)
+    (λ c. search (needs, leaf-laws)))

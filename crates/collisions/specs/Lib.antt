@@ -1,0 +1,5 @@
+pub mod Names
+pub mod Walks
+pub mod Quiet
+pub mod Clash
+pub mod Mark
