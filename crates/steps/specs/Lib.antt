@@ -1,0 +1,3 @@
+pub mod Corner
+pub mod Decide
+pub mod Step
