@@ -1,0 +1,10 @@
+pub mod Turns
+pub mod Ground
+pub mod Replaced
+pub mod Midway
+pub mod Holding
+pub mod Pushing
+pub mod Advance
+pub mod Stepping
+pub mod Acting
+pub mod Turning

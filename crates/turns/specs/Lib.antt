@@ -1,0 +1,4 @@
+pub mod Turns
+pub mod Ground
+pub mod Midway
+pub mod Turn
