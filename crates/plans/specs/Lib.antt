@@ -1,0 +1,4 @@
+pub mod Ground
+pub mod Nth
+pub mod First
+pub mod Told

@@ -1,0 +1,63 @@
+// What the decisions rest on: the limits, and what is found out about the rules of a sheet.
+use analysis::rounds::Marks;
+use analysis::rounds::find_rows;
+use hub::preserved::preserved_rows;
+use planned::list::Sizes;
+use reach::rows::Row;
+use records::rules::Rules;
+use turns::state::Limits;
+ghost use mathlib.Core.Path.{_≡_};
+ghost use Prim.Native.Nat.{_<_};
+ghost use lib.ListN.{length};
+ghost use Rattle.grammar.specs.Numbers.{ruleLimit, mostName};
+ghost use Rattle.grammar.specs.Words.{words};
+ghost use Rattle.words.specs.Room.{Room};
+ghost use Rattle.analysis.specs.Facts.{Standing, FactsFound};
+ghost use Rattle.plans.specs.Ground.{IsStandard, KeptAt, KeptOf};
+
+// The least number of steps that a substitution may take (SPECIFICATION 8.10).
+pub struct Budget;
+
+impl Budget {
+    pub const LEAST: usize = 64;
+}
+
+pub fn standard_limits() -> Limits
+    ensures { λ r. ⌜ IsStandard r ⌝ }
+{
+    Limits {
+        floor: Budget::LEAST,
+        alternatives: Sizes::ALTERNATIVES,
+        elements: Sizes::ELEMENTS,
+        options: Sizes::OPTIONS,
+    }
+}
+
+// The marks of the rules, and the row of the preserved ones.
+pub struct Ground {
+    pub marks: Marks,
+    pub kept: [u64; Row::WORDS],
+}
+
+// What is found out about rules whose preserved ids stand from their end up to `to`; calls and left corners are put into the rows.
+pub fn find_out(
+    s: &[u8],
+    end: usize,
+    to: usize,
+    rules: Rules,
+    past: bool,
+    calls: &mut [[u64; Row::WORDS]; Row::RULES],
+    corners: &mut [[u64; Row::WORDS]; Row::RULES],
+    work: &mut [u8],
+) -> Ground
+    requires { ⌜ Room (now s) end × (mostName < length (now work)) × KeptAt (now s) end to ⌝ }
+    requires { ⌜ Standing (words (now s)) end rules ⌝ }
+    requires { ⌜ (length (now calls) ≡ ruleLimit) × (length (now corners) ≡ ruleLimit) ⌝ }
+    ensures { λ r. ⌜ FactsFound (words (now (s .entry))) end rules past (now (calls .exit)) (now (corners .exit)) (r .marks) ⌝ }
+    ensures { λ r. ⌜ KeptOf (words (now (s .entry))) end to rules (r .kept) ⌝ }
+    ensures { λ r. ⌜ length (now (calls .exit)) ≡ ruleLimit ⌝ }
+{
+    let marks = find_rows(s, end, rules, past, calls, corners, work);
+    let kept = preserved_rows(s, rules, end, to);
+    Ground { marks, kept }
+}
