@@ -10,6 +10,7 @@ A sheet's name begins with what it is about:
   order                                           4.20
   nullable, corners, cycles                       6
   inlining                                        7.5
+  plan                                            7 to 10
   case                                            15, by its number there
 
 usage: reading.py [PROGRAM]   (the built `inspect` if none is named)

@@ -1,6 +1,7 @@
 //! Holds another finder of facts to the second opinion, one call at a time.
 
 use crate::facts::{Facts, RULES, Row, Rows, facts};
+use crate::guarded::Guarded;
 
 /// The least length of a work area.
 pub const WORK: usize = 65_536;
@@ -148,36 +149,5 @@ impl Arrays {
         self.calls.same("calls", &expected.calls, hex)?;
         self.corners.same("corners", &expected.corners, hex)?;
         self.cycles.same("cycles", &expected.cycles, hex)
-    }
-}
-
-/// What is lent, with words around it that no finder may touch.
-#[repr(C)]
-struct Guarded<T> {
-    front: [u32; 8],
-    lent: T,
-    back: [u32; 8],
-}
-
-impl<T: PartialEq, const N: usize> Guarded<[T; N]> {
-    fn around(lent: [T; N]) -> Self {
-        Guarded {
-            front: [UNSET; 8],
-            lent,
-            back: [UNSET; 8],
-        }
-    }
-
-    fn same(&self, what: &str, expected: &[T; N], show: fn(&T) -> String) -> Result<(), String> {
-        if let Some(at) = (0..N).find(|at| self.lent[*at] != expected[*at]) {
-            let (got, want) = (show(&self.lent[at]), show(&expected[at]));
-            return Err(format!(
-                "{what}[{at}] is {got}, and {want} by the second opinion"
-            ));
-        }
-        match self.front == [UNSET; 8] && self.back == [UNSET; 8] {
-            true => Ok(()),
-            false => Err(format!("words beside {what} were touched")),
-        }
     }
 }

@@ -6,6 +6,7 @@ pub mod cycles;
 pub mod facts;
 pub mod flat;
 pub mod grow;
+pub mod guarded;
 #[cfg(feature = "proved")]
 pub mod proved;
 pub mod run;

@@ -3,7 +3,10 @@
 use reader::damage;
 use reader::random::Random;
 use reader::tree::Sheet;
+use sheets::codec;
 use sheets::generate;
+use sheets::names::Names;
+use sheets::print::{Style, print};
 
 use crate::compare::{Call, Finder, Lent, WORK};
 use crate::grow;
@@ -49,6 +52,17 @@ pub struct Difference {
     pub name: String,
     pub sheet: Vec<u8>,
     pub what: String,
+}
+
+impl Difference {
+    /// With the sheet in hex, and in the notation where it can be read.
+    pub fn told(self) -> String {
+        let hex: String = self.sheet.iter().map(|b| format!("{b:02x}")).collect();
+        let shown = codec::read(&self.sheet);
+        let shown = shown.map(|sheet| print(&sheet, &Names::default(), Style::Plain));
+        let shown = shown.unwrap_or_default();
+        format!("{}: {}\n{hex}\n{shown}", self.name, self.what)
+    }
 }
 
 pub struct Run<'a> {

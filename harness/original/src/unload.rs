@@ -40,7 +40,7 @@ fn alternative(source: &Alternative) -> tree::Alternative {
     }
 }
 
-fn options(source: &[OptionDecl]) -> Vec<tree::OptionDecl> {
+pub(crate) fn options(source: &[OptionDecl]) -> Vec<tree::OptionDecl> {
     let pair = |option: &OptionDecl| tree::OptionDecl {
         name: word(&option.name.value),
         value: word(&option.value.value),
@@ -98,7 +98,7 @@ fn semantics<'a>(id: usize, bodies: impl IntoIterator<Item = &'a String>) -> tre
     }
 }
 
-fn quantifier(source: Quantifier) -> u32 {
+pub(crate) fn quantifier(source: Quantifier) -> u32 {
     let (base, greedy) = match source {
         Quantifier::One => return 0,
         Quantifier::Optional { greedy } => (1, greedy),

@@ -224,7 +224,7 @@ fn rule_names(random: &mut Random, count: usize) -> Vec<u32> {
 }
 
 /// Gives each node its id and each sort its counter.
-fn number(unit: &mut Unit, random: &mut Random) {
+pub fn number(unit: &mut Unit, random: &mut Random) {
     let mut counts = [0; 5];
     each_id(unit, &mut |sort, _| counts[sort] += 1);
     let mut ids = counts.map(|n| sort_ids(random, n));

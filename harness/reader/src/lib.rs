@@ -1,5 +1,6 @@
 //! A second reader of sheets, sheets to try readers on, and the comparison of two readers.
 
+pub mod clock;
 pub mod compare;
 pub mod damage;
 pub mod grow;

@@ -20,6 +20,8 @@ pub(crate) struct Run {
     clause: u32,
     cycle: Vec<u32>,
     plan: (u32, usize),
+    /// Of the planned list after the last step: alternatives, elements, options.
+    sizes: [usize; 3],
 }
 
 thread_local! {
@@ -35,12 +37,22 @@ pub(crate) fn begin(sheet: &Sheet, limits: Limits) {
         clause: 0,
         cycle: Vec::new(),
         plan: (0, 0),
+        sizes: [0; 3],
     };
     RUN.set(Some(run));
 }
 
 pub(crate) fn end() -> Trace {
     RUN.take().expect("a run is under way").trace
+}
+
+/// Of the last plan.
+pub(crate) fn steps() -> usize {
+    with(|run| run.plan.1)
+}
+
+pub(crate) fn sizes() -> [usize; 3] {
+    with(|run| run.sizes)
 }
 
 fn with<T>(change: impl FnOnce(&mut Run) -> T) -> T {
@@ -101,7 +113,10 @@ pub(crate) fn substituted(alternatives: impl Iterator<Item = (usize, usize)>) {
         elements += own_elements;
         options += own_options;
     }
-    let limits = with(|run| run.limits);
+    let limits = with(|run| {
+        run.sizes = [count, elements, options];
+        run.limits
+    });
     let fits =
         count <= limits.alternatives && elements <= limits.elements && options <= limits.options;
     if !fits {

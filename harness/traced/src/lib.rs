@@ -14,6 +14,7 @@ mod grammar {
     include!(concat!(env!("OUT_DIR"), "/grammar.rs"));
 }
 
+mod plans;
 mod quiet;
 
 use std::collections::{BTreeMap, BTreeSet};
@@ -25,6 +26,7 @@ use grammar::mutual_recursion::{
 use grammar::provenance::ProvenanceIndex;
 use sheets::tree::Sheet;
 
+pub use plans::{Decision, Plan, Planned, planning, plans};
 pub use quiet::{counter_panic, quietly};
 
 /// The copies with their insertions, by the names of the unchanged files.

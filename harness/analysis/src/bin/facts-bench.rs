@@ -2,19 +2,17 @@
 //! and that of a copy of the same bytes.
 
 use std::hint::black_box;
-use std::time::Instant;
 
 use analysis::compare::{Outputs, WORK};
 use analysis::facts::Facts;
 use analysis::proved::proved;
+use reader::clock::time;
 use sheets::codec::{bytes_of, encode};
 use sheets::parse::sheet;
 use sheets::tree::Sheet;
 
 /// The words of the largest sheet.
 const MOST: usize = 8_192;
-/// How often the clock is looked at.
-const ROUNDS: usize = 4_001;
 /// The words of a token.
 const TOKEN: usize = 7;
 
@@ -34,20 +32,6 @@ fn rule(at: usize, next: Option<usize>, tokens: usize) -> String {
     let front = next.map_or("START".to_owned(), |next| format!("r_{}", next + 1));
     let filled = "B ".repeat(tokens);
     format!("r_{}: x={front} PLUS | ({front} A) {filled};", at + 1)
-}
-
-/// Microseconds for one call, the median of many.
-fn time(sheet: &[u8], mut call: impl FnMut()) -> f64 {
-    let calls = (4 * MOST / sheet.len()).max(1);
-    let mut times: Vec<f64> = (0..ROUNDS)
-        .map(|_| {
-            let began = Instant::now();
-            (0..calls).for_each(|_| call());
-            began.elapsed().as_secs_f64() * 1e6 / calls as f64
-        })
-        .collect();
-    times.sort_by(f64::total_cmp);
-    times[ROUNDS / 2]
 }
 
 /// The time of the call, and its numbers.

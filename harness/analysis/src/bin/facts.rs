@@ -7,28 +7,18 @@ use analysis::proved::proved;
 use analysis::run::{Difference, Run, Tally};
 use analysis::stored::stored;
 use reader::options::{Options, options};
-use sheets::codec;
-use sheets::names::Names;
-use sheets::print::{Style, print};
 
 fn compared(options: &Options) -> Result<Tally, String> {
     let mut run = Run::new(&proved);
     for (turn, sheet) in (0..).zip(stored()?) {
         let name = format!("stored sheet {}", sheet.name);
-        run.ask(name, &sheet.bytes, turn).map_err(told)?;
+        run.ask(name, &sheet.bytes, turn)
+            .map_err(Difference::told)?;
     }
     println!("stored sheets compared {}", run.tally.sheets());
-    run.seeds(options.seed, options.count).map_err(told)?;
+    run.seeds(options.seed, options.count)
+        .map_err(Difference::told)?;
     Ok(run.tally)
-}
-
-/// The difference, with the sheet in hex, and in the notation where it can be read.
-fn told(differs: Difference) -> String {
-    let hex: String = differs.sheet.iter().map(|b| format!("{b:02x}")).collect();
-    let shown =
-        codec::read(&differs.sheet).map(|sheet| print(&sheet, &Names::default(), Style::Plain));
-    let shown = shown.unwrap_or_default();
-    format!("{}: {}\n{hex}\n{shown}", differs.name, differs.what)
 }
 
 fn show(tally: &Tally, options: &Options, began: Instant) {

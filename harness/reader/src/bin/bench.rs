@@ -1,17 +1,15 @@
 //! `bench`: how long the proved reader takes for a sheet, beside a copy of the same bytes.
 
+use reader::clock::time;
 use reader::compare::WORK;
 use reader::numbers::NUMBERS;
 use reader::proved::proved;
 use reader::random::Random;
 use reader::tree::{Alternative, Element, Field, Payload, Rule, Sheet, Unit};
 use std::hint::black_box;
-use std::time::Instant;
 
 /// The words of the largest sheet.
 const MOST: usize = 8_192;
-/// How often the clock is looked at.
-const ROUNDS: usize = 4_001;
 
 fn element(payload: Payload, label: Option<(u32, u32)>) -> Element {
     Element {
@@ -112,20 +110,6 @@ fn sheet(words: usize, order: Ids) -> Vec<u8> {
         }
     }
     sheet.bytes()
-}
-
-/// Microseconds for one call, the median of many; a small sheet is read several times between two looks at the clock.
-fn time(sheet: &[u8], mut call: impl FnMut()) -> f64 {
-    let calls = 4 * MOST / sheet.len();
-    let mut times: Vec<f64> = (0..ROUNDS)
-        .map(|_| {
-            let began = Instant::now();
-            (0..calls).for_each(|_| call());
-            began.elapsed().as_secs_f64() * 1e6 / calls as f64
-        })
-        .collect();
-    times.sort_by(f64::total_cmp);
-    times[ROUNDS / 2]
 }
 
 fn show(name: &str, sheet: &[u8]) {
