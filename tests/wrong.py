@@ -46,7 +46,9 @@ class Named:
         return self.sheets if edit.is_code() else self.answers
 
     def sheet(self, name):
-        return words.sheet(self.sheets[name].read_text(encoding='utf-8'))
+        """What the program is asked: a letter, for plans where the sheet is named for them, and the sheet."""
+        letter = b'p' if name.startswith('plan-') else b'r'
+        return letter + words.sheet(self.sheets[name].read_text(encoding='utf-8'))
 
 
 def short(name):
