@@ -4,3 +4,4 @@ pub mod Made
 pub mod With
 pub mod Search
 pub mod Cycles
+pub mod Ground

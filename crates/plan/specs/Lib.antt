@@ -1,3 +1,4 @@
 pub mod Known
 pub mod Decision
 pub mod Search
+pub mod Ground

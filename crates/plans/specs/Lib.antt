@@ -1,4 +1,3 @@
-pub mod Ground
 pub mod Nth
 pub mod First
 pub mod Told

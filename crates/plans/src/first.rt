@@ -1,7 +1,7 @@
 // The first cycle with a plan, and how it is told in numbers.
-use crate::ground::find_out;
-use crate::ground::standard_limits;
 use crate::nth::capped;
+use plan::ground::find_out;
+use plan::ground::standard_limits;
 use plan::plan::Plan;
 use plan::search::Found;
 use plan::search::Search;
@@ -15,7 +15,7 @@ ghost use Rattle.grammar.specs.Numbers.{mostWords, workBytes};
 ghost use Rattle.grammar.specs.Words.{words};
 ghost use Rattle.words.specs.Room.{Room};
 ghost use Rattle.analysis.specs.Facts.{Standing};
-ghost use Rattle.plans.specs.Ground.{KeptAt};
+ghost use Rattle.plan.specs.Ground.{KeptAt};
 ghost use Rattle.plans.specs.First.{FirstOf, searchNumbers, searchCycle, searchRow};
 
 // Numbers, the row of a cycle's members, and that of the rules that may go.

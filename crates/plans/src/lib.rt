@@ -1,7 +1,6 @@
 // The plans of a sheet, for callers in other languages: the decision for one of its cycles, and the first plan, as
 // `plan` makes them.
 mod first;
-mod ground;
 mod nth;
 
 use crate::first::decide_first;

@@ -1,6 +1,6 @@
 // The decision for one of the cycles, and how it is told in numbers.
-use crate::ground::find_out;
-use crate::ground::standard_limits;
+use plan::ground::find_out;
+use plan::ground::standard_limits;
 use plan::plan::Decision;
 use plan::plan::Plan;
 use plan::plan::plan_cycle;
@@ -14,7 +14,7 @@ ghost use Rattle.grammar.specs.Numbers.{mostWords, workBytes};
 ghost use Rattle.grammar.specs.Words.{words};
 ghost use Rattle.words.specs.Room.{Room};
 ghost use Rattle.analysis.specs.Facts.{Standing};
-ghost use Rattle.plans.specs.Ground.{KeptAt};
+ghost use Rattle.plan.specs.Ground.{KeptAt};
 ghost use Rattle.plans.specs.Nth.{NthOf, nthNumbers, nthRow, capped, decisionNumbers, decisionRow};
 
 // The decision for a cycle, or none where there is no such cycle.

@@ -15,23 +15,16 @@ use Rattle.plan.specs.declared.search.Search.{Search}
 use Rattle.plan.specs.declared.search.Search.the-variants.{NoPlan, Planned, TooLarge}
 use Rattle.plan.specs.declared.search.Found.{Found}
 use Rattle.plan.specs.Search.{RulesKnown, AnswerIs, FoundOf}
-use Rattle.plans.specs.Ground.{IsStandard, KeptOf}
+use Rattle.plan.specs.Ground.{IsStandard, KeptOf}
+use Rattle.plan.proofs.Laws.Ground.{ground-known}
 use Rattle.plans.specs.First.{SearchAs, FirstAs, FirstOf}
 
 module _ {ws : List ℕ} {end to : ℕ} {rules : Rules} {past : Bool} {calls corners : List (List ℕ)} {marks : Marks} {kept : List ℕ}
     (f : FactsFound ws end rules past calls corners marks) (k : KeptOf ws end to rules kept) (small : end ≤ mostWords) where
-  pub first-known : Standing ws end rules → RulesKnown ws end rules past calls corners marks kept
-  first-known s =
-      record {
-        known = record { standing = s; small = small; facts = f .is s };
-        preserved = between ws end to;
-        keeps = k .row;
-      }
-
   module _ (limits : Limits) (bs : List ℕ) where
-    answer-as : (s : Standing ws end rules) (place : ℕ) (a : Search) → AnswerIs (first-known s) limits bs place a
+    answer-as : (s : Standing ws end rules) (place : ℕ) (a : Search) → AnswerIs (ground-known f k small s) limits bs place a
         → SearchAs (limitsOf limits) ws end (rules .ids) (rules .n) bs (reading past) (s .rows .found .trees) (between ws end to) place a
-    unfolding first-known
+    unfolding ground-known
     answer-as s place NoPlan x = record { all = x .all; is = x .is }
     answer-as s place (Planned p) x =
         record { plan = x .plan; low = x .low; is = x .is; members = x .isCycle .row; same = x .same }
@@ -39,11 +32,11 @@ module _ {ws : List ℕ} {end to : ℕ} {rules : Rules} {past : Bool} {calls cor
 
   module _ {limits : Limits} {bs : List ℕ} {r : Found} where
     pub first-found : IsStandard limits → FoundOf ws end rules past calls corners marks kept limits bs r → FirstOf ws end to rules past bs r
-    unfolding first-known
+    unfolding ground-known
     first-found z o =
         record {
           is = λ s.
-              let x = o .is (first-known s) in
+              let x = o .is (ground-known f k small s) in
               subst (λ l. FirstAs l ws end (rules .ids) (rules .n) bs (reading past) (s .rows .found .trees) (between ws end to) r) (z .is)
               (record {
                 answer = answer-as limits bs s (r .declined) (r .answer) (x .answer);
@@ -52,4 +45,4 @@ module _ {ws : List ℕ} {end to : ℕ} {rules : Rules} {past : Bool} {calls cor
               });
         }
 
-pub ruleset firsts = (first-known, first-found)
+pub ruleset firsts = (ground-known, first-found)

@@ -30,14 +30,7 @@ use Rattle.sheet.specs.declared.answer.Answer.the-variants.{Refused, Sheet}
 use Rattle.sheet.specs.Read.{WasRead}
 use Rattle.sheet.proofs.Laws.Lent.{lent-all}
 use Rattle.sheet.proofs.Laws.Sizes.{was-read}
-use Rattle.plans.specs.Ground.{KeptAt, KeptOf}
-
-pub kept-order : {bs : List ℕ} {from to : ℕ} → KeptAt bs from to → from ≤ to
-kept-order k = k .order
-
-pub kept-row : {ws : List ℕ} {from to : ℕ} {rules : Rules} {r : List ℕ} → RowOf (rules .ids) (rules .n) (between ws from to) r
-    → KeptOf ws from to rules r
-kept-row r = record { row = r }
+use Rattle.plan.specs.Ground.{KeptAt}
 
 -- Where a sheet was read, its words encode it, and all that was lent is long enough.
 record Taken (bs work : List ℕ) (s : tree.Sheet) : Type 0 where
@@ -127,7 +120,5 @@ module _ (bs work : List ℕ) {r : answer.Reading} (a : ReadAs (readLent bs work
           inside = omega arith;
           rises = ap rising read-preserved ∙ valid-parts (was .tree) (was .good) .preserved;
         }
-
-pub ruleset grounds = (kept-order, kept-row)
 
 pub ruleset readings = (read-small, read-kept)

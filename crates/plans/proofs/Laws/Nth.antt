@@ -25,7 +25,7 @@ use Rattle.plan.specs.Decision.{DecidedAs, PlanOf}
 use Rattle.hub.proofs.Laws.Cycle.{listed-cycle}
 use Rattle.facts.proofs.Laws.Told.{are-ids, are-edges}
 use Rattle.plans.specs.declared.nth.Choice.the-variants.{None, Some}
-use Rattle.plans.specs.Ground.{IsStandard, KeptOf}
+use Rattle.plan.specs.Ground.{IsStandard, KeptOf}
 use Rattle.plans.specs.Nth.{capped, cyclesOf, NthOf}
 
 pub capped-low : (n : ℕ) → n < wordEnd - 1 → n ≡ capped n

@@ -1,7 +1,8 @@
 -- `plans::first::decide_first` meets its contract.
 use borrow.Author.Needs.{needs}
 use Rattle.plans.proofs.Laws.Nth.{standard-fits}
-use Rattle.plans.proofs.Laws.First.{first-known, firsts}
+use Rattle.plan.proofs.Laws.Ground.{ground-known}
+use Rattle.plans.proofs.Laws.First.{firsts}
 use Rattle.plans.proofs.first.decide_first.Statement.{statement}
 use Rattle.plans.proofs.first.decide_first.Tie as tie
 
@@ -15,7 +16,7 @@ decide-first-spec =
     let found = c .before .before .before .before .before .before .before .before .find-out .ensures in
     let pre = c .before .before .before .before .before .before .before .before .before .before .before .before .before .before .pre in (
       (search needs, search needs, search needs, search (needs, standard-fits)),
-      (search needs, first-known (found .0) (found .1 .0) (pre .0 .1) (pre .1)),
+      (search needs, ground-known (found .0) (found .1 .0) (pre .0 .1) (pre .1)),
     ))
     (λ c. search needs)
     (λ c.

@@ -13,7 +13,7 @@ ghost use Rattle.grammar.specs.Numbers.{ruleLimit, mostName};
 ghost use Rattle.grammar.specs.Words.{words};
 ghost use Rattle.words.specs.Room.{Room};
 ghost use Rattle.analysis.specs.Facts.{Standing, FactsFound};
-ghost use Rattle.plans.specs.Ground.{IsStandard, KeptAt, KeptOf};
+ghost use Rattle.plan.specs.Ground.{IsStandard, KeptAt, KeptOf};
 
 // The least number of steps that a substitution may take (SPECIFICATION 8.10).
 pub struct Budget;

@@ -1,8 +1,8 @@
--- `plans::ground::find_out` meets its contract.
+-- `plan::ground::find_out` meets its contract.
 use borrow.Author.Needs.{needs}
-use Rattle.plans.proofs.Laws.Ground.{grounds}
-use Rattle.plans.proofs.ground.find_out.Statement.{statement}
-use Rattle.plans.proofs.ground.find_out.Tie as tie
+use Rattle.plan.proofs.Laws.Ground.{grounds}
+use Rattle.plan.proofs.ground.find_out.Statement.{statement}
+use Rattle.plan.proofs.ground.find_out.Tie as tie
 
 pub find-out-spec : {M : Type 1} → statement M
 find-out-spec =
