@@ -12,17 +12,14 @@ use Rattle.grammar.specs.Words.{words}
 use Rattle.grammar.specs.Encode.{encodeRules, encodeCounters}
 use Rattle.grammar.specs.Reading as reading
 use Rattle.grammar.specs.Reading.{refused, sheet, isLength, read}
-use Rattle.sheet.specs.declared.judge.Counters.{Counters}
+use Rattle.writing.specs.declared.counters.Counters.{Counters}
+use Rattle.writing.specs.Taken.{countersOf}
 use Rattle.records.specs.declared.rules.Rules.{Rules}
 use Rattle.sheet.specs.declared.answer.Parts.{Parts}
 use Rattle.sheet.specs.declared.answer.Answer.{Answer}
 use Rattle.sheet.specs.declared.answer.Answer.the-variants.{Refused, Sheet}
 use Rattle.sheet.specs.declared.answer.Reading.{Reading}
 use Rattle.records.specs.Rules.{RowsOf, IsEmpty}
-
-abbrev pub countersOf : Counters → tree.Counters
-countersOf c =
-    record { alternative = c .alternative; element = c .element; label = c .label; action = c .action; predicate = c .predicate }
 
 pub record CountersAt (ws : List ℕ) (t : ℕ) (c : Counters) : Type 0 where
   pub alternative : c .alternative ≡ getD ws (t + 3) 0

@@ -1,5 +1,4 @@
 // The reader's answer, and the trailer it comes from.
-use crate::judge::Counters;
 use crate::judge::judge;
 use ids::lists::is_rising;
 use records::rules::Rules;
@@ -8,6 +7,7 @@ use words::numbers::Refusal;
 use words::numbers::Sheet;
 use words::numbers::UnitKind;
 use words::words::word;
+use writing::counters::Counters;
 ghost use mathlib.Core.Path.{_≡_};
 ghost use Prim.Native.Nat.{_+_, _-_, _*_, _/_, _≤_};
 ghost use lib.ListN.{length};

@@ -6,6 +6,7 @@ use ids::survey::Survey;
 use ids::survey::survey_all;
 use records::rules::Rules;
 use words::numbers::Sort;
+use writing::counters::Counters;
 ghost use mathlib.Core.Path.{_≡_};
 ghost use mathlib.Core.Bool.{_&&_};
 ghost use Prim.Native.Nat.{_+_, _*_, _<_, _≤_};
@@ -18,17 +19,8 @@ ghost use Rattle.grammar.specs.Lists.{distinct};
 ghost use Rattle.grammar.specs.Found.{FoundRules};
 ghost use Rattle.words.specs.Room.{Room};
 ghost use Rattle.records.specs.Rules.{FoundRows};
-ghost use Rattle.sheet.specs.Answer.{countersOf};
+ghost use Rattle.writing.specs.Taken.{countersOf};
 ghost use Rattle.ids.specs.Survey.{RisesApart, Surveyed, SortDistinct, PartsDistinct, BodiesDistinct, BodiesBelow, allUnder};
-
-// The next free id of each sort.
-pub struct Counters {
-    pub alternative: u32,
-    pub element: u32,
-    pub label: u32,
-    pub action: u32,
-    pub predicate: u32,
-}
 
 // Refusal 5 is given where `distinct` is false, refusal 6 where only `below` is.
 pub struct Verdict {

@@ -1,5 +1,5 @@
 // The sheet reader: any bytes are refused by a number (SPECIFICATION 4.1 to 4.6), or known to be one tree's encoding.
-mod answer;
+pub mod answer;
 mod judge;
 mod sizes;
 
@@ -9,7 +9,6 @@ pub use answer::Reading;
 use answer::examine;
 use answer::is_length;
 use answer::refused;
-pub use judge::Counters;
 pub use sizes::Sizes;
 pub use sizes::Summary;
 use sizes::counted;

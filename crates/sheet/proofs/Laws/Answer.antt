@@ -25,7 +25,8 @@ use Rattle.grammar.specs.Laws.Words.{length-words}
 use Rattle.grammar.specs.Laws.Stands.{stands-length}
 use Rattle.grammar.specs.Laws.Parse.{left-true, right-true, yields-got}
 use Rattle.grammar.specs.Laws.Sound.{rules-sound}
-use Rattle.sheet.specs.declared.judge.Counters.{Counters}
+use Rattle.writing.specs.declared.counters.Counters.{Counters}
+use Rattle.writing.specs.Taken as taken
 use Rattle.records.specs.declared.rules.Rules.{Rules}
 use Rattle.records.specs.declared.rules.Rows.{Rows}
 use Rattle.sheet.specs.declared.answer.Answer.the-variants.{Refused, Sheet}
@@ -78,7 +79,7 @@ pub read-refused : {g : reading.Reading} {n : ℕ} {r : Reading} → g ≡ refus
 read-refused {g} {n} {r} e a i = read-as g (a ∙ sym (ap answerOf e)) (rw e i)
 
 counters-same : (ws : List ℕ) {t : ℕ} {c : Counters} → length ws - trailerWords ≡ t → CountersAt ws t c
-    → answer.countersOf c ≡ countersOf ws
+    → taken.countersOf c ≡ countersOf ws
 unfolding countersOf
 counters-same ws {t} {c} e a =
     rw e
@@ -133,7 +134,7 @@ module _ (bs : List ℕ) {end : ℕ} {rules : Rules} {b : Bool}
   distinct-refused h x y f = read-refused (rw (sym (d f) ∙ not-true b h, judge) refl) x y
 
   module _ (h : not b ≡ false) {t : ℕ} (k : EndAt bs t end) {a : Counters} (n : CountersAt (words bs) t a)
-      {c : Bool} (i : (o : FoundRules (words bs) end (rules .n) 0) → c ≡ isBelow (answer.countersOf a) (o .trees)) where
+      {c : Bool} (i : (o : FoundRules (words bs) end (rules .n) 0) → c ≡ isBelow (taken.countersOf a) (o .trees)) where
     below-is : (f : FoundRows (words bs) end rules) → isBelow (countersOf (words bs)) (f .found .trees) ≡ c
     below-is f = ap (λ z. isBelow z (f .found .trees)) (sym (counters-same (words bs) (here bs (k .place)) n)) ∙ sym (i (f .found))
 

@@ -13,9 +13,9 @@ use Rattle.grammar.specs.Ids.{ruleIds, ruleNames, isDistinct, isBelow}
 use Rattle.grammar.specs.Lists.{distinct}
 use Rattle.grammar.specs.Numbers.{alternativeSort, elementSort, labelSort, actionSort, predicateSort}
 use Rattle.records.specs.declared.rules.Rules.{Rules}
-use Rattle.sheet.specs.declared.judge.Counters.{Counters}
+use Rattle.writing.specs.declared.counters.Counters.{Counters}
 use Rattle.ids.specs.declared.survey.Survey.{Survey}
-use Rattle.sheet.specs.Answer.{countersOf}
+use Rattle.writing.specs.Taken.{countersOf}
 use Rattle.ids.specs.Survey.{RisesApart, Surveyed, SortDistinct, PartsDistinct, BodiesDistinct, BodiesBelow, allUnder}
 use Rattle.grammar.specs.Found.{FoundRules}
 use Rattle.ids.specs.Ids.{CollectedSort}

@@ -1,0 +1,2 @@
+-- What is proved of writing.
+pub mod Wrote

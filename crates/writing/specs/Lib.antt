@@ -1,0 +1,3 @@
+pub mod Wrote
+pub mod Taken
+pub mod Laws
