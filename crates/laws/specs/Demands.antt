@@ -1,4 +1,4 @@
--- What is promised of the definition: properties, numbered 1 to 13, and two sheets on which more cannot be had; Theorems says
+-- What is promised of the definition: properties, numbered 1 to 14, and two sheets on which more cannot be had; Theorems says
 -- of what each property holds. The proof is in Proved.
 pub mod Numbers
 pub mod Analysis
@@ -16,5 +16,6 @@ pub mod Facts
 pub mod Answers
 pub mod Refusals
 pub mod Table
+pub mod Kept
 pub mod Examples
 pub mod Theorems

@@ -7,4 +7,5 @@ pub mod Answered
 pub mod OtherUnits
 pub mod Refusals
 pub mod Table
+pub mod Kept
 pub mod All

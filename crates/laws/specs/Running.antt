@@ -14,3 +14,6 @@ pub mod Preserved
 pub mod Stay
 pub mod Facts
 pub mod Removes
+pub mod Onward
+pub mod Budget
+pub mod Midway

@@ -36,6 +36,7 @@ use Rattle.laws.specs.Demands.Hub.{HubTold}
 use Rattle.laws.specs.Demands.Decision.{Decision}
 use Rattle.laws.specs.Demands.Refusals.{HasRoom, RefusedSo}
 use Rattle.laws.specs.Demands.Table.{Row}
+use Rattle.laws.specs.Demands.Kept.{EveryCall}
 
 -- A sheet that is not refused, and its run.
 abbrev pub Ends : Limits → Corners → Sheet → List Stage → Type 0
@@ -129,3 +130,6 @@ pub record Theorems : Type 0 where
   -- 13, of every call.
   pub table : (limits : Limits) (c : Corners) (bs result trail work : List ℕ)
       → Row limits c bs result trail work (outcome limits c bs result trail work)
+  -- 14, of every call on bytes: the row, and what it means of the bytes handed in and handed back.
+  pub everyCall : (limits : Limits) (c : Corners) (bs result trail work : List ℕ) → AreBytes bs
+      → EveryCall limits c bs result trail work (outcome limits c bs result trail work)

@@ -1,20 +1,26 @@
 -- What a decided plan was made from.
-use Prim.Native.Nat.{ℕ, suc}
-use mathlib.Core.Path.{_≡_, refl, subst}
+use Prim.Native.Nat.{ℕ, suc, _≤_}
+use mathlib.Core.Path.{_≡_, refl, sym, ap, _∙_, subst}
 use mathlib.Core.List.{List, List·Memᴰ}
 use mathlib.Core.Option.{none}
-use mathlib.Core.Bool.{true}
+use mathlib.Core.Bool.{true, false, _||_, true≢false}
 use native.Mathlib.Omega.{arith}
+use borrow.Author.Tests.{eq-eqb}
+use Rattle.grammar.specs.Lists.{member}
+use Rattle.grammar.specs.Laws.Lists.{member-in}
+use Rattle.grammar.specs.Laws.Parse.{either}
 use Rattle.grammar.specs.Tree.{Block, RuleOf}
 use Rattle.grammar.specs.Corners.{Corners}
 use Rattle.reference.specs.Analysis.{Grammar}
 use Rattle.reference.specs.Substitute.{Decided, decided, Limits, step}
 use Rattle.reference.specs.Plan.{plannedHubIsDirectlyRewritable, removableSatellites, CyclePlan, asTheyAre, planCycle}
 use Rattle.laws.specs.Demands.Substitution.{Steps}
-use Rattle.laws.specs.Demands.Decision.{Decision, noneChosen, arguments, notInlinable, spent, stuck, full, unmoved, unfit, plan}
+use Rattle.laws.specs.Demands.Decision.{Decision, budgetOf, noneChosen, arguments, notInlinable, spent, stuck, full, unmoved, unfit}
+use Rattle.laws.specs.Demands.Decision.{plan}
 use Rattle.laws.specs.Planning.Decisions.{decided-inj}
 use Rattle.laws.specs.Planning.Turns.{itemsOf, Moves, steps-move}
 use Rattle.laws.specs.Planning.PlanCycle.{candidate, decision}
+use Rattle.laws.specs.Planning.Removed.{removable-satellite}
 
 module _ (c : Corners) (d : ℕ) (rs : List (RuleOf (Block (suc d)))) (g : Grammar) (preserved cycle : List ℕ) where
   -- A plan for a cycle: its hub, a rule of the cycle; the substitution; the tests passed; what may be removed.
@@ -64,3 +70,36 @@ module _ (c : Corners) (d : ℕ) (rs : List (RuleOf (Block (suc d)))) (g : Gramm
       go o (full x y z w) f = never (cc)
       go o (unmoved x y) f = never (cc)
       go o (unfit x y) f = never (cc)
+
+  -- It has no more steps than its budget.
+  pub plan-within : (limits : Limits) (plan : CyclePlan d) → planCycle limits c g d rs preserved cycle ≡ decided plan
+      → plan .steps ≤ budgetOf limits c d rs g preserved cycle
+  plan-within limits p e = go (planCycle limits c g d rs preserved cycle) (decision c d rs g preserved cycle limits) e
+    where
+      never : {A : Type 0} → _≡_ {A = ℕ} 0 1 → A
+      never z = absurd (omega arith)
+
+      go : (o : Decided (CyclePlan d)) → Decision limits c d rs g preserved cycle o → o ≡ decided p
+          → p .steps ≤ budgetOf limits c d rs g preserved cycle
+      go o (plan s fit) f = subst (λ p. p .steps ≤ budgetOf limits c d rs g preserved cycle) (decided-inj f) (s .leads .within)
+      go o (noneChosen x) f = never (cc)
+      go o (arguments x y) f = never (cc)
+      go o (notInlinable x y z w) f = never (cc)
+      go o (spent x y) f = never (cc)
+      go o (stuck x y z w) f = never (cc)
+      go o (full x y z w) f = never (cc)
+      go o (unmoved x y) f = never (cc)
+      go o (unfit x y) f = never (cc)
+
+-- The hub is not among the rules that may go.
+pub hub-stays : (c : Corners) (d : ℕ) (rs : List (RuleOf (Block (suc d)))) (g : Grammar) (preserved cycle : List ℕ) {plan : CyclePlan d}
+    → Made c d rs g preserved cycle plan → member (plan .hub) (plan .removable) ≡ false
+hub-stays c d rs g preserved cycle {plan} x =
+    either (member (plan .hub) (plan .removable))
+    (λ u.
+    let gone = removableSatellites g d rs (x .hub .id) (plan .alternatives) cycle preserved in
+    let m = member-in gone (subst (λ is. member (x .hub .id) is ≡ true) (x .removed) (subst (λ i. member i (plan .removable) ≡ true)
+    (sym (x .isHub)) u)) in
+    let (_, s) = removable-satellite g d rs (x .hub .id) (plan .alternatives) cycle preserved m in
+    absurd (true≢false (sym (ap (λ b. b || member (x .hub .id) preserved) (eq-eqb (x .hub .id) (x .hub .id) refl)) ∙ s)))
+    (λ u. u)

@@ -2,7 +2,7 @@
 use mathlib.Core.Path.{refl}
 use Rattle.laws.specs.Demands.Numbers.{NumbersBought}
 use Rattle.laws.specs.Demands.Theorems.{Theorems}
-use Rattle.laws.specs.Running.Stages.{valid-told, sheet-ends}
+use Rattle.laws.specs.Running.Stages.{sheet-none, sheet-last, valid-told, sheet-ends}
 use Rattle.reference.specs.Analysis.{grammarOf}
 use Rattle.reference.specs.Run.{innerDepth}
 use Rattle.grammar.specs.Tree.{bodyDepth}
@@ -24,8 +24,9 @@ use Rattle.laws.specs.Proved.Analysis.{stage-reads-back, other-units}
 use Rattle.laws.specs.Proved.Demand3.{enough-turns, demand3, bound, facts-stay, preserved-rules-stay, trail-told}
 use Rattle.laws.specs.Proved.Applied.{one-origin-each, removes-all, copies-alike, fresh-ids, rules-as-they-were}
 use Rattle.laws.specs.Proved.Answered.{answered}
-use Rattle.laws.specs.Proved.Refusals.{sheet-none, sheet-last, stage-room, refused-so}
+use Rattle.laws.specs.Proved.Refusals.{stage-room, refused-so}
 use Rattle.laws.specs.Proved.Table.{table}
+use Rattle.laws.specs.Proved.Kept.{every-call}
 
 numbers-bought : NumbersBought
 numbers-bought =
@@ -90,4 +91,5 @@ theorems =
       stagesHaveRoom = λ limits c s ts r. stage-room limits c s (valid-told s (r .0)) (sheet-ends limits c s ts (r .1) .0);
       refusedSo = refused-so;
       table = table;
+      everyCall = every-call;
     }

@@ -1,11 +1,11 @@
 -- Demand 3, the bound on plans, the preserved rules and the trail, of every sheet that is not refused.
-use Prim.Native.Nat.{ℕ, zero, suc, _+_, _≤_}
+use Prim.Native.Nat.{ℕ, zero, suc, _+_}
 use mathlib.Core.Path.{_≡_, refl, sym, ap, ap₂, _∙_, subst, subst₂}
 use mathlib.Core.Logic.{⊎-elim}
 use mathlib.Core.List.{List, [], _∷_, _++_, map, append-nil, List·Memᴰ, List·Memᴰ·head, List·Memᴰ·tail}
 use native.Mathlib.Nat.{zero-add, suc-add}
 use native.Mathlib.Omega.{arith}
-use lib.ListN.{length, length-map}
+use lib.ListN.{length}
 use borrow.Author.Tests.{not-true, eq-eqb}
 use Rattle.grammar.specs.Tree.{Rule, bodyDepth, Counters, Sheet}
 use Rattle.grammar.specs.Ids.{ruleIds}
@@ -23,7 +23,6 @@ use Rattle.laws.specs.Demands.Trail.{TrailTold}
 use Rattle.laws.specs.Demands.Facts.{FactsStay}
 use Rattle.laws.specs.Provenance.PlanTrail.{stage-trail}
 use Rattle.laws.specs.Running.Preserved.{preserved-stay}
-use Rattle.laws.specs.Lists.Few.{no-more}
 use Rattle.laws.specs.Running.Leaves.{Told, Leaves, leaves-derives}
 use Rattle.laws.specs.Running.Stages.{rulesAfter, sheet-after, sheet-preserved, rules-append, every-cycle-declined, Stages, Chain}
 use Rattle.laws.specs.Running.Stages.{chain-leaves, chain-front, chain-behind, Rest, applying, turn, turns-once, stages-chain}
@@ -32,16 +31,7 @@ use Rattle.laws.specs.Proved.Stages.{At, stage-at, stage-joins}
 use Rattle.laws.specs.Running.OneStage.{stage-shape}
 use Rattle.laws.specs.Running.Later.{no-later}
 use Rattle.laws.specs.Running.Facts.{chain-facts}
-use Rattle.laws.specs.Running.Once.{follows-all, follows-here, hubs-distinct, hubs-rules}
-
--- Stages never outnumber rules.
-chain-few : (limits : Limits) (corners : Corners) (preserved : List ℕ) {rs : List Rule} {ts : List Stage} → Told rs
-    → Chain limits corners preserved rs ts
-    → length ts ≤ length rs
-chain-few limits corners preserved {rs} {ts} k c =
-    subst₂ _≤_ (length-map ts (λ t. t .plan .hub)) (length-map rs (λ r. r .id))
-    (no-more (map (λ t. t .plan .hub) ts) (ruleIds rs) (hubs-distinct limits corners preserved k c)
-    (λ i m. hubs-rules limits corners preserved k c m))
+use Rattle.laws.specs.Running.Once.{follows-all, follows-here, hubs-distinct, chain-few}
 
 -- One turn more changes nothing, unless the turns ran out.
 module _ (limits : Limits) (corners : Corners) (kind : ℕ) (preserved : List ℕ) where

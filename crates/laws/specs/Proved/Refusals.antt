@@ -5,7 +5,7 @@ use mathlib.Core.Logic.{⊎-map}
 use mathlib.Core.List.{List, [], _∷_, _++_}
 use native.Mathlib.Nat.{zero-add}
 use native.Mathlib.Omega.{arith}
-use lib.ListN.{length, length-append, getD}
+use lib.ListN.{length, getD}
 use Rattle.grammar.specs.Tree.{Rule, Sheet, bodyDepth}
 use Rattle.grammar.specs.Encode.{encode}
 use Rattle.grammar.specs.Reading.{Reading, refused, sheet, read}
@@ -25,31 +25,12 @@ use Rattle.laws.specs.Planning.PlanCycle.{decision}
 use Rattle.laws.specs.Running.Leaves.{Told}
 use Rattle.laws.specs.Running.Refused.{Refused, for-ids, for-length, counters-good, not-refused, is-refused}
 use Rattle.laws.specs.Running.Search.{search-found}
-use Rattle.laws.specs.Running.Stages.{rulesAfter, countersAfter, valid-told, Stages, stages-chain, chain-leaves}
+use Rattle.laws.specs.Running.Stages.{rulesAfter, countersAfter, sheet-last, entries-count, valid-told, Stages, stages-chain}
+use Rattle.laws.specs.Running.Stages.{chain-leaves}
 use Rattle.laws.specs.Running.Stopped.{StopsAt, by-search, by-plan, sheet-stops}
 use Rattle.laws.specs.Proved.Stages.{next-of, joins-of, stage-at, stage-joins}
 
--- What one stage more leaves: its sheet, and the number of entries.
-pub sheet-none : (s : Sheet) → sheetAfter s [] ≡ s
-unfolding sheetAfter
-sheet-none s = refl
-
-pub sheet-last : (s : Sheet) (front : List Stage) (t : Stage)
-    → sheetAfter s (front ++ (t ∷ [])) ≡ sheetWith (s .kind) (s .preserved) (t .after)
-unfolding sheetAfter
-sheet-last s [] t = refl
-sheet-last s (u ∷ front) t = sheet-last (sheetWith (s .kind) (s .preserved) (u .after)) front t
-
-entries-last : (front : List Stage) (t : Stage)
-    → length (entriesOf (front ++ (t ∷ []))) ≡ length (entriesOf front) + length (t .after .entries)
-unfolding entriesOf
-entries-last [] t = let l = length-append (t .after .entries) [] in omega arith
-entries-last (u ∷ front) t =
-    let l = length-append (u .after .entries) (entriesOf (front ++ (t ∷ []))) in
-    let k = length-append (u .after .entries) (entriesOf front) in
-    let h = entries-last front t in
-    omega arith
-
+-- The words that one stage more leaves.
 words-last : (s : Sheet) (front : List Stage) (t : Stage)
     → wordsLeft s (front ++ (t ∷ [])) ≡ length (encode (sheetWith (s .kind) (s .preserved) (t .after)))
 words-last s front t = ap (λ k. length (encode k)) (sheet-last s front t)
@@ -61,7 +42,7 @@ module _ (limits : Limits) (corners : Corners) (s : Sheet) (told : Told (s .rule
       let a = stage-at limits corners s told stages front t rest w in
       let k = not-refused (s .kind) (s .preserved) (t .after) (length (entriesOf front)) (a .isKept) in
       let l = words-last s front t in
-      let n = entries-last front t in
+      let n = entries-count front t in
       record {
         counters = counters-good (t .after .counters) (k .isWords);
         words = omega (arith, k .short);
@@ -94,7 +75,7 @@ module _ (limits : Limits) (corners : Corners) (s : Sheet) (told : Told (s .rule
     refused-stops (for-ids x) = refusals.noIdLeft beyond-joins x
     refused-stops (for-length x y) =
         let l = words-last s ts beyond in
-        let n = entries-last ts beyond in
+        let n = entries-count ts beyond in
         refusals.tooLong beyond-joins x (⊎-map (λ z. omega arith) (λ z. omega arith) y)
 
   too-large : findPlan limits corners (s .preserved) rules ≡ tooLarge → Stops s limits corners ts 7

@@ -45,7 +45,7 @@ good-length bs t =
       whole = eqb-true (length bs % 4) 0 (right-true (leb (length bs) mostBytes) _ rest);
     }
 
-length-good : (bs : List ℕ) → GoodLength bs → isLength (length bs) ≡ true
+pub length-good : (bs : List ℕ) → GoodLength bs → isLength (length bs) ≡ true
 length-good bs g =
     both-true _ _ (le-leb leastBytes (length bs) (g .least))
     (both-true _ _ (le-leb (length bs) mostBytes (g .most)) (eq-eqb (length bs % 4) 0 (g .whole)))
@@ -61,7 +61,7 @@ module _ (result trail work : List ℕ) where
         forWork = leb-true workBytes (length work) (right-true (leb trailBytes (length trail)) _ rest);
       }
 
-  lent-are : Lent result trail work → areLent result trail work ≡ true
+  pub lent-are : Lent result trail work → areLent result trail work ≡ true
   unfolding areLent
   lent-are l =
       both-true _ _ (le-leb resultBytes (length result) (l .forResult))
@@ -113,18 +113,18 @@ holds ws before l =
       sameLength = let a = length-append (bytes ws) zs in let r = length-replicate {A = ℕ} left 0 in omega arith;
     }
 
-filled-none : (before : List ℕ) → filled [] before ≡ zeros before
+pub filled-none : (before : List ℕ) → filled [] before ≡ zeros before
 unfolding filled
 filled-none before = let n : length before - length {A = ℕ} [] ≡ length before = omega arith in ap (λ n. replicate n 0) n
 
 -- The trail of a run, its words and its entries.
-trail-words : (ts : List Stage) → each encodeEntry (entriesOf ts) ≡ trailWords ts
+pub trail-words : (ts : List Stage) → each encodeEntry (entriesOf ts) ≡ trailWords ts
 unfolding entriesOf encodeEntry
 trail-words [] = refl
 trail-words (t ∷ ts) =
     each-append encodeEntry (t .after .entries) (entriesOf ts) ∙ ap (λ l. each encodeEntry (t .after .entries) ++ l) (trail-words ts)
 
-trail-entries : (ts : List Stage) → length (entriesOf ts) ≡ total (map (λ t. length (t .after .entries)) ts)
+pub trail-entries : (ts : List Stage) → length (entriesOf ts) ≡ total (map (λ t. length (t .after .entries)) ts)
 unfolding entriesOf total
 trail-entries [] = refl
 trail-entries (t ∷ ts) = let l = length-append (t .after .entries) (entriesOf ts) in let h = trail-entries ts in omega arith

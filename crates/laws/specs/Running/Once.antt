@@ -1,5 +1,5 @@
 -- A rule is the hub of at most one plan: as its plan leaves it, nothing in it is left to substitute in any later cycle.
-use Prim.Native.Nat.{ℕ, suc}
+use Prim.Native.Nat.{ℕ, suc, _≤_}
 use mathlib.Core.Path.{_≡_, refl, sym, ap, _∙_, subst, subst₂}
 use mathlib.Core.Logic.{⊎-elim}
 use mathlib.Core.List.{List, [], _∷_, _++_, map, List·Memᴰ, List·Memᴰ·head, List·Memᴰ·tail, List·Memᴰ·not-nil, List·Memᴰ·cases-cons}
@@ -7,6 +7,7 @@ use mathlib.Core.List.{Memᴰ·of-map}
 use mathlib.Core.Option.{some, Option·some-injective}
 use mathlib.Core.Bool.{true, not, false≢true}
 use native.Mathlib.Omega.{arith}
+use lib.ListN.{length, length-map}
 use Rattle.grammar.specs.Laws.Lists.{in-member, member-in, in-map}
 use Rattle.grammar.specs.Lists.{AllOf, member, distinct}
 use Rattle.grammar.specs.Tree.{ElementHead, Call, call, Element, leaf, Block, RuleOf, Rule, bodyDepth}
@@ -22,6 +23,7 @@ use Rattle.reference.specs.Run.{innerDepth, Stage}
 use Rattle.laws.specs.Demands.Step.{CornerAt}
 use Rattle.laws.specs.Demands.Shape.{Continues, NoCorner, JoinedShape}
 use Rattle.graph.specs.Members.{one-with}
+use Rattle.laws.specs.Lists.Few.{no-more}
 use Rattle.laws.specs.Lists.Lookup.{target-rule, rule-target}
 use Rattle.laws.specs.Analysis.Cycles.{cycles-exact}
 use Rattle.laws.specs.Planning.Turns.{Items, as-they-were, Turn, split, splice, Moved, here, later, Moves, still, onward}
@@ -206,3 +208,9 @@ module _ (limits : Limits) (corners : Corners) (preserved : List ℕ) where
       let (r, p, f, _) = l .stems q o in
       subst (λ j. List·Memᴰ j (idsOf (t .before))) (sym f ∙ w) (in-map (λ r. r .id) p))
       (List·Memᴰ·cases-cons m))
+
+  -- So stages never outnumber rules.
+  pub chain-few : {rs : List Rule} {ts : List Stage} → Told rs → Chain limits corners preserved rs ts → length ts ≤ length rs
+  chain-few {rs} {ts} k c =
+      subst₂ _≤_ (length-map ts (λ t. t .plan .hub)) (length-map rs (λ r. r .id))
+      (no-more (hubs ts) (idsOf rs) (hubs-distinct k c) (λ i m. hubs-rules k c m))

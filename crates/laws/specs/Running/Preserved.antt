@@ -51,7 +51,7 @@ module _ (limits : Limits) (corners : Corners) (preserved : List ℕ) (i : ℕ) 
       chain-keeps (stage-leaves limits corners preserved told h .told) c
       (stage-keeps told h (subst (λ rs. member i (idsOf rs) ≡ true) (sym e) m))
 
-same-kind : (s : Sheet) (ts : List Stage) → sheetAfter s ts .kind ≡ s .kind
+pub same-kind : (s : Sheet) (ts : List Stage) → sheetAfter s ts .kind ≡ s .kind
 unfolding sheetAfter
 same-kind s [] = refl
 same-kind s (t ∷ ts) = same-kind (sheetWith (s .kind) (s .preserved) (t .after)) ts

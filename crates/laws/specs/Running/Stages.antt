@@ -2,7 +2,7 @@
 use Prim.Native.Nat.{ℕ, zero, suc, _+_}
 use mathlib.Core.Path.{_≡_, refl, sym, ap, _∙_, subst}
 use mathlib.Core.Logic.{_⊎_, inl, inr, ⊎-map}
-use mathlib.Core.List.{List, [], _∷_, _++_, List·Memᴰ, List·Memᴰ·head, Memᴰ·append-right}
+use mathlib.Core.List.{List, [], _∷_, _++_, append-nil, append-assoc, List·Memᴰ, List·Memᴰ·head, Memᴰ·append-right}
 use mathlib.Core.Bool.{true}
 use native.Mathlib.Omega.{arith}
 use lib.ListN.{length, length-append}
@@ -10,7 +10,7 @@ use lib.Dec.{eqb}
 use borrow.Author.Tests.{eqb-false}
 use Rattle.grammar.specs.Tree.{Rule, bodyDepth, Counters, Sheet}
 use Rattle.grammar.specs.Ids.{ruleIds, ruleNames, isDistinct}
-use Rattle.grammar.specs.Lists.{distinct}
+use Rattle.grammar.specs.Lists.{distinct, total}
 use Rattle.grammar.specs.Valid.{valid}
 use Rattle.grammar.specs.Corners.{Corners}
 use Rattle.grammar.specs.Laws.Parse.{left-true, right-true, either}
@@ -21,7 +21,7 @@ use Rattle.reference.specs.Substitute.{Limits}
 use Rattle.reference.specs.Plan.{CyclePlan}
 use Rattle.reference.specs.Apply.{applyPlan}
 use Rattle.reference.specs.Run.{innerDepth, Stage, Search, noPlan, planned, tooLarge, Run, ended, stopped, preceded, findPlan, sheetWith}
-use Rattle.reference.specs.Run.{refusalOf, eliminateInUnit, eliminateMutualLeftRecursion, sheetAfter, entriesOf}
+use Rattle.reference.specs.Run.{refusalOf, eliminateInUnit, eliminateMutualLeftRecursion, sheetAfter, entriesOf, stepsOf}
 use Rattle.laws.specs.Demands.Run.{EveryCycleDeclined}
 use Rattle.laws.specs.Planning.Substituted.{Known}
 use Rattle.laws.specs.Planning.Plans.{Made, plan-made}
@@ -56,6 +56,32 @@ sheet-preserved s (t ∷ ts) = sheet-preserved (sheetWith (s .kind) (s .preserve
 pub rules-append : (rs : List Rule) (ts us : List Stage) → rulesAfter rs (ts ++ us) ≡ rulesAfter (rulesAfter rs ts) us
 rules-append rs [] us = refl
 rules-append rs (t ∷ ts) us = rules-append (t .after .node) ts us
+
+-- What one stage more leaves: its sheet, its entries and its steps.
+pub sheet-none : (s : Sheet) → sheetAfter s [] ≡ s
+unfolding sheetAfter
+sheet-none s = refl
+
+pub sheet-last : (s : Sheet) (front : List Stage) (t : Stage)
+    → sheetAfter s (front ++ (t ∷ [])) ≡ sheetWith (s .kind) (s .preserved) (t .after)
+unfolding sheetAfter
+sheet-last s [] t = refl
+sheet-last s (u ∷ front) t = sheet-last (sheetWith (s .kind) (s .preserved) (u .after)) front t
+
+pub entries-last : (front : List Stage) (t : Stage) → entriesOf (front ++ (t ∷ [])) ≡ entriesOf front ++ t .after .entries
+unfolding entriesOf
+entries-last [] t = append-nil (t .after .entries)
+entries-last (u ∷ front) t =
+    ap (λ l. u .after .entries ++ l) (entries-last front t) ∙ sym (append-assoc (u .after .entries) (entriesOf front) (t .after .entries))
+
+pub entries-count : (front : List Stage) (t : Stage)
+    → length (entriesOf (front ++ (t ∷ []))) ≡ length (entriesOf front) + length (t .after .entries)
+entries-count front t = ap length (entries-last front t) ∙ length-append (entriesOf front) (t .after .entries)
+
+pub steps-last : (front : List Stage) (t : Stage) → stepsOf (front ++ (t ∷ [])) ≡ stepsOf front + t .plan .steps
+unfolding stepsOf total
+steps-last [] t = omega arith
+steps-last (u ∷ front) t = let h = steps-last front t in omega arith
 
 -- What a valid sheet is asked for here: its rules share no id and no name.
 pub distinct-told : (rs : List Rule) → isDistinct rs ≡ true → Told rs

@@ -130,7 +130,7 @@ module _ (limits : Limits) (corners : Corners) where
       from-hub innerDepth rs (stage-made limits corners preserved {t = t} (record { counters = c; found = e; left = refl }))
 
   -- Each stage leaves a sheet that is valid and fits.
-  stage-good : (s : Sheet) {cycle : List ℕ} {plan : CyclePlan innerDepth} (n : ℕ)
+  pub stage-good : (s : Sheet) {cycle : List ℕ} {plan : CyclePlan innerDepth} (n : ℕ)
       → findPlan limits corners (s .preserved) (s .rules) ≡ planned cycle plan
       → refusalOf (s .kind) (s .preserved) (applyPlan innerDepth (s .rules) plan (s .counters)) n ≡ 0 → Good s
       → Good (sheetWith (s .kind) (s .preserved) (applyPlan innerDepth (s .rules) plan (s .counters)))
@@ -155,7 +155,7 @@ module _ (limits : Limits) (corners : Corners) where
     abbrev pub sheetBy : List Rule → Counters → Sheet
     sheetBy rs c = sheetWith kind preserved (unchanged rs c)
 
-    stages-good : {rs : List Rule} {c : Counters} {n : ℕ} {ss : List Stage} → Stages limits corners kind preserved rs c n ss
+    pub stages-good : {rs : List Rule} {c : Counters} {n : ℕ} {ss : List Stage} → Stages limits corners kind preserved rs c n ss
         → Good (sheetBy rs c) → Good (sheetAfter (sheetBy rs c) ss)
     unfolding sheetAfter
     stages-good s-end g = g
