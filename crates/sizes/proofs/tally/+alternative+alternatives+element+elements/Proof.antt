@@ -1,0 +1,154 @@
+-- The walk of `sizes::tally` meets its contracts: depth falls, then the kind of record.
+use borrow.Author.Needs.{needs}
+use native.Mathlib.Omega.{arith}
+use Rattle.grammar.specs.Words.{words}
+use Rattle.grammar.specs.Laws.Found.{rooms, inner}
+use Rattle.grammar.specs.Laws.Fold.{ElementsFolding, AlternativesFolding, folding}
+use Rattle.sizes.specs.Tally.{idsIn, counting}
+use Rattle.sizes.proofs.Laws.Counting.{counts}
+use Prim.Native.Nat.{ℕ, _<_, _≤_, _+_, _*_}
+use borrow.Fn.Kinds.{In}
+use borrow.Fn.PlainCycle.{Measures, is, falls, and}
+use Rattle.sizes.proofs.tally.alternative.Reads as alternative
+use Rattle.sizes.proofs.tally.alternative.Kinds as alternative-kinds
+use Rattle.sizes.proofs.tally.+alternative+alternatives+element+elements.Lts-alternative as alternative-lts
+use Rattle.sizes.proofs.tally.alternatives.Reads as alternatives
+use Rattle.sizes.proofs.tally.alternatives.Kinds as alternatives-kinds
+use Rattle.sizes.proofs.tally.+alternative+alternatives+element+elements.Lts-alternatives as alternatives-lts
+use Rattle.sizes.proofs.tally.element.Reads as element
+use Rattle.sizes.proofs.tally.element.Kinds as element-kinds
+use Rattle.sizes.proofs.tally.+alternative+alternatives+element+elements.Lts-element as element-lts
+use Rattle.sizes.proofs.tally.elements.Reads as elements
+use Rattle.sizes.proofs.tally.elements.Kinds as elements-kinds
+use Rattle.sizes.proofs.tally.+alternative+alternatives+element+elements.Lts-elements as elements-lts
+use Rattle.sizes.proofs.tally.with_alternative.Reads as with-alternative-reads
+use Rattle.sizes.proofs.tally.with_own.Reads as with-own-reads
+use Rattle.words.proofs.walk.alternative_head.Reads as alternative-head-reads
+use Rattle.words.proofs.walk.element_head.Reads as element-head-reads
+use Rattle.words.proofs.walk.leaf_end.Reads as leaf-end-reads
+use Rattle.words.proofs.words.word.Reads as word-reads
+use Rattle.sizes.proofs.tally.+alternative+alternatives+element+elements.{statement}
+use Rattle.sizes.proofs.tally.+alternative+alternatives+element+elements.Tie.{close}
+
+abbrev μ-alternative : Measures 1 alternative-kinds.ps ℕ
+μ-alternative κs a = a .1 .1 .0 * 4 + 2
+
+abbrev μ-alternatives : Measures 1 alternatives-kinds.ps ℕ
+μ-alternatives κs a = a .1 .1 .0 * 4 + 3
+
+abbrev μ-element : Measures 1 element-kinds.ps ℕ
+μ-element κs a = a .1 .1 .0 * 4
+
+abbrev μ-elements : Measures 1 elements-kinds.ps ℕ
+μ-elements κs a = a .1 .1 .0 * 4 + 1
+
+abbrev alternative-at : ℕ → In 1 alternative-kinds.ps
+alternative-at t =
+    and 1 alternative-kinds.ps (is 1 alternative-kinds.ps μ-alternative t) alternative.Pre
+
+abbrev alternative-below : ℕ → In 1 alternative-kinds.ps
+alternative-below t =
+    and 1 alternative-kinds.ps (falls 1 alternative-kinds.ps _<_ μ-alternative t) alternative.Pre
+
+abbrev alternatives-at : ℕ → In 1 alternatives-kinds.ps
+alternatives-at t =
+    and 1 alternatives-kinds.ps (is 1 alternatives-kinds.ps μ-alternatives t) alternatives.Pre
+
+abbrev alternatives-below : ℕ → In 1 alternatives-kinds.ps
+alternatives-below t =
+    and
+    1
+    alternatives-kinds.ps
+    (falls 1 alternatives-kinds.ps _<_ μ-alternatives t)
+    alternatives.Pre
+
+abbrev element-at : ℕ → In 1 element-kinds.ps
+element-at t = and 1 element-kinds.ps (is 1 element-kinds.ps μ-element t) element.Pre
+
+abbrev element-below : ℕ → In 1 element-kinds.ps
+element-below t = and 1 element-kinds.ps (falls 1 element-kinds.ps _<_ μ-element t) element.Pre
+
+abbrev elements-at : ℕ → In 1 elements-kinds.ps
+elements-at t = and 1 elements-kinds.ps (is 1 elements-kinds.ps μ-elements t) elements.Pre
+
+abbrev elements-below : ℕ → In 1 elements-kinds.ps
+elements-below t =
+    and 1 elements-kinds.ps (falls 1 elements-kinds.ps _<_ μ-elements t) elements.Pre
+
+abbrev alternatives-Inv-loop : alternatives-lts.InvT-loop
+alternatives-Inv-loop s end depth n at i₀ p₀ u₀ i p u =
+    (idsIn u ≤ p) × AlternativesFolding counting (words s) end depth n at u₀ i p u
+
+abbrev alternatives-μ-loop : alternatives-lts.MeasureT-loop
+alternatives-μ-loop s end depth n at i₀ p₀ u₀ i p u = i
+
+abbrev elements-Inv-loop : elements-lts.InvT-loop
+elements-Inv-loop s end depth n at i₀ p₀ u₀ i p u =
+    (idsIn u ≤ p) × ElementsFolding counting (words s) end depth n at u₀ i p u
+
+abbrev elements-μ-loop : elements-lts.MeasureT-loop
+elements-μ-loop s end depth n at i₀ p₀ u₀ i p u = i
+
+pub +alternative+alternatives+element+elements-spec : {M : Type 1} → statement M
++alternative+alternatives+element+elements-spec =
+    close μ-alternative μ-alternatives μ-element μ-elements (λ t. alternative-lts.spec (
+      alternative-head-reads.Asked,
+      alternative-head-reads.Learnt,
+      with-alternative-reads.Asked,
+      with-alternative-reads.Learnt,
+      elements-below t,
+      elements.Post,
+    )
+    (alternative-at t)
+    alternative.Post
+    (λ c κs. search (needs, rooms, inner, counts))
+    (λ c κs. search (needs, rooms, inner, counts))
+    (λ c κs. (omega arith, (omega arith, search (needs, inner))))
+    (λ c. search (needs, rooms, inner, counts)))
+    (λ t. alternatives-lts.spec
+    (alternative-below t, alternative.Post)
+    (alternatives-at t)
+    alternatives.Post
+    alternatives-Inv-loop
+    alternatives-μ-loop
+    (λ c. search (needs, folding))
+    (λ c κs. (omega arith, (omega arith, search folding)))
+    (λ c. search (needs, folding))
+    (λ c. search (needs, folding))
+    (λ c. search (needs, folding))
+    (λ c. search (needs, folding)))
+    (λ t. element-lts.spec (
+      element-head-reads.Asked,
+      element-head-reads.Learnt,
+      with-own-reads.Asked,
+      with-own-reads.Learnt,
+      word-reads.Asked,
+      word-reads.Learnt,
+      alternatives-below t,
+      alternatives.Post,
+      leaf-end-reads.Asked,
+      leaf-end-reads.Learnt,
+    )
+    (element-at t)
+    element.Post
+    (λ c κs. search (needs, rooms, inner, counts))
+    (λ c κs. search (needs, rooms, inner, counts))
+    (λ c κs. search (needs, rooms, inner, counts))
+    (λ c. search (needs, rooms, inner, counts))
+    (λ c. search (needs, rooms, inner, counts))
+    (λ c κs. (search inner, ((search needs, search needs, search inner), search (needs, inner))))
+    (λ c. search (needs, rooms, inner, counts))
+    (λ c κs. search (needs, rooms, inner, counts))
+    (λ c. search (needs, rooms, inner, counts)))
+    λ t. elements-lts.spec
+    (element-below t, element.Post)
+    (elements-at t)
+    elements.Post
+    elements-Inv-loop
+    elements-μ-loop
+    (λ c. search (needs, folding))
+    (λ c κs. (omega arith, (omega arith, search folding)))
+    (λ c. search (needs, folding))
+    (λ c. search (needs, folding))
+    (λ c. search (needs, folding))
+    (λ c. search (needs, folding))
