@@ -1,0 +1,3 @@
+pub mod Less
+pub mod Fewer
+pub mod Renewed
