@@ -1,0 +1,5 @@
+-- What is proved of drawing.
+pub mod Grown
+pub mod Drawn
+pub mod Renumbered
+pub mod Followed

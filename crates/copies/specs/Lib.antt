@@ -1,0 +1,4 @@
+pub mod Pen
+pub mod Copy
+pub mod Heads
+pub mod Laws
