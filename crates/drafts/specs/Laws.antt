@@ -1,0 +1,3 @@
+-- What is proved of a draft.
+pub mod Draft
+pub mod Kept

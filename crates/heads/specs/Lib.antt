@@ -1,0 +1,4 @@
+pub mod Front
+pub mod Head
+pub mod Same
+pub mod Laws

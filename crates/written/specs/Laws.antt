@@ -1,0 +1,2 @@
+-- What is proved of drawing planned alternatives.
+pub mod Apply
