@@ -1,8 +1,8 @@
 // Elements copied with all that is in them: ids are fresh all the way down, outer before inner (SPECIFICATION 11.5).
-use crate::heads::copy_alternative_head;
-use crate::heads::copy_count;
-use crate::heads::copy_head;
-use crate::heads::copy_leaf;
+use crate::parts::copy_alternative_head;
+use crate::parts::copy_count;
+use crate::parts::copy_head;
+use crate::parts::copy_leaf;
 use crate::pen::Pen;
 use words::numbers::Kind;
 use words::walk::alternative_head;

@@ -1,9 +1,9 @@
 -- The draft of a new sheet: rules drawn one after the other, and their ids, names and places.
-use Prim.Native.Nat.{ℕ, _+_, _-_, _*_, _<_, _≤_}
+use Prim.Native.Nat.{ℕ, _+_, _-_, _≤_}
 use mathlib.Core.Path.{_≡_}
 use mathlib.Core.List.{List, _++_}
 use lib.ListN.{length}
-use Rattle.grammar.specs.Numbers.{mostWords, ruleLimit, workBytes}
+use Rattle.grammar.specs.Numbers.{mostWords, workBytes}
 use Rattle.grammar.specs.Tree as tree
 use Rattle.grammar.specs.Tree.{Rule}
 use Rattle.grammar.specs.Encode.{encodeRules}

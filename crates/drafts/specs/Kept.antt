@@ -1,6 +1,5 @@
 -- The rules of a sheet that stay, by a row of those that go.
 use Prim.Native.Nat.{ℕ, suc, _+_, _-_, _≤_}
-use mathlib.Core.Path.{_≡_}
 use mathlib.Core.List.{List, [], _∷_}
 use mathlib.Core.Bool.{Bool, not}
 use lib.ListN.{length, getD, take, drop}

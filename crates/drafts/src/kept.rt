@@ -7,7 +7,7 @@ use reach::rows::has;
 use records::rules::Rules;
 use writing::copy::copy_words;
 ghost use Prim.Native.Nat.{_+_, _-_, _<_, _≤_};
-ghost use lib.ListN.{length, take, drop};
+ghost use lib.ListN.{take, drop};
 ghost use Rattle.grammar.specs.Numbers.{ruleLimit};
 ghost use Rattle.grammar.specs.Words.{words};
 ghost use Rattle.words.specs.Room.{Room};

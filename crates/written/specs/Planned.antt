@@ -2,7 +2,6 @@
 use Prim.Native.Nat.{ℕ, _+_, _*_}
 use mathlib.Core.Path.{_≡_}
 use mathlib.Core.List.{List}
-use lib.ListN.{length}
 use Rattle.grammar.specs.Tree.{AlternativeOf, Block, Counters}
 use Rattle.grammar.specs.Encode.{encodeAlternative, encodeBlock}
 use Rattle.grammar.specs.Lists.{each}

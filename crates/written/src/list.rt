@@ -51,7 +51,7 @@ fn begin(s: &[u8], end: usize, depth: u32, work: &mut [u8], x: Listed, id: u32, 
     }
 }
 
-// An alternative that always filled its slot: it keeps its id, and nothing is recorded.
+// An alternative that always filled its slot: it keeps its id, and nothing is recorded (SPECIFICATION 11.2).
 fn write_same(
     s: &[u8],
     end: usize,
@@ -62,7 +62,8 @@ fn write_same(
     pen: Pen,
 ) -> Pen
     requires { ⌜ Room (now s) end × (composeAt ≤ pen .to) × (isMarked (x .slot) ≡ true) ⌝ }
-    requires { ⌜ Readable (words (now s)) end depth (now work) x × AlternativeFits (words (now s)) end depth (now work) x (now trail) pen ⌝ }
+    requires { ⌜ Readable (words (now s)) end depth (now work) x
+        × AlternativeFits (words (now s)) end depth (now work) x (now trail) pen ⌝ }
     ensures { λ r. ⌜ AlternativeDrawn (words (now (s .entry))) end depth (now (work .entry)) x (now (work .exit))
         (now (trail .entry)) (now (trail .exit)) pen r ⌝ }
 {
@@ -71,7 +72,7 @@ fn write_same(
     write_items(s, end, depth, work, x, false, trail, inside)
 }
 
-// A new alternative: a fresh id, and fresh ids for all that is in it.
+// A new alternative: a fresh id, and fresh ids for all that is in it (SPECIFICATION 11.3).
 fn write_new(
     s: &[u8],
     end: usize,
@@ -82,7 +83,8 @@ fn write_new(
     pen: Pen,
 ) -> Pen
     requires { ⌜ Room (now s) end × (composeAt ≤ pen .to) × (isMarked (x .slot) ≡ false) ⌝ }
-    requires { ⌜ Readable (words (now s)) end depth (now work) x × AlternativeFits (words (now s)) end depth (now work) x (now trail) pen ⌝ }
+    requires { ⌜ Readable (words (now s)) end depth (now work) x
+        × AlternativeFits (words (now s)) end depth (now work) x (now trail) pen ⌝ }
     ensures { λ r. ⌜ AlternativeDrawn (words (now (s .entry))) end depth (now (work .entry)) x (now (work .exit))
         (now (trail .entry)) (now (trail .exit)) pen r ⌝ }
 {
@@ -103,7 +105,8 @@ fn write_one(
     pen: Pen,
 ) -> Pen
     requires { ⌜ Room (now s) end × (composeAt ≤ pen .to) ⌝ }
-    requires { ⌜ Readable (words (now s)) end depth (now work) x × AlternativeFits (words (now s)) end depth (now work) x (now trail) pen ⌝ }
+    requires { ⌜ Readable (words (now s)) end depth (now work) x
+        × AlternativeFits (words (now s)) end depth (now work) x (now trail) pen ⌝ }
     ensures { λ r. ⌜ AlternativeDrawn (words (now (s .entry))) end depth (now (work .entry)) x (now (work .exit))
         (now (trail .entry)) (now (trail .exit)) pen r ⌝ }
 {

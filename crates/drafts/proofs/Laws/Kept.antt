@@ -5,7 +5,7 @@ use mathlib.Core.List.{List, [], _∷_, _++_, append-nil}
 use mathlib.Core.Bool.{Bool, true, false, not}
 use native.Mathlib.Omega.{arith}
 use lib.ListN.{length, getD, take, drop, length-append}
-use Rattle.grammar.specs.Numbers.{ruleLimit, workBytes}
+use Rattle.grammar.specs.Numbers.{ruleLimit}
 use Rattle.grammar.specs.Words.{words}
 use Rattle.grammar.specs.Tree.{Rule, bodyDepth}
 use Rattle.grammar.specs.Encode.{encodeRule, encodeRules, encodeBlock}
@@ -17,11 +17,11 @@ use Rattle.words.specs.Room.{Room}
 use Rattle.records.specs.declared.rules.Rules.{Rules}
 use Rattle.reach.specs.Rows.{bit}
 use Rattle.analysis.specs.Facts.{Standing, Among}
-use Rattle.analysis.proofs.Laws.Standing.{among, few, all-rules, rule-of, id-at, name-at}
+use Rattle.analysis.proofs.Laws.Standing.{few, rule-of, id-at, name-at}
 use Rattle.writing.specs.Wrote.{Wrote}
 use Rattle.drafts.specs.declared.draft.Draft.{Draft}
-use Rattle.drafts.specs.Draft.{composeEnd, Open, Added, RowAdded, Follows}
-use Rattle.drafts.specs.Kept.{kept, keptOf, RuleEnds, RuleFits, RuleAdded, RulesFit, RulesAdded}
+use Rattle.drafts.specs.Draft.{composeEnd, Open, Added, RowAdded}
+use Rattle.drafts.specs.Kept.{keptOf, RuleEnds, RuleFits, RuleAdded, RulesFit, RulesAdded}
 use Rattle.drafts.specs.Laws.Draft.{added-none, added-then, row-added}
 use Rattle.drafts.specs.Laws.Kept.{kept-first, kept-none, push-split}
 

@@ -1,5 +1,5 @@
 -- Drafts that follow one another; a row more.
-use Prim.Native.Nat.{ℕ, suc, _+_, _-_, _<_, _≤_}
+use Prim.Native.Nat.{ℕ, suc, _+_, _-_, _<_}
 use mathlib.Core.Path.{_≡_, refl, sym, ap, _∙_, subst}
 use mathlib.Core.List.{List, [], _∷_, _++_, map, append-assoc, append-nil}
 use native.Mathlib.Omega.{arith}
@@ -8,15 +8,11 @@ use lib.Seq.{set-append-seam}
 use Rattle.grammar.specs.Numbers.{ruleLimit}
 use Rattle.grammar.specs.Tree.{Rule, bodyDepth, Counters}
 use Rattle.grammar.specs.Encode.{encodeRule, encodeRules, encodeBlock}
-use Rattle.grammar.specs.Lists.{each}
 use Rattle.grammar.specs.Ids.{ruleIds, ruleNames}
 use Rattle.grammar.specs.Laws.Lists.{each-append}
-use Rattle.records.specs.Rules.{row, placesFrom, RowsOf, IsWith}
-use Rattle.records.specs.declared.rules.Rules.{Rules}
-use Rattle.writing.specs.Wrote.{Wrote}
+use Rattle.records.specs.Rules.{row, placesFrom}
 use Rattle.writing.specs.Taken.{countersOf}
 use Rattle.writing.specs.Laws.Wrote.{wrote-nothing, wrote-then}
-use Rattle.copies.specs.Pen.{Drawn}
 use Rattle.copies.specs.Laws.Drawn.{drawn-words, drawn-then}
 use Rattle.heads.specs.Front.{composeAt}
 use Rattle.drafts.specs.declared.draft.Draft.{Draft}

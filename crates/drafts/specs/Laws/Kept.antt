@@ -1,11 +1,11 @@
 -- The rules that stay, one after the other; where each rule ends.
-use Prim.Native.Nat.{ℕ, zero, suc, _+_, _-_, _<_, _≤_}
+use Prim.Native.Nat.{ℕ, suc, _+_, _-_, _<_, _≤_}
 use mathlib.Core.Path.{_≡_, refl, sym, ap, _∙_, subst}
 use mathlib.Core.List.{List, [], _∷_, _++_}
 use mathlib.Core.Bool.{Bool, true, false, not}
 use native.Mathlib.Omega.{arith}
 use native.Mathlib.Numerals.{add-one}
-use lib.ListN.{length, getD, take, drop, length-append, List·getD-append}
+use lib.ListN.{length, getD, drop, length-append, List·getD-append}
 use lib.Seq.{drop-append-seam, drop-append-add}
 use Rattle.grammar.specs.Tree.{Rule, bodyDepth}
 use Rattle.grammar.specs.Encode.{encodeRule, encodeBlock}
@@ -13,11 +13,11 @@ use Rattle.grammar.specs.Lists.{push}
 use Rattle.grammar.specs.Found.{RuleSpans, RulesSpan}
 use Rattle.grammar.specs.Laws.Stands.{stands-length}
 use Rattle.grammar.specs.Laws.Opened.{first-spans}
-use Rattle.records.specs.Rules.{row, placesFrom, FoundRows}
+use Rattle.records.specs.Rules.{row, placesFrom}
 use Rattle.records.specs.declared.rules.Rules.{Rules}
 use Rattle.reach.specs.Rows.{bit}
 use Rattle.analysis.specs.Facts.{Standing, Among}
-use Rattle.analysis.proofs.Laws.Standing.{among, few, all-rules}
+use Rattle.analysis.proofs.Laws.Standing.{few, all-rules}
 use Rattle.drafts.specs.Kept.{kept, part, keptOf, RuleEnds}
 
 -- Rules from a place on.
@@ -33,7 +33,8 @@ module _ {rs : List Rule} {i : ℕ} (a : Among rs i) where
       let n : until - i ≡ suc (until - (i + 1)) = omega arith in
       rw (n, drop-among, drop-past)
 
-  pub kept-first : (row : List ℕ) (until : ℕ) → i < until → keptOf row i until rs ≡ push (not (bit row i)) (a .rule) (keptOf row (i + 1) until rs)
+  pub kept-first : (row : List ℕ) (until : ℕ) → i < until
+      → keptOf row i until rs ≡ push (not (bit row i)) (a .rule) (keptOf row (i + 1) until rs)
   unfolding kept
   kept-first row until l = ap (kept row i) (part-first l) ∙ rw (add-one i)
 
@@ -82,7 +83,9 @@ module _ {ws : List ℕ} {end : ℕ} {rules : Rules} (s : Standing ws end rules)
 
   place-is : (i : ℕ) → i < length rs → getD (rules .places) i 0 ≡ getD (placesFrom 0 rs) i 0
   unfolding row
-  place-is i l = ap (λ l. getD l i 0) (s .rows .rows .places) ∙ (List·getD-append (placesFrom 0 rs) _ 0 i (let e = places-length 0 rs in omega arith))
+  place-is i l =
+      ap (λ l. getD l i 0) (s .rows .rows .places)
+      ∙ List·getD-append (placesFrom 0 rs) _ 0 i (let e = places-length 0 rs in omega arith)
 
   spans-all : {i : ℕ} (a : Among rs i) → RulesSpan ws end 0 (a .front ++ (a .rule ∷ a .rest)) end
   spans-all a =

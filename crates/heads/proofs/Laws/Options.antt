@@ -1,6 +1,6 @@
 -- The options of a listed alternative, written one after the other behind the list in which their places stand.
 use Prim.Native.Nat.{ℕ, zero, suc, _+_, _*_, _<_, _≤_}
-use mathlib.Core.Path.{_≡_, refl, sym, ap, _∙_, subst}
+use mathlib.Core.Path.{_≡_, sym, ap, _∙_, subst}
 use mathlib.Core.List.{List, [], _∷_, _++_}
 use native.Mathlib.Omega.{arith}
 use native.Mathlib.Numerals.{add-one}
@@ -9,7 +9,7 @@ use Rattle.grammar.specs.Encode.{encodeOption}
 use Rattle.grammar.specs.Lists.{each}
 use Rattle.grammar.specs.Laws.Lists.{each-append}
 use Rattle.grammar.specs.Laws.Opened.{options-length}
-use Rattle.planned.specs.Layout.{half, handAt, optionOf, optionsFrom, meaning, elementsFrom, placeOf}
+use Rattle.planned.specs.Layout.{half, optionOf, optionsFrom, meaning, placeOf}
 use Rattle.planned.specs.List.{Located, ListedIn, InList}
 use Rattle.planned.specs.Laws.Parts.{options-count, elements-count}
 use Rattle.planned.specs.declared.list.Listed.{Listed}

@@ -4,8 +4,6 @@ use mathlib.Core.Path.{_≡_, refl, sym, ap, _∙_}
 use mathlib.Core.List.{List, _∷_, []}
 use native.Mathlib.Omega.{arith}
 use lib.ListN.{length}
-use Rattle.grammar.specs.Tree.{OptionDecl, Element, Block}
-use Rattle.reference.specs.Substitute.{Planned}
 use Rattle.planned.specs.Layout.{optionsAt, recordAt, meaning, optionsFrom, elementsFrom}
 use Rattle.planned.specs.List.{Laid, ListedIn, AllIn, elementsOf, optionsOf}
 use Rattle.planned.specs.Reading.{RecordIs, settledFrom, OnTrack, ReadNext}

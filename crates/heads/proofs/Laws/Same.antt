@@ -1,11 +1,11 @@
 -- The words of an element that stands at a place are its encoding; made plain it differs in one word.
-use Prim.Native.Nat.{ℕ, suc, _+_, _*_, _-_, _%_, _<_, _≤_}
-use mathlib.Core.Path.{_≡_, refl, sym, ap, _∙_, subst}
+use Prim.Native.Nat.{ℕ, _+_, _*_, _-_, _≤_}
+use mathlib.Core.Path.{_≡_, refl, sym, _∙_, subst}
 use mathlib.Core.List.{List, [], _∷_, _++_}
 use mathlib.Core.Bool.{Bool, true, false, false≢true}
 use native.Mathlib.Omega.{arith}
 use lib.ListN.{length, getD, take, drop}
-use Rattle.grammar.specs.Numbers.{callKind, kindEnd, blockKind}
+use Rattle.grammar.specs.Numbers.{callKind, kindEnd}
 use Rattle.grammar.specs.Words.{words}
 use Rattle.grammar.specs.Stands.{Stands}
 use Rattle.grammar.specs.Tree.{Element, leaf, block, Block}

@@ -17,12 +17,6 @@ use Rattle.planned.specs.declared.read.Cursor.{Cursor}
 use Rattle.writing.specs.Wrote.{Wrote}
 use Rattle.heads.specs.Front.{composeAt, SameFront}
 
-pub front-refl : (bs : List ℕ) → SameFront bs bs
-front-refl bs = record { long = refl; bytes = λ i h. refl }
-
-pub front-trans : {before now after : List ℕ} → SameFront before now → SameFront now after → SameFront before after
-front-trans s t = record { long = t .long ∙ s .long; bytes = λ i h. t .bytes i h ∙ s .bytes i h }
-
 -- What is written where the new sheet is composed.
 pub front-wrote : {before after : List ℕ} {at : ℕ} {xs : List ℕ} → composeAt ≤ at → Wrote before after at xs → SameFront before after
 front-wrote h w = record { long = w .long; bytes = λ i l. w .other i (inl (omega arith)) }
@@ -96,5 +90,3 @@ module _ {before after : List ℕ} (s : SameFront before after) where
           let v = laid .settledO in
           run-same ws end d n (c .a) (c .e) (c .o) (front-heads n (c .a) (omega arith))
           (record { same = λ j g m. front-half j (omega arith) }) (record { same = λ j g m. front-half j (omega arith) })
-
-pub ruleset fronts = (front-wrote, front-half, front-meaning, front-listed, front-located, front-laid, front-settled, front-all-in, front-track)

@@ -8,8 +8,7 @@ use lib.ListN.{length, drop, drop-of-length-le}
 use Rattle.grammar.specs.Tree.{Element, Block}
 use Rattle.grammar.specs.Encode.{encodeElement, encodeBlock}
 use Rattle.grammar.specs.Lists.{each}
-use Rattle.grammar.specs.Found.{ElementSpans}
-use Rattle.reference.specs.Apply.{freshEach, renumberElement, renumberBlock}
+use Rattle.reference.specs.Apply.{freshEach, renumberBlock}
 use Rattle.planned.specs.Layout.{madeIf, meaning}
 use Rattle.planned.specs.List.{Located, ItemAt}
 use Rattle.planned.specs.Reading.{ItemIs}
@@ -20,9 +19,9 @@ use Rattle.writing.specs.Taken.{countersOf}
 use Rattle.copies.specs.Pen.{Fits, Drew}
 use Rattle.copies.specs.Copy.{ElementFits, ElementCopied}
 use Rattle.copies.specs.declared.pen.Pen.{Pen}
-use Rattle.copies.specs.Laws.Grown.{Grows, Grown, grown-same, grows-element, grows-block}
+use Rattle.copies.specs.Laws.Grown.{Grows, grown-same, grows-element, grows-block}
 use Rattle.copies.specs.Laws.Drawn.{drawn-words, drew-none, fits-first, fits-rest, drew-more}
-use Rattle.heads.specs.Front.{composeAt, SameFront}
+use Rattle.heads.specs.Front.{composeAt}
 use Rattle.heads.specs.Same.{ItemThere, SameFits, SameCopied}
 use Rattle.heads.specs.Laws.Front.{front-wrote, front-meaning, front-listed, front-located}
 use Rattle.written.specs.Items.{drawnElement, ItemFits, ItemDrawn, Readable, ItemsFit, ItemsDrawn}
@@ -120,7 +119,9 @@ module _ (ws : List ℕ) (end d : ℕ) (x : Listed) (fresh : Bool) (b₀ t₀ : 
       items-item =
           record {
             there = record { found = there .found; call = there .call };
-            fits = fits-first enc (drawnElement d fresh) (madeIf made tree) (left b (i + 1)) (countersOf (p .counters)) (grows-drawn d fresh) opened;
+            fits =
+                fits-first enc (drawnElement d fresh) (madeIf made tree) (left b (i + 1)) (countersOf (p .counters)) (grows-drawn d fresh)
+                opened;
           }
 
       pub items-more : {b′ t′ : List ℕ} {p′ : Pen} → ItemDrawn ws end d at made fresh b b′ t t′ p p′ → Drawing b′ t′ (i + 1) p′
@@ -145,7 +146,8 @@ module _ (ws : List ℕ) (end d : ℕ) (x : Listed) (fresh : Bool) (b₀ t₀ : 
                 g .done b″ t″ p″
                 (subst (λ es. Drew (each enc) (freshEach (drawnElement d fresh) es c) b b″ t t″ p p″) (sym next)
                 (drew-more enc (drawnElement d fresh) (madeIf made tree) (left b (i + 1)) c k
-                (subst (λ es. Drew (each enc) (freshEach (drawnElement d fresh) es (countersOf (p′ .counters))) b′ b″ t′ t″ p′ p″) same z)));
+                (subst (λ es. Drew (each enc) (freshEach (drawnElement d fresh) es (countersOf (p′ .counters))) b′ b″ t′ t″ p′ p″) same
+                z)));
             long = k .wrote .long ∙ g .long;
             trailLong = k .told .long ∙ g .trailLong;
           }

@@ -9,7 +9,7 @@ use Rattle.grammar.specs.Encode.{encodeAlternative, encodeBlock}
 use Rattle.grammar.specs.Lists.{each}
 use Rattle.reference.specs.Substitute.{Planned}
 use Rattle.reference.specs.Apply.{freshEach, applyAlternative}
-use Rattle.planned.specs.Layout.{meaning, settled, recordsFrom}
+use Rattle.planned.specs.Layout.{meaning, recordsFrom}
 use Rattle.planned.specs.List.{Laid, AllIn}
 use Rattle.planned.specs.Reading.{settledFrom, OnTrack, AtFront}
 use Rattle.planned.specs.Laws.Runs.{run-count}
@@ -80,7 +80,8 @@ module _ (ws : List ℕ) (end d : ℕ) (l : Sizes) (b₀ t₀ : List ℕ) (p₀ 
     pub list-all : l .outa ≤ c .a → ListDrawn ws end d b₀ l b t₀ t p₀ p
     unfolding settledFrom recordsFrom
     list-all h =
-        let none : left b c ≡ [] = ap (λ k. recordsFrom ws end d b k (c .a) (c .e) (c .o)) (let z : l .outa - c .a ≡ 0 = omega arith in z) in
+        let none : left b c ≡ [] =
+        ap (λ k. recordsFrom ws end d b k (c .a) (c .e) (c .o)) (let z : l .outa - c .a ≡ 0 = omega arith in z) in
         record {
           drew =
               g .done b t p
@@ -139,11 +140,14 @@ list-falls {bs} {l} {c} {x} {next} r =
     let b = run-count bs [] 0 0 (l .outa - next .a) (next .a) (next .e) (next .o) in
     omega arith
 
-pub ruleset listing = (list-none, list-low, list-laid, list-on, list-long, list-trail, list-all, list-readable, list-fits, list-more, list-falls)
+pub ruleset listed = (list-low, list-laid, list-on, list-long, list-trail, list-readable, list-fits)
+
+pub ruleset listing = (list-none, list-all, list-more, list-falls, listed)
 
 -- For blocks that nest as deep as in a rule.
 module _ {ws : List ℕ} {end : ℕ} {b : List ℕ} {l : Sizes} {t : List ℕ} {p : Pen} where
-  pub planned-fits : Fits (each (encodeAlternative (encodeBlock innerDepth))) (drawnList ws end innerDepth b l (countersOf (p .counters))) b t p
+  pub planned-fits : Fits (each (encodeAlternative (encodeBlock innerDepth))) (drawnList ws end innerDepth b l (countersOf (p .counters)))
+      b t p
       → ListFits ws end innerDepth b l t p
   planned-fits f = record { fits = f }
 

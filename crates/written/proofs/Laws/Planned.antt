@@ -1,8 +1,8 @@
 -- One planned alternative drawn: its head, then its elements.
-use Prim.Native.Nat.{ℕ, _+_, _*_, _<_, _≤_, _^_}
-use mathlib.Core.Path.{_≡_, refl, sym, ap, _∙_, subst}
+use Prim.Native.Nat.{ℕ, _+_, _*_, _≤_}
+use mathlib.Core.Path.{_≡_, refl, sym, ap, _∙_}
 use mathlib.Core.List.{List, [], _∷_, _++_}
-use mathlib.Core.Bool.{Bool, true, false}
+use mathlib.Core.Bool.{true, false}
 use native.Mathlib.Omega.{arith}
 use lib.ListN.{length, getD, length-append}
 use Rattle.grammar.specs.Numbers.{alternativeSort}
@@ -12,9 +12,9 @@ use Rattle.grammar.specs.Lists.{each}
 use Rattle.grammar.specs.Laws.Opened.{options-length}
 use Rattle.grammar.specs.Laws.Found.{alternative-room}
 use Rattle.reference.specs.Substitute.{Planned}
-use Rattle.reference.specs.Apply.{Fresh, freshEach, unchanged, past, placed, applyNew, applyAlternative, renumberElement, renumberBlock}
+use Rattle.reference.specs.Apply.{Fresh, past, applyNew, applyAlternative, renumberElement, renumberBlock}
 use Rattle.reference.specs.Run.{encodeEntry}
-use Rattle.planned.specs.Layout.{marked, isMarked, meaning}
+use Rattle.planned.specs.Layout.{isMarked, meaning}
 use Rattle.planned.specs.Laws.Parts.{options-count}
 use Rattle.planned.specs.Laws.Items.{unmarked, is-marked}
 use Rattle.planned.specs.declared.list.Listed.{Listed}
@@ -22,17 +22,18 @@ use Rattle.writing.specs.Wrote.{Wrote}
 use Rattle.writing.specs.Taken.{countersOf}
 use Rattle.copies.specs.Pen.{Space, Drawn, EntryRoom, Gave}
 use Rattle.copies.specs.declared.pen.Pen.{Pen}
-use Rattle.copies.specs.Laws.Grown.{Grown, AreLow, are-low, grows-each, grows-element, grows-block}
+use Rattle.copies.specs.Laws.Grown.{Grown, are-low, grows-each, grows-element, grows-block}
 use Rattle.copies.specs.Laws.Drawn.{drawn-words, drawn-then, space-front, space-behind}
 use Rattle.heads.specs.Front.{composeAt}
 use Rattle.heads.specs.Head.{headWords}
 use Rattle.heads.specs.Laws.Front.{front-wrote, front-meaning, front-listed, front-located}
-use Rattle.written.specs.Items.{Readable, ItemsFit, ItemsDrawn, drawnElement}
+use Rattle.written.specs.Items.{Readable, ItemsFit, ItemsDrawn}
 use Rattle.written.specs.Planned.{HeadDrawn, AlternativeFits, AlternativeDrawn}
 use Rattle.written.specs.Laws.Apply.{each-unchanged, apply-same, apply-new, copies, new-entries, new-counters, new-node, same-node}
 
 -- The place of the origin.
-pub origin-room : {ws : List ℕ} {end : ℕ} (d : ℕ) {bs : List ℕ} {x : Listed} {at : ℕ} → Readable ws end d bs x → at ≡ x .origin → at + 5 ≤ end
+pub origin-room : {ws : List ℕ} {end : ℕ} (d : ℕ) {bs : List ℕ} {x : Listed} {at : ℕ} → Readable ws end d bs x → at ≡ x .origin
+    → at + 5 ≤ end
 origin-room d r e = rw e (alternative-room d (r .listed .head .originFound))
 
 module _ (ws : List ℕ) (end d : ℕ) (bs : List ℕ) (x : Listed) where
@@ -162,7 +163,9 @@ module _ (ws : List ℕ) (end d : ℕ) (bs : List ℕ) (x : Listed) {t : List �
   new-ends = ap (λ f. f .counters) is-new ∙ new-counters d q c₀
 
   grown : Grown (past alternativeSort c₀) (es .counters)
-  grown = grows-each (renumberElement (renumberBlock d)) (grows-element (renumberBlock d) (grows-block d)) .grows (q .elements) (past alternativeSort c₀)
+  grown =
+      grows-each (renumberElement (renumberBlock d)) (grows-element (renumberBlock d) (grows-block d)) .grows (q .elements)
+      (past alternativeSort c₀)
 
   whole : Space (head ++ rest) (entry ++ told) (es .counters) bs t pen
   whole = rw (new-parts, new-told, new-ends) at (f .fits)

@@ -1,20 +1,19 @@
 -- A planned alternative is its head and its elements; counters only grow over it.
-use Prim.Native.Nat.{ℕ, _+_, _*_, _<_, _≤_, _^_}
-use mathlib.Core.Path.{_≡_, refl, sym, ap, _∙_, subst}
+use Prim.Native.Nat.{ℕ}
+use mathlib.Core.Path.{_≡_, refl, sym, ap, subst}
 use mathlib.Core.List.{List, [], _∷_, _++_, append-nil}
-use mathlib.Core.Bool.{Bool, true, false}
+use mathlib.Core.Bool.{true, false}
 use native.Mathlib.Omega.{arith}
-use lib.ListN.{length, length-append}
 use Rattle.grammar.specs.Numbers.{alternativeSort}
-use Rattle.grammar.specs.Tree.{Element, AlternativeOf, Block, Counters}
-use Rattle.grammar.specs.Encode.{encodeElement, encodeAlternative, encodeBlock, encodeOption}
+use Rattle.grammar.specs.Tree.{Element, Block, Counters}
+use Rattle.grammar.specs.Encode.{encodeElement, encodeAlternative, encodeBlock}
 use Rattle.grammar.specs.Lists.{each}
 use Rattle.grammar.specs.Laws.Parse.{either}
 use Rattle.reference.specs.Substitute.{Planned}
-use Rattle.reference.specs.Apply.{Fresh, Entry, boundary, unchanged, freshEach, past, placed, applyNew, applyAlternative, renumberElement}
+use Rattle.reference.specs.Apply.{Fresh, unchanged, freshEach, past, placed, applyNew, applyAlternative, renumberElement}
 use Rattle.reference.specs.Apply.{renumberElements, renumberBlock}
 use Rattle.reference.specs.Run.{encodeEntry}
-use Rattle.copies.specs.Laws.Grown.{Grown, Grows, grown-same, grown-then, grows-each, grows-element, grows-block}
+use Rattle.copies.specs.Laws.Grown.{Grown, Grows, grown-same, grows-each, grows-element, grows-block}
 use Rattle.copies.specs.Laws.Drawn.{each-count}
 use Rattle.heads.specs.Head.{headWords}
 

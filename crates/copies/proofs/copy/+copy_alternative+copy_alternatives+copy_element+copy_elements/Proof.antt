@@ -22,10 +22,10 @@ use Rattle.copies.proofs.copy.+copy_alternative+copy_alternatives+copy_
 use Rattle.copies.proofs.copy.copy_elements.Reads as copy-elements
 use Rattle.copies.proofs.copy.copy_elements.Kinds as copy-elements-kinds
 use Rattle.copies.proofs.copy.+copy_alternative+copy_alternatives+copy_element+copy_elements.Lts-copy_elements as copy-elements-lts
-use Rattle.copies.proofs.heads.copy_alternative_head.Reads as copy-alternative-head-reads
-use Rattle.copies.proofs.heads.copy_count.Reads as copy-count-reads
-use Rattle.copies.proofs.heads.copy_head.Reads as copy-head-reads
-use Rattle.copies.proofs.heads.copy_leaf.Reads as copy-leaf-reads
+use Rattle.copies.proofs.parts.copy_alternative_head.Reads as copy-alternative-head-reads
+use Rattle.copies.proofs.parts.copy_count.Reads as copy-count-reads
+use Rattle.copies.proofs.parts.copy_head.Reads as copy-head-reads
+use Rattle.copies.proofs.parts.copy_leaf.Reads as copy-leaf-reads
 use Rattle.words.proofs.walk.alternative_head.Reads as alternative-head-reads
 use Rattle.words.proofs.walk.element_head.Reads as element-head-reads
 use Rattle.words.proofs.walk.leaf_end.Reads as leaf-end-reads

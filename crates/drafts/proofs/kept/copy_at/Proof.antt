@@ -18,9 +18,16 @@ copy-at-spec =
     (λ c. search needs)
     (λ c. search needs)
     (λ c. search needs)
-    (λ c κs. let asked = c .before .before .before .before .before .before .before .before .before .pre in ((search (needs, one), search (needs, one), search (needs, one), search (needs, one)), (search (needs, one), search (needs, one))))
+    (λ c κs.
+    let asked = c .before .before .before .before .before .before .before .before .before .pre in (
+      (search (needs, one), search (needs, one), search (needs, one), search (needs, one)),
+      (search (needs, one), search (needs, one)),
+    ))
     (λ c. search needs)
     (λ c.
-    let asked = c .before .before .before .before .before .before .before .before .before .before .before .before .pre in
-    rule-added (asked .0 .0) (search needs) (asked .0 .2) (c .before .before .before .before .before .rule-end .ensures) (c .before .before .before .before .index .ensures) refl refl (search needs)
-    (c .before .before .copy-rule .ensures .0) (c .before .before .copy-rule .ensures .1)))
+    let at-copy-rule = c .before .before in
+    let at-index = at-copy-rule .before .before in
+    let at-rule-end = at-index .before in
+    let asked = at-rule-end .before .before .before .before .before .before .before .pre in
+    rule-added (asked .0 .0) (search needs) (asked .0 .2) (at-rule-end .rule-end .ensures) (at-index .index .ensures) refl refl
+    (search needs) (at-copy-rule .copy-rule .ensures .0) (at-copy-rule .copy-rule .ensures .1)))

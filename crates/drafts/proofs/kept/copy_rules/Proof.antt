@@ -20,12 +20,19 @@ copy-rules-spec =
     μ-loop
     (λ c. search (needs, copying))
     (λ c κs. search (needs, copying))
-    (λ c κs. let asked = c .before .before .before .before .before .before .pre in ((search (needs, copying), search (needs, copying), search (needs, copying)), (search (needs, copying), search (needs, copying), search (needs, copying))))
+    (λ c κs.
+    let asked = c .before .before .before .before .before .before .pre in (
+      (search (needs, copying), search (needs, copying), search (needs, copying)),
+      (search (needs, copying), search (needs, copying), search (needs, copying)),
+    ))
     (λ c. search (needs, copying))
     (λ c. search (needs, copying))
     (λ c.
-    let asked = c .before .before .before .before .before .before .before .before .before .pre in
-    copying-more _ _ _ _ _ _ _ _ (c .before .before .before .before .before .before .loop .inv) (search needs) (c .before .before .before .before .has .ensures) (asked .0 .3) (c .before .before .copy-at .ensures)
+    let at-copy-at = c .before .before in
+    let at-has = at-copy-at .before .before in
+    let at-loop = at-has .before .before in
+    let asked = at-loop .before .before .before .pre in
+    copying-more _ _ _ _ _ _ _ _ (at-loop .loop .inv) (search needs) (at-has .has .ensures) (asked .0 .3) (at-copy-at .copy-at .ensures)
     (asked .0 .1))
     (λ c. search (needs, copying))
     (λ c. search (needs, copying)))

@@ -1,0 +1,3 @@
+pub mod Compose
+pub mod Hub
+pub mod Laws

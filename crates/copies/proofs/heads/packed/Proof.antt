@@ -1,8 +1,0 @@
--- `copies::heads::packed` meets its contract.
-use borrow.Author.Needs.{needs}
-use Rattle.copies.proofs.Laws.Heads.{headings}
-use Rattle.copies.proofs.heads.packed.Statement.{statement}
-use Rattle.copies.proofs.heads.packed.Tie as tie
-
-pub packed-spec : {M : Type 1} → statement M
-packed-spec = tie.close (tie.spec (λ c κs. search needs) (λ c. search (needs, headings)) (λ c. search (needs, headings)))
