@@ -55,7 +55,7 @@ pub fn find_out(
     requires { ⌜ (length (now calls) ≡ ruleLimit) × (length (now corners) ≡ ruleLimit) ⌝ }
     ensures { λ r. ⌜ FactsFound (words (now (s .entry))) end rules past (now (calls .exit)) (now (corners .exit)) (r .marks) ⌝ }
     ensures { λ r. ⌜ KeptOf (words (now (s .entry))) end to rules (r .kept) ⌝ }
-    ensures { λ r. ⌜ length (now (calls .exit)) ≡ ruleLimit ⌝ }
+    ensures { λ _. ⌜ (length (now (calls .exit)) ≡ ruleLimit) × (length (now (corners .exit)) ≡ ruleLimit) ⌝ }
 {
     let marks = find_rows(s, end, rules, past, calls, corners, work);
     let kept = preserved_rows(s, rules, end, to);

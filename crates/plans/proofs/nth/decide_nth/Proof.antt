@@ -21,7 +21,7 @@ decide-nth-spec =
     let list = c .before .before .before .before .before .list-cycles .ensures in
     let pre = c .before .before .before .before .before .before .before .before .before .before .before .before .before .before .before .before .before .before .before .pre in (
       (pre .0 .0, pre .0 .1, search (needs, pre .0 .2), search nths),
-      (found .1 .1, search (needs, nths, found .0, found .1 .0, pre .0 .1, list, pre .1)),
+      (found .1 .1 .0, search (needs, nths, found .0, found .1 .0, pre .0 .1, list, pre .1)),
     ))
     (λ c. search needs)
     (λ c.
