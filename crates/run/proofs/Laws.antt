@@ -1,0 +1,6 @@
+-- The laws that the answers cite.
+pub mod Known
+pub mod Over
+pub mod More
+pub mod Start
+pub mod Turned

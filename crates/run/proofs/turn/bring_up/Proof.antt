@@ -1,0 +1,16 @@
+-- `run::turn::bring_up` meets its contract.
+use borrow.Author.Needs.{needs}
+use Rattle.run.proofs.turn.bring_up.Statement.{statement}
+use Rattle.run.proofs.turn.bring_up.Tie as tie
+
+pub bring-up-spec : {M : Type 1} → statement M
+bring-up-spec =
+    tie.close
+    (tie.spec
+    (λ c. search needs)
+    (λ c. search needs)
+    (λ c. search needs)
+    (λ c. search needs)
+    (λ c κs. let asked = c .before .before .before .before .before .before .before .before .before .before .before .before .before .before .pre in ((asked .0 .0, asked .0 .1), (asked .1 .0, asked .1 .1 .1)))
+    (λ c. search needs)
+    (λ c. search needs))
