@@ -61,19 +61,26 @@ pub fn ask(bytes: &[u8]) -> Answer {
 
 /// For a sheet that passes 1 to 6.
 pub fn ask_sheet(sheet: &Sheet) -> Answer {
-    let traced = traced::run(sheet, Limits::STANDARD);
+    let (outcome, trace) = ask_within(sheet, Limits::STANDARD);
+    Ok(done(sheet, outcome?, trace))
+}
+
+/// What the original leaves of such a sheet, or the refusal by these limits; and the copy's trace, as far as it came.
+pub fn ask_within(sheet: &Sheet, limits: Limits) -> (Result<original::Answer, u32>, Trace) {
+    let (traced, trace) = traced::trace(sheet, limits);
     if let Err(refusal @ (7 | 9)) = traced {
-        return Err(refusal);
+        return (Err(refusal), trace);
     }
-    match (traced, unchanged(sheet)) {
-        (Ok((result, trace)), Some(unchanged)) => {
+    let outcome = match (traced, unchanged(sheet)) {
+        (Ok(result), Some(unchanged)) => {
             assert_eq!(unchanged.result, result, "the original and its copy part");
             assert_eq!(unchanged.changed, !trace.stages.is_empty());
-            Ok(done(sheet, unchanged, trace))
+            Ok(unchanged)
         }
         (Err(8), None) => Err(8),
         _ => panic!("the original and its copy part"),
-    }
+    };
+    (outcome, trace)
 }
 
 fn done(sheet: &Sheet, unchanged: original::Answer, trace: Trace) -> Done {

@@ -6,6 +6,7 @@ mod load;
 mod unload;
 
 use std::collections::BTreeSet;
+use std::time::Instant;
 
 use grammar::model::{
     ActionId, AlternativeId, ElementId, LabelId, ModelNodeId, PredicateId, RuleId,
@@ -38,15 +39,31 @@ pub fn run_with_modifiers(sheet: &Sheet) -> Answer {
     run_loaded(loaded, sheet)
 }
 
-fn run_loaded(mut loaded: load::Loaded, sheet: &Sheet) -> Answer {
-    let mut provenance = ProvenanceIndex::default();
-    let changed = eliminate_mutual_left_recursion_with_action_reference_parser(
+/// Microseconds for the pass alone: of as many runs as `rounds`, each over a model loaded before.
+pub fn times(sheet: &Sheet, rounds: usize) -> Vec<f64> {
+    let run = |_| {
+        let mut loaded = load::load(sheet);
+        let mut provenance = ProvenanceIndex::default();
+        let began = Instant::now();
+        eliminate(&mut loaded, &mut provenance);
+        began.elapsed().as_secs_f64() * 1e6
+    };
+    (0..rounds).map(run).collect()
+}
+
+fn eliminate(loaded: &mut load::Loaded, provenance: &mut ProvenanceIndex) -> bool {
+    eliminate_mutual_left_recursion_with_action_reference_parser(
         std::slice::from_mut(&mut loaded.unit),
         &mut loaded.ids,
-        &mut provenance,
+        provenance,
         &loaded.preserved,
         load::references,
-    );
+    )
+}
+
+fn run_loaded(mut loaded: load::Loaded, sheet: &Sheet) -> Answer {
+    let mut provenance = ProvenanceIndex::default();
+    let changed = eliminate(&mut loaded, &mut provenance);
     Answer {
         changed,
         result: unloaded(&loaded, sheet),

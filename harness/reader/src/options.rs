@@ -6,10 +6,12 @@ pub struct Options {
 }
 
 pub fn options() -> Result<Options, String> {
-    let mut options = Options {
-        count: 20_000,
-        seed: 1,
-    };
+    options_or(20_000)
+}
+
+/// With another count where none is told.
+pub fn options_or(count: u64) -> Result<Options, String> {
+    let mut options = Options { count, seed: 1 };
     let mut words = std::env::args().skip(1);
     while let Some(word) = words.next() {
         let value = words.next().unwrap_or_default();

@@ -19,6 +19,7 @@ mod quiet;
 
 use std::collections::{BTreeMap, BTreeSet};
 use std::panic::{AssertUnwindSafe, catch_unwind};
+use std::time::Instant;
 
 use grammar::mutual_recursion::{
     self, eliminate_mutual_left_recursion_with_action_reference_parser,
@@ -119,17 +120,30 @@ struct Stop(u32);
 
 /// The trace of a whole run, or the refusal that ended it.
 pub fn run(sheet: &Sheet, limits: Limits) -> Result<(Sheet, Trace), u32> {
+    let (outcome, trace) = trace(sheet, limits);
+    outcome.map(|result| (result, trace))
+}
+
+/// What a run left, or the refusal that ended it; and its trace, as far as it came.
+pub fn trace(sheet: &Sheet, limits: Limits) -> (Result<Sheet, u32>, Trace) {
     hooks::begin(sheet, limits);
     let outcome = quietly(|| catch_unwind(AssertUnwindSafe(|| pass(sheet))));
     let trace = hooks::end();
-    match outcome {
-        Ok(result) => Ok((result, trace)),
-        Err(payload) => Err(refusal(payload)),
-    }
+    (outcome.map_err(refusal), trace)
 }
 
 fn pass(sheet: &Sheet) -> Sheet {
     let mut loaded = load::load(sheet);
+    eliminate(&mut loaded);
+    Sheet {
+        kind: sheet.kind,
+        rules: unload::rules(&loaded.unit),
+        preserved: sheet.preserved.clone(),
+        counters: counters::read(&loaded.ids),
+    }
+}
+
+fn eliminate(loaded: &mut load::Loaded) {
     eliminate_mutual_left_recursion_with_action_reference_parser(
         std::slice::from_mut(&mut loaded.unit),
         &mut loaded.ids,
@@ -137,12 +151,20 @@ fn pass(sheet: &Sheet) -> Sheet {
         &loaded.preserved,
         load::references,
     );
-    Sheet {
-        kind: sheet.kind,
-        rules: unload::rules(&loaded.unit),
-        preserved: sheet.preserved.clone(),
-        counters: counters::read(&loaded.ids),
-    }
+}
+
+/// Microseconds for the pass alone, up to a refusal: of as many runs as `rounds`, each over a model loaded before.
+pub fn times(sheet: &Sheet, limits: Limits, rounds: usize) -> Vec<f64> {
+    let run = |_| {
+        let mut loaded = load::load(sheet);
+        hooks::begin(sheet, limits);
+        let began = Instant::now();
+        let outcome = quietly(|| catch_unwind(AssertUnwindSafe(|| eliminate(&mut loaded))));
+        let took = began.elapsed();
+        drop((hooks::end(), outcome));
+        took.as_secs_f64() * 1e6
+    };
+    (0..rounds).map(run).collect()
 }
 
 fn refusal(payload: Box<dyn std::any::Any + Send>) -> u32 {

@@ -1,0 +1,160 @@
+//! Holds a pass to the outcome by the original, one call at a time.
+
+use analysis::guarded::Guarded;
+use plans::compare::Junk;
+
+use crate::outcome::Outcome;
+
+/// The least lengths of result, trail and work area.
+pub const LEAST: [usize; 3] = [32_768, 65_536, 65_536];
+const NAMES: [&str; 3] = ["result", "trail", "work area"];
+/// Bytes behind what is lent, which nobody may touch, as those in front of it.
+const GUARD: usize = 64;
+const UNSET: u32 = 0xdead_beef;
+static ZEROS: [u8; 1 << 18] = [0; 1 << 18];
+
+/// Result, trail and work area.
+pub type Buffers<'a> = [&'a mut [u8]; 3];
+/// Is handed a sheet, the three buffers, and the numbers to fill in.
+pub type Pass<'a> = &'a (dyn Fn(&[u8], Buffers, &mut [u32; 5]) + Sync);
+
+/// What is lent to a call.
+#[derive(Clone, Copy, Debug)]
+pub struct Call {
+    pub lengths: [usize; 3],
+    /// Bytes in front of the sheet and of the three buffers, so that they need not be aligned.
+    pub starts: [usize; 4],
+    pub junk: Junk,
+}
+
+/// What must be answered where buffers of these lengths are lent: refusal 2 belongs to them, and 1 comes before it.
+pub fn promised(outcome: &Outcome, lengths: [usize; 3]) -> Outcome {
+    let short = lengths
+        .iter()
+        .zip(LEAST)
+        .any(|(length, least)| *length < least);
+    match outcome.number() {
+        1 => Outcome::refused(1),
+        _ if short => Outcome::refused(2),
+        _ => outcome.clone(),
+    }
+}
+
+/// Whether the buffers are left as SPECIFICATION 3.3 and 3.4 say, or the first byte that is not.
+pub fn left(expected: &Outcome, after: [&[u8]; 3], before: [&[u8]; 3]) -> Result<(), String> {
+    let fronts: [&[u8]; 3] = [&expected.result, &expected.trail, &[]];
+    for at in 0..3 {
+        let (after, before) = (after[at], before[at]);
+        let same = match expected.number() {
+            1 | 2 => equal(after, before),
+            _ => {
+                let (front, behind) = after.split_at(fronts[at].len());
+                equal(front, fronts[at]).and_then(|()| zeros(behind, front.len()))
+            }
+        };
+        same.map_err(|what| format!("{} {what}", NAMES[at]))?;
+    }
+    Ok(())
+}
+
+fn equal(got: &[u8], want: &[u8]) -> Result<(), String> {
+    match got == want {
+        true => Ok(()),
+        false => differs(got, |at| want[at], 0),
+    }
+}
+
+/// `from` is where the bytes stand in their buffer.
+fn zeros(got: &[u8], from: usize) -> Result<(), String> {
+    let mut parts = got.chunks(ZEROS.len());
+    match parts.all(|part| part == &ZEROS[..part.len()]) {
+        true => Ok(()),
+        false => differs(got, |_| 0, from),
+    }
+}
+
+fn differs(got: &[u8], want: impl Fn(usize) -> u8, from: usize) -> Result<(), String> {
+    let at = (0..got.len())
+        .find(|at| got[*at] != want(*at))
+        .expect("they differ");
+    let (place, got, want) = (from + at, got[at], want(at));
+    Err(format!("byte {place} is {got}, and should be {want}"))
+}
+
+/// What a pass is lent, used again for each call.
+#[derive(Default)]
+pub struct Lent {
+    sheet: Vec<u8>,
+    areas: [Vec<u8>; 3],
+    /// What is in the areas before a call.
+    before: [Vec<u8>; 3],
+}
+
+impl Lent {
+    /// Whether the pass answers as the outcome says, or what differs.
+    pub fn one(
+        &mut self,
+        pass: Pass,
+        sheet: &[u8],
+        outcome: &Outcome,
+        call: Call,
+    ) -> Result<(), String> {
+        let expected = promised(outcome, call.lengths);
+        self.prepare(sheet, call);
+        let mut numbers = Guarded::around([UNSET; 5]);
+        let [start, starts @ ..] = call.starts;
+        let mut lent = (0..3).zip(&mut self.areas);
+        let lent = [(); 3].map(|()| {
+            let (at, area) = lent.next().expect("three areas");
+            &mut area[starts[at]..][..call.lengths[at]]
+        });
+        pass(&self.sheet[start..], lent, &mut numbers.lent);
+        numbers.same("numbers", &expected.numbers, u32::to_string)?;
+        if &self.sheet[start..] != sheet {
+            return Err("the sheet was touched".to_owned());
+        }
+        self.beside(call)?;
+        left(
+            &expected,
+            lent_of(&self.areas, call),
+            lent_of(&self.before, call),
+        )
+    }
+
+    fn prepare(&mut self, sheet: &[u8], call: Call) {
+        self.sheet.clear();
+        self.sheet.resize(call.starts[0], 0);
+        self.sheet.extend_from_slice(sheet);
+        for at in 0..3 {
+            let length = call.starts[1 + at] + call.lengths[at] + GUARD;
+            let area = &mut self.areas[at];
+            if area.len() < length {
+                area.resize(length, 0);
+            }
+            match call.junk {
+                Junk::All(byte) => area.fill(byte),
+                Junk::Mixed => (0..)
+                    .zip(area.iter_mut())
+                    .for_each(|(at, byte)| *byte = (at * 29usize / 3) as u8 | 1),
+                Junk::Left => {}
+            }
+            self.before[at].clone_from(area);
+        }
+    }
+
+    fn beside(&self, call: Call) -> Result<(), String> {
+        for at in 0..3 {
+            let (after, before) = (&self.areas[at], &self.before[at]);
+            let start = call.starts[1 + at];
+            let end = start + call.lengths[at];
+            if after[..start] != before[..start] || after[end..] != before[end..] {
+                return Err(format!("bytes beside the {} were touched", NAMES[at]));
+            }
+        }
+        Ok(())
+    }
+}
+
+fn lent_of(areas: &[Vec<u8>; 3], call: Call) -> [&[u8]; 3] {
+    [0, 1, 2].map(|at| &areas[at][call.starts[1 + at]..][..call.lengths[at]])
+}

@@ -1,0 +1,87 @@
+//! What a run met: sheets by their outcome, in both readings.
+
+use std::fmt;
+
+use crate::outcome::{Judged, Outcome};
+
+/// Sheets, by what was answered.
+#[derive(Clone, Copy, Debug, Default, PartialEq, Eq)]
+pub struct Answers {
+    /// By number, 0 for those accepted; 2 belongs to the buffers and is never met.
+    pub numbers: [u64; 10],
+    /// With a plan; with more than one.
+    pub joined: u64,
+    pub again: u64,
+}
+
+#[derive(Clone, Copy, Debug, Default, PartialEq, Eq)]
+pub struct Tally {
+    /// In the original's reading, then in the textbook's.
+    pub answers: [Answers; 2],
+    /// Sheets with a symbol that may be absent; those answered otherwise for it.
+    pub folded: u64,
+    pub parted: u64,
+    /// Calls, and those with a buffer that is too short.
+    pub calls: u64,
+    pub short: u64,
+    /// The longest result, and the longest trail, in bytes.
+    pub result: usize,
+    pub trail: usize,
+}
+
+impl Tally {
+    pub fn sheets(&self) -> u64 {
+        self.answers[0].numbers.iter().sum()
+    }
+
+    pub fn add(&mut self, judged: &Judged) {
+        let [original, textbook] = &judged.readings;
+        self.answers[0].add(original);
+        self.answers[1].add(textbook);
+        self.folded += u64::from(judged.folded);
+        self.parted += u64::from(original != textbook);
+        self.result = self.result.max(original.result.len());
+        self.trail = self.trail.max(original.trail.len());
+    }
+
+    /// With what another run met.
+    pub fn and(mut self, other: &Tally) -> Tally {
+        for (own, more) in self.answers.iter_mut().zip(&other.answers) {
+            for (number, more) in own.numbers.iter_mut().zip(more.numbers) {
+                *number += more;
+            }
+            own.joined += more.joined;
+            own.again += more.again;
+        }
+        self.folded += other.folded;
+        self.parted += other.parted;
+        self.calls += other.calls;
+        self.short += other.short;
+        self.result = self.result.max(other.result);
+        self.trail = self.trail.max(other.trail);
+        self
+    }
+}
+
+impl Answers {
+    fn add(&mut self, outcome: &Outcome) {
+        self.numbers[outcome.number() as usize] += 1;
+        self.joined += u64::from(outcome.plans() != 0);
+        self.again += u64::from(1 < outcome.plans());
+    }
+}
+
+impl fmt::Display for Answers {
+    fn fmt(&self, out: &mut fmt::Formatter) -> fmt::Result {
+        let Answers {
+            numbers, joined, ..
+        } = self;
+        write!(out, "accepted {}, joined {joined}, refused", numbers[0])?;
+        for (number, count) in numbers.iter().enumerate().skip(1) {
+            if number != 2 {
+                write!(out, " {number}: {count}")?;
+            }
+        }
+        Ok(())
+    }
+}
