@@ -110,9 +110,6 @@ impl Lent {
         });
         pass(&self.sheet[start..], lent, &mut numbers.lent);
         numbers.same("numbers", &expected.numbers, u32::to_string)?;
-        if &self.sheet[start..] != sheet {
-            return Err("the sheet was touched".to_owned());
-        }
         self.beside(call)?;
         left(
             &expected,
