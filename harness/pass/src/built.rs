@@ -38,7 +38,7 @@ pub fn rings(rules: usize, size: usize, words: usize) -> Sheet {
     filled(words, |tokens| {
         let rule = |at: usize| {
             let next = at - at % size + (at + 1) % size;
-            let base = if at % size == 0 { "| B" } else { "" };
+            let base = if at.is_multiple_of(size) { "| B" } else { "" };
             format!("r{at}: r{next} A {} {base};", share(tokens, at, rules))
         };
         (0..rules).map(rule).collect()

@@ -1,5 +1,7 @@
 //! Holds a pass to the outcome by the original, one call at a time.
 
+use std::ops::Range;
+
 use analysis::guarded::Guarded;
 use plans::compare::Junk;
 
@@ -25,6 +27,18 @@ pub struct Call {
     /// Bytes in front of the sheet and of the three buffers, so that they need not be aligned.
     pub starts: [usize; 4],
     pub junk: Junk,
+}
+
+impl Call {
+    /// Where the part of an area is that is lent.
+    fn part(&self, at: usize) -> Range<usize> {
+        let start = self.starts[1 + at];
+        start..start + self.lengths[at]
+    }
+
+    fn parts<'a>(&self, areas: &'a [Vec<u8>; 3]) -> [&'a [u8]; 3] {
+        [0, 1, 2].map(|at| &areas[at][self.part(at)])
+    }
 }
 
 /// What must be answered where buffers of these lengths are lent: refusal 2 belongs to them, and 1 comes before it.
@@ -102,20 +116,16 @@ impl Lent {
         let expected = promised(outcome, call.lengths);
         self.prepare(sheet, call);
         let mut numbers = Guarded::around([UNSET; 5]);
-        let [start, starts @ ..] = call.starts;
-        let mut lent = (0..3).zip(&mut self.areas);
-        let lent = [(); 3].map(|()| {
-            let (at, area) = lent.next().expect("three areas");
-            &mut area[starts[at]..][..call.lengths[at]]
-        });
-        pass(&self.sheet[start..], lent, &mut numbers.lent);
+        let [result, trail, work] = &mut self.areas;
+        let lent = [
+            &mut result[call.part(0)],
+            &mut trail[call.part(1)],
+            &mut work[call.part(2)],
+        ];
+        pass(&self.sheet[call.starts[0]..], lent, &mut numbers.lent);
         numbers.same("numbers", &expected.numbers, u32::to_string)?;
         self.beside(call)?;
-        left(
-            &expected,
-            lent_of(&self.areas, call),
-            lent_of(&self.before, call),
-        )
+        left(&expected, call.parts(&self.areas), call.parts(&self.before))
     }
 
     fn prepare(&mut self, sheet: &[u8], call: Call) {
@@ -123,7 +133,7 @@ impl Lent {
         self.sheet.resize(call.starts[0], 0);
         self.sheet.extend_from_slice(sheet);
         for at in 0..3 {
-            let length = call.starts[1 + at] + call.lengths[at] + GUARD;
+            let length = call.part(at).end + GUARD;
             let area = &mut self.areas[at];
             if area.len() < length {
                 area.resize(length, 0);
@@ -140,18 +150,13 @@ impl Lent {
     }
 
     fn beside(&self, call: Call) -> Result<(), String> {
-        for at in 0..3 {
+        for (at, name) in NAMES.iter().enumerate() {
             let (after, before) = (&self.areas[at], &self.before[at]);
-            let start = call.starts[1 + at];
-            let end = start + call.lengths[at];
+            let Range { start, end } = call.part(at);
             if after[..start] != before[..start] || after[end..] != before[end..] {
-                return Err(format!("bytes beside the {} were touched", NAMES[at]));
+                return Err(format!("bytes beside the {name} were touched"));
             }
         }
         Ok(())
     }
-}
-
-fn lent_of(areas: &[Vec<u8>; 3], call: Call) -> [&[u8]; 3] {
-    [0, 1, 2].map(|at| &areas[at][call.starts[1 + at]..][..call.lengths[at]])
 }

@@ -1,7 +1,5 @@
 //! Holds a pass to the outcome with everything that it is lent between fences.
 
-use std::ptr;
-
 use crate::compare::{LEAST, Pass, left, promised};
 use crate::fences::{Fenced, Side, tell};
 use crate::outcome::{Judged, Outcome};
@@ -72,61 +70,62 @@ impl Yard {
         call: Call,
     ) -> Result<(), String> {
         self.calls += 1;
-        let Call { lengths, side } = call;
-        let expected = promised(outcome, lengths);
-        if self.sheet.room() < sheet.len() {
-            self.sheet = Fenced::new(sheet.len());
-        }
-        self.sheet.writable(true);
-        let copy = self.sheet.lend(sheet.len(), side);
-        copy.copy_from_slice(sheet);
-        let copy: *const [u8] = copy;
-        self.sheet.writable(false);
-
-        let close = lengths
+        let expected = promised(outcome, call.lengths);
+        let sheet = lend_sheet(&mut self.sheet, sheet, call.side);
+        let numbers = lend_numbers(&mut self.numbers, call.side);
+        let close = call
+            .lengths
             .iter()
             .zip(LEAST)
-            .all(|(length, least)| *length <= least);
-        let areas = if close {
+            .all(|(own, least)| *own <= least);
+        let [result, trail, work] = if close {
             &mut self.close
         } else {
             &mut self.wide
         };
-        let mut at = 0;
-        let lent = areas.each_mut().map(|area| {
-            let lent = area.lend(lengths[at], side);
-            lent.iter_mut()
-                .zip(0_usize..)
-                .for_each(|(byte, place)| *byte = (place * 29 / 3) as u8 | 1);
-            self.before[at].clear();
-            self.before[at].extend_from_slice(lent);
-            at += 1;
-            lent
-        });
-        let numbers: *mut [u32; 5] = self.numbers.lend(NUMBERS, side).as_mut_ptr().cast();
-        // SAFETY: the sheet stands in its own pages, and so do the numbers; a page's end less 20 bytes is aligned.
-        let numbers = unsafe {
-            ptr::write(numbers, [0xdead_beef; 5]);
-            &mut *numbers
-        };
-        let lent = {
-            let mut lent = lent;
-            // SAFETY: as above.
-            pass(
-                unsafe { &*copy },
-                lent.each_mut().map(|own| &mut **own),
-                numbers,
-            );
-            lent
-        };
+        let [first, second, third] = call.lengths;
+        let mut lent = [
+            result.lend(first, call.side),
+            trail.lend(second, call.side),
+            work.lend(third, call.side),
+        ];
+        for (lent, before) in lent.iter_mut().zip(&mut self.before) {
+            spoil(lent);
+            before.clear();
+            before.extend_from_slice(lent);
+        }
+        pass(sheet, lent.each_mut().map(|own| &mut **own), numbers);
         if *numbers != expected.numbers {
-            return Err(format!(
-                "numbers are {numbers:?}, and should be {:?}",
-                expected.numbers
-            ));
+            let wanted = expected.numbers;
+            return Err(format!("numbers are {numbers:?}, and should be {wanted:?}"));
         }
         let before = self.before.each_ref().map(|own| &own[..]);
         left(&expected, lent.map(|own| &*own), before)
+    }
+}
+
+/// A copy at the fence, which can only be read.
+fn lend_sheet<'a>(area: &'a mut Fenced, sheet: &[u8], side: Side) -> &'a [u8] {
+    if area.room() < sheet.len() {
+        *area = Fenced::new(sheet.len());
+    }
+    area.writable(true);
+    area.lend(sheet.len(), side).copy_from_slice(sheet);
+    area.writable(false);
+    area.lend(sheet.len(), side)
+}
+
+fn lend_numbers(area: &mut Fenced, side: Side) -> &mut [u32; 5] {
+    let lent = area.lend(NUMBERS, side);
+    lent.fill(0xa5);
+    // SAFETY: 20 bytes at either end of a page, which is aligned.
+    unsafe { &mut *lent.as_mut_ptr().cast() }
+}
+
+/// Junk, no byte of it 0.
+fn spoil(area: &mut [u8]) {
+    for (byte, at) in area.iter_mut().zip(0_usize..) {
+        *byte = (at * 29 / 3) as u8 | 1;
     }
 }
 
