@@ -1,0 +1,38 @@
+//! Links the archives of the proved crates, which `tools/archives` makes: from the folder that ARCHIVES names, else from
+//! target/staticlib of the repository.
+
+use std::env;
+use std::path::PathBuf;
+
+const NAMES: [&str; 4] = ["pass", "plans", "facts", "sheet"];
+
+fn main() {
+    println!("cargo:rerun-if-changed=build.rs");
+    println!("cargo:rerun-if-env-changed=ARCHIVES");
+    let arch = env::var("CARGO_CFG_TARGET_ARCH").unwrap_or_default();
+    assert!(
+        arch == "x86_64",
+        "the archives are for x86-64, not for {arch}"
+    );
+    let folder = folder();
+    for name in NAMES {
+        let archive = folder.join(format!("lib{name}.a"));
+        println!("cargo:rerun-if-changed={}", archive.display());
+        assert!(
+            archive.exists(),
+            "no {}: run tools/archives {}",
+            archive.display(),
+            NAMES.join(" ")
+        );
+        println!("cargo:rustc-link-lib=static={name}");
+    }
+    println!("cargo:rustc-link-search=native={}", folder.display());
+}
+
+fn folder() -> PathBuf {
+    if let Some(folder) = env::var_os("ARCHIVES") {
+        return folder.into();
+    }
+    let here = env::var_os("CARGO_MANIFEST_DIR").expect("cargo sets it");
+    PathBuf::from(here).join("../../target/staticlib")
+}
