@@ -12,7 +12,7 @@ pub fn link(name: &str) {
     let folder = here.join("../../target/staticlib");
     let archive = folder.join(format!("lib{name}.a"));
     println!("cargo:rerun-if-changed={}", archive.display());
-    assert!(archive.exists(), "run `rt staticlib {name}` first");
+    assert!(archive.exists(), "run tools/archives {name} first");
     println!("cargo:rustc-link-search=native={}", folder.display());
     println!("cargo:rustc-link-lib=static={name}");
 }
