@@ -1,0 +1,57 @@
+//! What stands ahead in the text.
+
+use super::Parser;
+use crate::scan::{Fault, Token, What};
+
+impl<'a> Parser<'a> {
+    /// The last of the tokens, the end, is never skipped.
+    pub(super) fn ahead(&self) -> Token<'a> {
+        self.tokens[0]
+    }
+
+    pub(super) fn is_ahead(&self, mark: &str) -> bool {
+        matches!(self.ahead().what, What::Mark(found) if found == mark)
+    }
+
+    pub(super) fn skip(&mut self) {
+        self.tokens = &self.tokens[1..];
+    }
+
+    pub(super) fn take(&mut self, mark: &str) -> bool {
+        let found = self.is_ahead(mark);
+        if found {
+            self.skip();
+        }
+        found
+    }
+
+    pub(super) fn expect(&mut self, mark: &str) -> Result<(), Fault> {
+        if self.take(mark) {
+            return Ok(());
+        }
+        Err(self.fault(&format!("`{mark}`")))
+    }
+
+    pub(super) fn number(&mut self) -> Result<u32, Fault> {
+        let What::Number(number) = self.ahead().what else {
+            return Err(self.fault("a number"));
+        };
+        self.skip();
+        Ok(number)
+    }
+
+    /// Any name; `_` is epsilon's.
+    pub(super) fn name(&mut self, expected: &str) -> Result<&'a str, Fault> {
+        match self.ahead().what {
+            What::Name(name) if name != "_" => {
+                self.skip();
+                Ok(name)
+            }
+            _ => Err(self.fault(expected)),
+        }
+    }
+
+    pub(super) fn fault(&self, expected: &str) -> Fault {
+        self.ahead().fault(expected)
+    }
+}

@@ -1,0 +1,124 @@
+//! What a text means, and that it comes back as it was written.
+
+use notation::{Kind, Label, Place, Printer, Reference, Style, parse, parse_names, print};
+
+const ALL: &str = "\
+%kind combined;
+%preserve a;
+e !1: a? DOTS | ~3 # <o=1,p=2> x=INT {$INT $x.text} |;
+a@5: e[5]+? .~7 &{$e::depth} ( e | X ) ( - ) _* PLUS<q=9>~8;
+";
+
+#[test]
+fn plain_text_comes_back_as_it_was_written() {
+    let grammar = parse(ALL).expect("the notation");
+    assert_eq!(print(&grammar, Style::Plain), ALL);
+}
+
+#[test]
+fn comments_and_gaps_mean_nothing() {
+    let spaced = "\u{feff}// head\r\ne // a rule\n:\ta|INT // end ; | {\n;a:e PLUS e;//";
+    assert_eq!(parse(spaced), parse("e: a | INT; a: e PLUS e;"));
+}
+
+/// SPECIFICATION 15.20.
+#[test]
+fn the_first_worked_grammar() {
+    let made = parse("e: a | INT; a: e PLUS e;").unwrap();
+    let rows = [
+        &[1, 1, 0, 2, 10, 0, 0, 0, 1, 20, 0, 3, 0, 0, 0, 2, 0][..],
+        &[11, 0, 0, 0, 1, 21, 0, 4, 0, 0, 0, 3],
+        &[2, 2, 0, 1, 12, 0, 0, 0, 3, 22, 0, 3, 0, 0, 0, 1, 0],
+        &[23, 0, 4, 0, 0, 0, 4, 24, 0, 3, 0, 0, 0, 1, 0],
+        &[2, 61, 0, 13, 25, 0, 0, 0],
+    ];
+    assert_eq!(made.sheet.words(), rows.concat());
+    assert_eq!(made.sheet.bytes().len(), 276);
+}
+
+#[test]
+fn names_are_numbered_as_they_appear() {
+    let made = parse("e: a_1 T_2 | stage_1 T_70000; a_1: o_07;").unwrap();
+    let names: Vec<_> = made.names.all().collect();
+    let texts = [
+        (1, "e"),
+        (3, "a_1"),
+        (4, "stage_1"),
+        (5, "T_70000"),
+        (6, "o_07"),
+    ];
+    assert_eq!(names, texts, "2 is the number of T_2");
+    assert_eq!(made.names.number("T_2"), Some(2));
+    assert_eq!(made.names.text(2), None);
+}
+
+#[test]
+fn names_can_have_numbers_of_their_own() {
+    let made = parse("%names INT=9 e=4; e: INT X;").unwrap();
+    let sheet = &made.sheet;
+    assert_eq!(sheet.rules[0].name, 4);
+    let elements = &sheet.rules[0].alternatives[0].elements;
+    assert_eq!(
+        (&elements[0].kind, &elements[1].kind),
+        (&Kind::Token(9), &Kind::Token(1))
+    );
+    let table = notation::names_text(&made.names);
+    assert_eq!(table, "%names\n    X=1\n    e=4\n    INT=9\n;\n");
+    let again = parse_names(table.as_bytes()).unwrap();
+    assert!(again.all().eq(made.names.all()));
+}
+
+/// A table that does not fit the sheet changes nothing of what the text means.
+#[test]
+fn names_that_do_not_fit_are_written_by_number() {
+    let mut made = parse("e: a INT; a: INT;").unwrap();
+    made.names = parse_names(b"%names e=1 A=2 int=3;").unwrap();
+    let text = print(&made, Style::Plain);
+    assert_eq!(text, "e: r_2 T_3;\nr_2: T_3;\n");
+    assert_eq!(parse(&text).unwrap().sheet, made.sheet);
+}
+
+#[test]
+fn ids_follow_on_in_reading_order() {
+    let made = parse("e: x=( @50 y@7=INT {@3 $x} | ^90 {} ) &{};")
+        .unwrap()
+        .sheet;
+    let outer = &made.rules[0].alternatives[0].elements;
+    assert_eq!(
+        (outer[0].id, outer[0].label),
+        (20, Some(Label { id: 0, name: 2 }))
+    );
+    let Kind::Block(inner) = &outer[0].kind else {
+        panic!("a block")
+    };
+    assert_eq!((inner[0].id, inner[1].id), (50, 51));
+    assert_eq!(inner[0].elements[0].label.map(|label| label.id), Some(7));
+    assert_eq!((inner[1].elements[0].id, outer[1].id), (90, 91));
+    let Kind::Action(body) = &inner[0].elements[1].kind else {
+        panic!("an action")
+    };
+    let reference = Reference { kind: 0, name: 2 };
+    assert_eq!((body.id, &body.references[..]), (3, &[reference][..]));
+    let own = made.counters;
+    assert_eq!((own.alternative, own.element, own.label), (52, 92, 8));
+    assert_eq!((own.action, own.predicate), (5, 1));
+}
+
+#[test]
+fn preserved_rules_by_name_and_by_id() {
+    let made = parse("%preserve a 9; %preserve 9; e: a; a@3: X;").unwrap();
+    assert_eq!(made.sheet.preserved, [3, 9]);
+    assert!(print(&made, Style::Plain).starts_with("%preserve a 9;\n"));
+}
+
+#[test]
+fn parts_are_printed_one_by_one() {
+    let grammar = parse("e: a? x=INT | ;").unwrap();
+    let mut printer = Printer::of(&grammar, Style::Plain);
+    let rule = &grammar.sheet.rules[0];
+    assert_eq!(printer.head(rule), "e");
+    assert_eq!(printer.alternative(&rule.alternatives[0]), " a? x=INT");
+    assert_eq!(printer.alternative(&rule.alternatives[1]), "");
+    assert_eq!(printer.name(1, Place::Rule), "e");
+    assert_eq!(printer.name(77, Place::Token), "T_77");
+}
