@@ -28,11 +28,9 @@ pub fn slots(before: &Sheet, after: &Sheet, reading: Reading) -> BTreeMap<u32, u
     slots
 }
 
-fn each(sheet: &mut Sheet, mut see: impl FnMut(&mut Alternative)) {
+fn each(sheet: &mut Sheet, see: impl FnMut(&mut Alternative)) {
     let rules = sheet.rules.iter_mut();
-    rules
-        .flat_map(|rule| &mut rule.alternatives)
-        .for_each(|own| see(own));
+    rules.flat_map(|rule| &mut rule.alternatives).for_each(see);
 }
 
 /// For each new alternative of a rule the one from which it was taken last, by their ids (SPECIFICATION 8.9, 12.4).
