@@ -1,7 +1,6 @@
 //! `join`: a grammar's left-recursive cycles joined by the proved pass, printed with where each alternative came from.
 #![forbid(unsafe_code)]
 
-mod help;
 mod input;
 mod listing;
 mod options;
@@ -19,9 +18,12 @@ use crate::input::Input;
 use crate::options::{Asked, Options};
 use crate::stop::{Status, Stop};
 
+/// ./join prints it too, before anything is built.
+const HELP: &str = include_str!("../help.txt");
+
 fn main() -> ExitCode {
     let done = match options::asked(std::env::args_os().skip(1)) {
-        Ok(Asked::Help) => printed(help::HELP),
+        Ok(Asked::Help) => printed(HELP),
         Ok(Asked::Join(options)) => run(&options),
         Err(stop) => Err(stop),
     };
