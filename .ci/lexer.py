@@ -23,7 +23,7 @@ ANTT = re.compile(
 )
 
 # What builds leave, and git.
-BUILT = (".git", "target", "harness/target")
+BUILT = (".git", "target", "harness/target", "rust/target")
 
 
 def line_of(text, at):
