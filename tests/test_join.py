@@ -12,6 +12,7 @@ from unittest import mock
 import join
 from grouping import alternatives, grouped
 
+TARGET = pathlib.Path(__file__).resolve().parent.parent / "target"
 GOOD = "// joined\n\ne:\n    e PLUS e  // slot e 1, origin a 1\n  | INT  // slot e 2, untouched\n;\n"
 
 
@@ -19,7 +20,8 @@ class Folder(unittest.TestCase):
     """An example with what is stored of it, and programs that print what a test has them print."""
 
     def setUp(self):
-        folder = tempfile.TemporaryDirectory()
+        TARGET.mkdir(exist_ok=True)
+        folder = tempfile.TemporaryDirectory(prefix="join-", dir=TARGET)
         self.addCleanup(folder.cleanup)
         self.root = pathlib.Path(folder.name)
         self.examples = self.root / "examples"

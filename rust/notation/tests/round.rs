@@ -3,7 +3,9 @@
 mod grow;
 
 use grow::Random;
-use notation::{Grammar, Names, Sheet, Style, alternatives, parse, parse_names, print};
+use notation::{
+    Grammar, Names, Sheet, Style, alternatives, parse, parse_bytes, parse_names, print,
+};
 
 const TREES: u64 = 2_000;
 
@@ -75,6 +77,34 @@ fn plain_text_comes_back() {
         let back = parse(&text).unwrap_or_else(|fault| panic!("{fault}: {text}"));
         assert_eq!(print(&back, Style::Plain), text, "seed {seed}");
     }
+}
+
+/// A text with some characters changed is a grammar or has a fault in one of its lines, and nothing goes wrong.
+#[test]
+fn damaged_texts_are_read_or_not() {
+    const MARKS: &[u8] = b"::;;||?*+()[]<>{}&$@~^#!=,.-%_/eX7 \n\xff";
+    let (mut read, mut unread) = (0, 0);
+    for seed in 0..TREES {
+        let mut random = Random(seed);
+        let mut text = print(&grammar(seed), Style::Full).into_bytes();
+        for _ in 0..random.below(4) * u32::from(!text.is_empty()) {
+            let place = random.below(text.len() as u32) as usize;
+            text[place] = MARKS[random.below(MARKS.len() as u32) as usize];
+        }
+        let lines = 1 + text.iter().filter(|byte| **byte == b'\n').count();
+        match parse_bytes(&text) {
+            Ok(grammar) => {
+                let again = print(&grammar, Style::Full);
+                assert_eq!(parse(&again).unwrap().sheet, grammar.sheet, "{again}");
+                read += 1;
+            }
+            Err(fault) => {
+                assert!((1..=lines).contains(&fault.line), "{fault}");
+                unread += 1;
+            }
+        }
+    }
+    assert!(read > 100 && unread > 100, "{read} {unread}");
 }
 
 /// That the trees above have everything in them that the notation can write.
