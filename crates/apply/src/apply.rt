@@ -78,13 +78,16 @@ fn put(
     n: usize,
     entries: usize,
 ) -> Applied
-    requires { ⌜ Buffers (now result) (now trail) (now work) × (recorded ≤ mostEntries) × (n ≤ mostWords) × (end ≤ to) × (to ≤ mostWords) ⌝ }
-    requires { ⌜ Applicable (now result) (now work) end to rules p × RefusedBy (now result) (now work) end to rules p counters recorded 0 ⌝ }
-    requires { ⌜ WordsAfter (now result) (now work) end to rules p n × EntriesAfter (now result) (now work) end to rules p recorded entries ⌝ }
+    requires { ⌜ Buffers (now result) (now trail) (now work) × (recorded ≤ mostEntries) × (n ≤ mostWords) × (end ≤ to)
+        × (to ≤ mostWords) ⌝ }
+    requires { ⌜ Applicable (now result) (now work) end to rules p
+        × RefusedBy (now result) (now work) end to rules p counters recorded 0 ⌝ }
+    requires { ⌜ WordsAfter (now result) (now work) end to rules p n
+        × EntriesAfter (now result) (now work) end to rules p recorded entries ⌝ }
     ensures { λ r. ⌜ AppliedOf (now (result .entry)) (now (work .entry)) end to rules counters p recorded
         (now (result .exit)) (now (trail .entry)) (now (trail .exit)) r ⌝ }
-    ensures { λ _. ⌜ (length (now (result .exit)) ≡ length (now (result .entry))) × (length (now (trail .exit)) ≡ length (now (trail .entry)))
-        × (length (now (work .exit)) ≡ length (now (work .entry))) ⌝ }
+    ensures { λ _. ⌜ (length (now (result .exit)) ≡ length (now (result .entry)))
+        × (length (now (trail .exit)) ≡ length (now (trail .entry))) × (length (now (work .exit)) ≡ length (now (work .entry))) ⌝ }
 {
     let pen = Pen {
         to: Draft::FIRST,
@@ -124,8 +127,8 @@ pub fn apply(
     requires { ⌜ Applicable (now result) (now work) end to rules p ⌝ }
     ensures { λ r. ⌜ AppliedOf (now (result .entry)) (now (work .entry)) end to rules counters p recorded
         (now (result .exit)) (now (trail .entry)) (now (trail .exit)) r ⌝ }
-    ensures { λ _. ⌜ (length (now (result .exit)) ≡ length (now (result .entry))) × (length (now (trail .exit)) ≡ length (now (trail .entry)))
-        × (length (now (work .exit)) ≡ length (now (work .entry))) ⌝ }
+    ensures { λ _. ⌜ (length (now (result .exit)) ≡ length (now (result .entry)))
+        × (length (now (trail .exit)) ≡ length (now (trail .entry))) × (length (now (work .exit)) ≡ length (now (work .entry))) ⌝ }
 {
     let l = p.l;
     let m = measure(result, end, work, l);

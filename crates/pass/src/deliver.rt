@@ -26,8 +26,8 @@ fn deliver_sheet(
 ) -> Ended
     requires { ⌜ Lent (now sheet) (now result) (now trail) (now work) × AreBytes (now sheet) × WasSheet (now sheet) rules parts ⌝ }
     ensures { λ r. ⌜ Answered past (now (sheet .entry)) (now (result .exit)) (now (trail .exit)) r ⌝ }
-    ensures { λ _. ⌜ (length (now (result .exit)) ≡ length (now (result .entry))) × (length (now (trail .exit)) ≡ length (now (trail .entry)))
-        × (length (now (work .exit)) ≡ length (now (work .entry))) ⌝ }
+    ensures { λ _. ⌜ (length (now (result .exit)) ≡ length (now (result .entry)))
+        × (length (now (trail .exit)) ≡ length (now (trail .entry))) × (length (now (work .exit)) ≡ length (now (work .entry))) ⌝ }
 {
     let n = sheet.len() / 4;
     copy_words(sheet, 0, result, 0, n);
@@ -68,8 +68,8 @@ pub fn deliver(
 ) -> Ended
     requires { ⌜ Lent (now sheet) (now result) (now trail) (now work) × AreBytes (now sheet) ⌝ }
     ensures { λ r. ⌜ Answered past (now (sheet .entry)) (now (result .exit)) (now (trail .exit)) r ⌝ }
-    ensures { λ _. ⌜ (length (now (result .exit)) ≡ length (now (result .entry))) × (length (now (trail .exit)) ≡ length (now (trail .entry)))
-        × (length (now (work .exit)) ≡ length (now (work .entry))) ⌝ }
+    ensures { λ _. ⌜ (length (now (result .exit)) ≡ length (now (result .entry)))
+        × (length (now (trail .exit)) ≡ length (now (trail .entry))) × (length (now (work .exit)) ≡ length (now (work .entry))) ⌝ }
 {
     let r = examine(sheet, work);
     let rules = r.rules;

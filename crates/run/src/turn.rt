@@ -105,8 +105,8 @@ fn advance(
     requires { ⌜ Advancing (limitsOf limits) past (now result) (now trail) (now work) (now calls) (now corners) st p ⌝ }
     ensures { λ r. ⌜ AdvancedOf (limitsOf limits) past (now (result .entry)) (now (trail .entry)) (now (work .entry)) (now (calls .entry))
         (now (corners .entry)) st p (now (result .exit)) (now (trail .exit)) (now (calls .exit)) (now (corners .exit)) r ⌝ }
-    ensures { λ _. ⌜ (length (now (result .exit)) ≡ length (now (result .entry))) × (length (now (trail .exit)) ≡ length (now (trail .entry)))
-        × (length (now (work .exit)) ≡ length (now (work .entry))) ⌝ }
+    ensures { λ _. ⌜ (length (now (result .exit)) ≡ length (now (result .entry)))
+        × (length (now (trail .exit)) ≡ length (now (trail .entry))) × (length (now (work .exit)) ≡ length (now (work .entry))) ⌝ }
     ensures { λ _. ⌜ (length (now (calls .exit)) ≡ ruleLimit) × (length (now (corners .exit)) ≡ ruleLimit) ⌝ }
 {
     let rules = st.rules;
@@ -153,10 +153,10 @@ pub fn take_turn(
     requires { ⌜ Buffers (now result) (now trail) (now work) × LimitsFit limits × Small limits × (room ≡ mostWords) ⌝ }
     requires { ⌜ (length (now calls) ≡ ruleLimit) × (length (now corners) ≡ ruleLimit) ⌝ }
     requires { ⌜ Going (limitsOf limits) past (now result) (now trail) (now calls) (now corners) st ⌝ }
-    ensures { λ r. ⌜ TurnedOf (limitsOf limits) past (now (result .entry)) (now (trail .entry)) (now (calls .entry)) (now (corners .entry)) st
-        (now (result .exit)) (now (trail .exit)) (now (calls .exit)) (now (corners .exit)) r ⌝ }
-    ensures { λ _. ⌜ (length (now (result .exit)) ≡ length (now (result .entry))) × (length (now (trail .exit)) ≡ length (now (trail .entry)))
-        × (length (now (work .exit)) ≡ length (now (work .entry))) ⌝ }
+    ensures { λ r. ⌜ TurnedOf (limitsOf limits) past (now (result .entry)) (now (trail .entry)) (now (calls .entry))
+        (now (corners .entry)) st (now (result .exit)) (now (trail .exit)) (now (calls .exit)) (now (corners .exit)) r ⌝ }
+    ensures { λ _. ⌜ (length (now (result .exit)) ≡ length (now (result .entry)))
+        × (length (now (trail .exit)) ≡ length (now (trail .entry))) × (length (now (work .exit)) ≡ length (now (work .entry))) ⌝ }
     ensures { λ _. ⌜ (length (now (calls .exit)) ≡ ruleLimit) × (length (now (corners .exit)) ≡ ruleLimit) ⌝ }
 {
     let rules = st.rules;

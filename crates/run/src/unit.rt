@@ -35,8 +35,8 @@ pub fn run_unit(
     requires { ⌜ Buffers (now result) (now trail) (now work) × LimitsFit limits × Small limits × (room ≡ mostWords) × (recorded ≡ 0) ⌝ }
     requires { ⌜ Begun (now result) end to rules counters ⌝ }
     ensures { λ r. ⌜ RunOf (limitsOf limits) past (now (result .entry)) end to rules counters (now (result .exit)) (now (trail .exit)) r ⌝ }
-    ensures { λ _. ⌜ (length (now (result .exit)) ≡ length (now (result .entry))) × (length (now (trail .exit)) ≡ length (now (trail .entry)))
-        × (length (now (work .exit)) ≡ length (now (work .entry))) ⌝ }
+    ensures { λ _. ⌜ (length (now (result .exit)) ≡ length (now (result .entry)))
+        × (length (now (trail .exit)) ≡ length (now (trail .entry))) × (length (now (work .exit)) ≡ length (now (work .entry))) ⌝ }
 {
     let mut calls = [[0u64; Row::WORDS]; Row::RULES];
     let mut corners = [[0u64; Row::WORDS]; Row::RULES];
