@@ -59,16 +59,30 @@ pub struct Plan {
 pub fn cycles(sheet: &[u8], reading: Reading) -> Result<Vec<CycleLeft>, Refusal> {
     let mut work = vec![0; WORK_BYTES];
     let ids = rule_ids(sheet, &mut work)?;
-    let mut facts = Facts::NONE;
-    lent::find_facts(sheet, &mut work, reading.textbook(), &mut facts);
-    let [refusal, _, count] = facts.numbers;
-    Refusal::none(refusal)?;
-    let found = facts.cycles.iter().zip(0..count);
+    let rows = find_cycles(sheet, &mut work, reading)?;
+    let found = rows.iter().zip(0..);
     let left = found.map(|(row, nth)| CycleLeft {
         members: ids_of(row, &ids),
         decision: decide(sheet, &mut work, reading, nth, &ids),
     });
     Ok(left.collect())
+}
+
+/// The members of each cycle.
+fn find_cycles(sheet: &[u8], work: &mut [u8], reading: Reading) -> Result<Vec<Row>, Refusal> {
+    let mut numbers = [0; 3];
+    let mut cycles = [[0; 2]; RULES];
+    let facts = Facts {
+        numbers: &mut numbers,
+        marks: &mut [0; 4],
+        calls: &mut [[0; 2]; RULES],
+        corners: &mut [[0; 2]; RULES],
+        cycles: &mut cycles,
+    };
+    lent::find_facts(sheet, work, reading.textbook(), facts);
+    let [refusal, _, count] = numbers;
+    Refusal::none(refusal)?;
+    Ok(cycles[..count as usize].to_vec())
 }
 
 /// The ids of the rules, in the order of the sheet, with zeros behind them.

@@ -121,34 +121,23 @@ pub fn first_plan(
 }
 
 /// What [`find_facts`] fills.
-#[derive(Clone, Debug, PartialEq, Eq)]
-pub struct Facts {
+#[derive(Debug)]
+pub struct Facts<'a> {
     /// The refusal or 0, how many rules there are, how many cycles.
-    pub numbers: [u32; 3],
+    pub numbers: &'a mut [u32; 3],
     /// The row of the nullable rules, then that of the rules that cannot be inlined.
-    pub marks: [u64; 4],
+    pub marks: &'a mut [u64; 4],
     /// Of each rule those that it calls.
-    pub calls: Rows,
+    pub calls: &'a mut Rows,
     /// Of each rule its left corners.
-    pub corners: Rows,
+    pub corners: &'a mut Rows,
     /// Of each cycle its members.
-    pub cycles: Rows,
+    pub cycles: &'a mut Rows,
 }
 
-impl Facts {
-    /// Of a sheet without rules.
-    pub const NONE: Facts = Facts {
-        numbers: [0; 3],
-        marks: [0; 4],
-        calls: [[0; 2]; 128],
-        corners: [[0; 2]; 128],
-        cycles: [[0; 2]; 128],
-    };
-}
-
-/// What is found out about the rules of a sheet, in the original's reading where `textbook` is 0. Nothing that is in `facts`
-/// stays.
-pub fn find_facts(sheet: &[u8], work: &mut [u8], textbook: u32, facts: &mut Facts) {
+/// What is found out about the rules of a sheet, in the original's reading where `textbook` is 0. Nothing stays of what the
+/// facts held before.
+pub fn find_facts(sheet: &[u8], work: &mut [u8], textbook: u32, facts: Facts) {
     // SAFETY: as in `pass`.
     unsafe {
         archives::find_facts(
@@ -157,11 +146,11 @@ pub fn find_facts(sheet: &[u8], work: &mut [u8], textbook: u32, facts: &mut Fact
             work.as_mut_ptr(),
             work.len(),
             textbook,
-            &mut facts.numbers,
-            &mut facts.marks,
-            &mut facts.calls,
-            &mut facts.corners,
-            &mut facts.cycles,
+            facts.numbers,
+            facts.marks,
+            facts.calls,
+            facts.corners,
+            facts.cycles,
         );
     }
 }

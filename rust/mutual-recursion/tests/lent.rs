@@ -212,21 +212,28 @@ fn facts_and_parts() {
         .find(|record| record.name == "example 6")
         .expect("stored");
     // e: a | INT; a: e n; n: ;
-    let mut facts = Facts {
-        numbers: [9; 3],
-        marks: [9; 4],
-        calls: [[9; 2]; 128],
-        corners: [[9; 2]; 128],
-        cycles: [[9; 2]; 128],
+    let (mut numbers, mut marks) = ([9; 3], [9; 4]);
+    let [mut calls, mut corners, mut cycles] = [[[9; 2]; RULES]; 3];
+    let facts = Facts {
+        numbers: &mut numbers,
+        marks: &mut marks,
+        calls: &mut calls,
+        corners: &mut corners,
+        cycles: &mut cycles,
     };
-    lent::find_facts(&example.sheet, &mut work, 0, &mut facts);
-    let mut expected = Facts::NONE;
-    expected.numbers = [0, 3, 1];
-    expected.marks = [0b100, 0, 0, 0];
-    (expected.calls[0][0], expected.calls[1][0]) = (0b010, 0b101);
-    (expected.corners[0][0], expected.corners[1][0]) = (0b010, 0b001);
-    expected.cycles[0][0] = 0b011;
-    assert_eq!(facts, expected);
+    lent::find_facts(&example.sheet, &mut work, 0, facts);
+    let rows = |front: &[u64]| {
+        let mut all = [[0; 2]; RULES];
+        front
+            .iter()
+            .zip(&mut all)
+            .for_each(|(low, row)| row[0] = *low);
+        all
+    };
+    assert_eq!((numbers, marks), ([0, 3, 1], [0b100, 0, 0, 0]));
+    assert_eq!(calls, rows(&[0b010, 0b101]));
+    assert_eq!(corners, rows(&[0b010, 0b001]));
+    assert_eq!(cycles, rows(&[0b011]));
 
     let (mut numbers, mut ids, mut names, mut places) =
         ([9; 12], [9; RULES], [9; RULES], [9; RULES]);
