@@ -36,10 +36,10 @@ pub enum Next {
 }
 
 // The better of rule i and the best in front of it; n is none.
-fn better(ids: [u32; Row::RULES], left: [u64; Row::WORDS], n: usize, best: usize, i: usize) -> usize
-    requires { ⌜ Best ids left n i best ⌝ }
+fn better(ids: &[u32; Row::RULES], left: [u64; Row::WORDS], n: usize, best: usize, i: usize) -> usize
+    requires { ⌜ Best (now ids) left n i best ⌝ }
     requires { ⌜ (i < n) × (n ≤ ruleLimit) ⌝ }
-    ensures { λ r. ⌜ Best ids left n (i + 1) r ⌝ }
+    ensures { λ r. ⌜ Best (now (ids .entry)) left n (i + 1) r ⌝ }
 {
     if has(left, i) {
         if best == n {
@@ -59,7 +59,7 @@ pub fn first(ids: [u32; Row::RULES], left: [u64; Row::WORDS], n: usize) -> Next
     let mut best = n;
     let mut i = 0;
     while i < n {
-        best = better(ids, left, n, best, i);
+        best = better(&ids, left, n, best, i);
         i += 1;
     }
     if best < n {

@@ -13,14 +13,14 @@ returns c = search (needs, choosing)
 mul-if3 : tie.Need-mul-if3
 mul-if3 c = search needs
 
-array-read-if3 : tie.Need-array-read-if3
-array-read-if3 c = search needs
+element-copy-out-if3 : tie.Need-element-copy-out-if3
+element-copy-out-if3 c = search needs
 
 mul-if3-2 : tie.Need-mul-if3-2
 mul-if3-2 c = search needs
 
-array-read-if3-2 : tie.Need-array-read-if3-2
-array-read-if3-2 c = search needs
+element-copy-out-if3-2 : tie.Need-element-copy-out-if3-2
+element-copy-out-if3-2 c = search needs
 
 returns-2 : tie.Need-returns-2
 returns-2 c = search (needs, choosing)
@@ -38,9 +38,9 @@ better-spec =
     has-requires
     returns
     mul-if3
-    array-read-if3
+    element-copy-out-if3
     mul-if3-2
-    array-read-if3-2
+    element-copy-out-if3-2
     returns-2
     returns-3
     returns-4)

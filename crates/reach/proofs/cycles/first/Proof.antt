@@ -8,10 +8,10 @@ use Rattle.reach.proofs.cycles.first.Statement.{statement}
 use Rattle.reach.proofs.cycles.first.Tie as tie
 
 abbrev Inv-loop : tie.InvT-loop
-Inv-loop ids left n best₀ i₀ best i = (i ≤ n) × Best ids left n i best
+Inv-loop left n ids best₀ i₀ best i = (i ≤ n) × Best ids left n i best
 
 abbrev μ-loop : tie.MeasureT-loop
-μ-loop ids left n best₀ i₀ best i = n - i
+μ-loop left n ids best₀ i₀ best i = n - i
 
 loop-holds : tie.Need-loop-holds Inv-loop μ-loop
 loop-holds c = search (needs, choosing)
