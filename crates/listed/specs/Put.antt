@@ -1,0 +1,17 @@
+-- What it is to write text into a lent buffer, as far as it fits: the place goes on past the end.
+use Prim.Native.Nat.{ℕ, _+_, _≤_}
+use mathlib.Core.Path.{_≡_}
+use mathlib.Core.List.{List}
+use lib.ListN.{length}
+use lib.Seq.{sets}
+
+-- Text stands from a place on, in as much of the buffer as there is; `next` is the place behind it.
+pub record Put (before after : List ℕ) (at next : ℕ) (text : List ℕ) : Type 0 where
+  pub is : after ≡ sets before at text
+  pub long : length after ≡ length before
+  pub moved : next ≡ at + length text
+
+-- So does text of at most so many bytes.
+pub record PutFew (before after : List ℕ) (at next : ℕ) (text : List ℕ) (most : ℕ) : Type 0 where
+  pub put : Put before after at next text
+  pub few : next ≤ at + most
