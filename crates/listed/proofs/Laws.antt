@@ -1,3 +1,4 @@
 pub mod Put
 pub mod Text
 pub mod Lines
+pub mod Walk

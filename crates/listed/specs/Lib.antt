@@ -1,3 +1,4 @@
 pub mod Text
 pub mod Listed
 pub mod Put
+pub mod Walk

@@ -1,3 +1,4 @@
 // The listing (SPECIFICATION 16.2): the text of an answer, written into a lent buffer as far as it fits.
 mod lines;
 mod text;
+mod walk;
