@@ -2,3 +2,4 @@ pub mod Text
 pub mod Listed
 pub mod Put
 pub mod Walk
+pub mod Ready
