@@ -16,7 +16,7 @@ use Rattle.reference.specs.Numbers.{mostEntries, entryWords}
 use Rattle.reference.specs.Apply.{Entry}
 use Rattle.reference.specs.Run.{encodeEntry}
 use Rattle.listed.specs.Listed.{ruleLines, entryLine, listedRules}
-use Rattle.listed.specs.Put.{Put}
+use Rattle.listed.specs.Put.{Put, Filled}
 use Rattle.listed.specs.Walk.{FoundEntries}
 
 -- Rules that stand from the first word up to a place.
@@ -63,8 +63,7 @@ pub record EntriesPut (trail : List ℕ) (k : ℕ) (before after : List ℕ) (at
 abbrev pub mostText : ℕ
 mostText = 10 * mostWords + 64 + 46 * mostEntries
 
--- The whole text stands in the buffer, as far as it fits.
+-- The whole text stands in the buffer.
 pub record JoinedPut (result trail : List ℕ) (n k plans steps : ℕ) (before after : List ℕ) (next : ℕ) : Type 0 where
-  pub put : (h : Held result n) (w : Recorded trail k)
-      → Put before after 0 next (listedRules plans steps (h .sheet .rules) (w .found .trees))
-  pub few : next ≤ mostText
+  pub text : (h : Held result n) (w : Recorded trail k)
+      → Filled before after next (listedRules plans steps (h .sheet .rules) (w .found .trees)) mostText

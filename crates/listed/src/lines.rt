@@ -91,7 +91,16 @@ pub fn line_of_four(text: &mut [u8], n: usize, letter: u8, a: u32, b: u32, v: u3
 }
 
 // A line of a letter and five numbers.
-pub fn line_of_five(text: &mut [u8], n: usize, letter: u8, a: u32, b: u32, c: u32, v: u32, w: u32) -> usize
+pub fn line_of_five(
+    text: &mut [u8],
+    n: usize,
+    letter: u8,
+    a: u32,
+    b: u32,
+    c: u32,
+    v: u32,
+    w: u32,
+) -> usize
     requires { ⌜ n < 2 ^ 35 ⌝ }
     ensures { λ r. ⌜ PutFew (now (text .entry)) (now (text .exit)) n r (T.line (letter ∷ []) (a ∷ b ∷ c ∷ v ∷ w ∷ [])) 57 ⌝ }
 {

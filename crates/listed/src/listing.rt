@@ -8,12 +8,12 @@ use words::words::word;
 ghost use Prim.Native.Nat.{_≤_};
 ghost use lib.ListN.{length};
 ghost use Rattle.listed.specs.Listed.{listedRefusal};
-ghost use Rattle.listed.specs.Put.{PutFew};
-ghost use Rattle.listed.specs.Ready.{Held, Recorded, RulesEnd, JoinedPut};
+ghost use Rattle.listed.specs.Put.{Filled};
+ghost use Rattle.listed.specs.Ready.{Held, Recorded, RulesEnd, JoinedPut, mostText};
 
 // The line of a refusal.
 pub fn list_refused(number: u32, text: &mut [u8]) -> usize
-    ensures { λ r. ⌜ PutFew (now (text .entry)) (now (text .exit)) 0 r (listedRefusal number) 19 ⌝ }
+    ensures { λ r. ⌜ Filled (now (text .entry)) (now (text .exit)) r (listedRefusal number) mostText ⌝ }
 {
     line_of_one(text, 0, b"refused", number)
 }

@@ -41,7 +41,15 @@ fn name_of(kind: u32, w: u32) -> u32
 }
 
 // The line of the element at `at` itself.
-fn element_line(s: &[u8], at: usize, kind: u32, payload: usize, level: u32, text: &mut [u8], n: usize) -> usize
+fn element_line(
+    s: &[u8],
+    at: usize,
+    kind: u32,
+    payload: usize,
+    level: u32,
+    text: &mut [u8],
+    n: usize,
+) -> usize
     requires { ⌜ (4 * at + 12 ≤ length (now s)) × (4 * payload + 4 ≤ length (now s)) × (n < 2 ^ 35) ⌝ }
     ensures { λ r. ⌜ PutFew (now (text .entry)) (now (text .exit)) n r
         (line elementWord (level ∷ getD (words (now (s .entry))) at 0 ∷ kind ∷ getD (words (now (s .entry))) (at + 2) 0 / kindEnd
@@ -63,7 +71,15 @@ fn alternative_line(s: &[u8], at: usize, level: u32, text: &mut [u8], n: usize) 
 }
 
 // The element at `at`, with all that is in it.
-fn element(s: &[u8], end: usize, depth: u32, level: u32, at: usize, text: &mut [u8], n: usize) -> Passed
+fn element(
+    s: &[u8],
+    end: usize,
+    depth: u32,
+    level: u32,
+    at: usize,
+    text: &mut [u8],
+    n: usize,
+) -> Passed
     requires { ⌜ Room (now s) end × (level + depth ≤ 8) × (n ≤ 10 * at + 64) ⌝ }
     requires { ⌜ FoundElement (words (now s)) end depth at ⌝ }
     ensures { λ r. ⌜ (r .n ≤ 10 * r .at + 64) × ElementWalked listing (words (now (s .entry))) end depth at
@@ -82,7 +98,16 @@ fn element(s: &[u8], end: usize, depth: u32, level: u32, at: usize, text: &mut [
 }
 
 // n elements from `at` on, likewise.
-fn elements(s: &[u8], end: usize, depth: u32, level: u32, count: u32, at: usize, text: &mut [u8], n: usize) -> Passed
+fn elements(
+    s: &[u8],
+    end: usize,
+    depth: u32,
+    level: u32,
+    count: u32,
+    at: usize,
+    text: &mut [u8],
+    n: usize,
+) -> Passed
     requires { ⌜ Room (now s) end × (level + depth ≤ 8) × (n ≤ 10 * at + 64) × (at ≤ end) ⌝ }
     requires { ⌜ FoundElements (words (now s)) end depth count at ⌝ }
     ensures { λ r. ⌜ (r .n ≤ 10 * r .at + 64) × ElementsWalked listing (words (now (s .entry))) end depth count at
@@ -101,7 +126,15 @@ fn elements(s: &[u8], end: usize, depth: u32, level: u32, count: u32, at: usize,
 }
 
 // The alternative at `at`, likewise.
-fn alternative(s: &[u8], end: usize, depth: u32, level: u32, at: usize, text: &mut [u8], n: usize) -> Passed
+fn alternative(
+    s: &[u8],
+    end: usize,
+    depth: u32,
+    level: u32,
+    at: usize,
+    text: &mut [u8],
+    n: usize,
+) -> Passed
     requires { ⌜ Room (now s) end × (level + depth ≤ 8) × (n ≤ 10 * at + 64) ⌝ }
     requires { ⌜ FoundAlternative (words (now s)) end depth at ⌝ }
     ensures { λ r. ⌜ (r .n ≤ 10 * r .at + 64) × AlternativeWalked listing (words (now (s .entry))) end depth at

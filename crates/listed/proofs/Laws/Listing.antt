@@ -19,9 +19,9 @@ use Rattle.grammar.specs.Laws.Stands.{stands-split, stands-length, stands-withi
 use Rattle.words.specs.Room.{Room}
 use Rattle.listed.specs.Text.{line}
 use Rattle.listed.specs.Listed.{okWord, refusedWord, listedRefusal, listedRules, ruleLines, entryLine}
-use Rattle.listed.specs.Put.{Put, PutFew}
-use Rattle.listed.specs.Ready.{Ruled, Held, Recorded, RulesEnd, RulesPut, EntriesPut, JoinedPut}
-use Rattle.listed.proofs.Laws.Put.{put-then}
+use Rattle.listed.specs.Put.{PutFew, Filled}
+use Rattle.listed.specs.Ready.{Ruled, Held, Recorded, RulesEnd, RulesPut, EntriesPut, JoinedPut, mostText}
+use Rattle.listed.proofs.Laws.Put.{put-then, put-filled}
 
 trailing : Sheet → List ℕ
 trailing s = s .kind ∷ length (encodeRules (s .rules) ++ s .preserved) ∷ length (s .preserved) ∷ encodeCounters (s .counters)
@@ -108,18 +108,13 @@ pub joined-put : {result trail : List ℕ} {n k end : ℕ} (plans steps : ℕ) {
 unfolding listedRules held-ruled
 joined-put plans steps h w o x y z =
     record {
-      put = λ g v. put-then (x .put) (put-then (y .put (held-ruled g o)) (z .put v));
-      few =
-          let e = z .few in
-          let f = y .few in
-          let l = o .low in
-          let m = h .most in
-          let t = w .few in
-          omega arith;
+      text = λ g v.
+          put-filled (put-then (x .put) (put-then (y .put (held-ruled g o)) (z .put v)))
+          (let e = z .few in let f = y .few in let l = o .low in let m = h .most in let t = w .few in omega arith);
     }
 
-pub refused-put : {b a : List ℕ} {r : ℕ} (n : ℕ) → PutFew b a 0 r (line refusedWord (n ∷ [])) 19 → PutFew b a 0 r (listedRefusal n) 19
+pub refused-put : {b a : List ℕ} {r : ℕ} (n : ℕ) → PutFew b a 0 r (line refusedWord (n ∷ [])) 19 → Filled b a r (listedRefusal n) mostText
 unfolding listedRefusal
-refused-put n p = p
+refused-put n p = put-filled (p .put) (let f = p .few in omega arith)
 
 pub ruleset listings = (held-trailer, held-word, held-preserved, rules-end, held-ruled, held-room, joined-put, refused-put)

@@ -5,9 +5,9 @@ use mathlib.Core.List.{List, [], _∷_, _++_}
 use native.Mathlib.Omega.{arith}
 use native.Mathlib.Nat.{add-zero}
 use native.Mathlib.Numerals.{add-one}
-use lib.ListN.{length, getD, set, take, length-append, length-set}
-use lib.Seq.{sets, set-out, take-suc, take-length}
-use Rattle.listed.specs.Put.{Put}
+use lib.ListN.{length, getD, set, take, drop, length-append, length-set}
+use lib.Seq.{sets, set-out, set-append-seam, append-snoc, take-suc, take-nil, take-length}
+use Rattle.listed.specs.Put.{Put, Filled}
 
 pub sets-append : (xs ys l : List ℕ) (i : ℕ) → sets l i (xs ++ ys) ≡ sets (sets l i xs) (i + length xs) ys
 sets-append [] ys l i = rw (add-zero i) refl
@@ -34,6 +34,26 @@ put-then {b} {m} {a} {n} {p} {q} {xs} {ys} v w =
       long = w .long ∙ v .long;
       moved = let l = length-append xs ys in let e = v .moved in let f = w .moved in omega arith;
     }
+
+-- From the front on: what is there, and what is behind it.
+sets-out : (xs l : List ℕ) (i : ℕ) → length l ≤ i → sets l i xs ≡ l
+sets-out [] l i h = refl
+sets-out (x ∷ xs) l i h =
+    ap (λ k. sets k (suc i) xs) (set-out l i x h) ∙ sets-out xs l (suc i) (omega arith)
+
+sets-front : (f b xs : List ℕ) → sets (f ++ b) (length f) xs ≡ f ++ (take (length b) xs ++ drop (length xs) b)
+sets-front f b [] = ap (λ l. f ++ (l ++ b)) (sym (take-nil (length b)))
+sets-front f [] (x ∷ xs) = sets-out (x ∷ xs) (f ++ []) (length f) (let e = length-append f [] in omega arith)
+sets-front f (y ∷ b) (x ∷ xs) =
+    let l : suc (length f) ≡ length (f ++ (x ∷ [])) = let e = length-append f (x ∷ []) in omega arith in
+    let s : set (f ++ (y ∷ b)) (length f) x ≡ (f ++ (x ∷ [])) ++ b = set-append-seam f y b x ∙ sym (append-snoc f x b) in
+    ap (λ k. sets k (suc (length f)) xs) s
+    ∙ ap (λ i. sets ((f ++ (x ∷ [])) ++ b) i xs) l
+    ∙ sets-front (f ++ (x ∷ [])) b xs
+    ∙ append-snoc f x (take (length b) xs ++ drop (length xs) b)
+
+pub put-filled : {b a : List ℕ} {r most : ℕ} {text : List ℕ} → Put b a 0 r text → r ≤ most → Filled b a r text most
+put-filled {b} {text = text} p h = record { is = p .is ∙ sets-front [] b text; long = p .moved ∙ omega arith; few = h }
 
 -- The first bytes of a word.
 pub record Writing (b : List ℕ) (n : ℕ) (word a : List ℕ) (i p : ℕ) : Type 0 where
