@@ -3,3 +3,4 @@ pub mod Listed
 pub mod Put
 pub mod Walk
 pub mod Ready
+pub mod Example
