@@ -1,5 +1,6 @@
 #!/usr/bin/env python3
-"""Runs a program on every sheet of tests/reading and compares what it prints (SPECIFICATION 16.1).
+"""Runs a reader on every sheet of tests/reading and compares the line that it prints: `refused` and the number, or `sheet` and the
+numbers of rules, alternatives, elements and preserved ids, nested nodes counted (SPECIFICATION 3.9).
 
 A sheet's name begins with what it is about:
   length                                          SPECIFICATION 4.1
@@ -13,7 +14,7 @@ A sheet's name begins with what it is about:
   plan                                            7 to 10
   case                                            15, by its number there
 
-usage: reading.py [PROGRAM]   (the built `inspect` if none is named)
+usage: reading.py PROGRAM   (`first`, over the proved reader, or `second`, of harness/reader)
 """
 
 import os
@@ -61,10 +62,10 @@ def example_is_case_1():
 
 
 def main():
-    program = sys.argv[1] if len(sys.argv) > 1 else str(ROOT / "target" / "bin" / "inspect")
-    if not os.access(program, os.X_OK):
-        print(f"reading: no program {program}")
-        return 1
+    if len(sys.argv) != 2 or not os.access(sys.argv[1], os.X_OK):
+        print("usage: reading.py PROGRAM")
+        return 2
+    program = sys.argv[1]
     passed, failed = 0, 0
     for name, sheet, expected in stored():
         got = printed(program, sheet)

@@ -6,6 +6,8 @@ pub const NUMBERS: usize = 396;
 /// The words in front of the rows, and the words of a row: ids, names, places.
 pub const FRONT: usize = 12;
 pub const ROW: usize = 128;
+const PRESERVED: usize = 3;
+const RULES: usize = 9;
 const ALTERNATIVES: usize = 10;
 const ELEMENTS: usize = 11;
 const IDS: usize = FRONT;
@@ -25,9 +27,9 @@ pub fn numbers(answer: &Result<Parts, u32>) -> [u32; NUMBERS] {
 fn fill(out: &mut [u32; NUMBERS], parts: &Parts) {
     out[1] = parts.kind;
     out[2] = parts.preserved_at;
-    out[3] = parts.preserved;
+    out[PRESERVED] = parts.preserved;
     out[4..9].copy_from_slice(&parts.counters);
-    out[9] = parts.rules.len() as u32;
+    out[RULES] = parts.rules.len() as u32;
     for (i, rule) in parts.rules.iter().enumerate() {
         out[IDS + i] = rule.id;
         out[NAMES + i] = rule.name;
@@ -37,16 +39,18 @@ fn fill(out: &mut [u32; NUMBERS], parts: &Parts) {
     out[ELEMENTS] = parts.elements;
 }
 
-/// The line that the program `inspect` prints.
+/// An answer as a line: its refusal, or how many rules, alternatives, elements and preserved ids the sheet has.
 pub fn line(answer: &Result<Parts, u32>) -> String {
-    match answer {
-        Err(refusal) => format!("refused {refusal}"),
-        Ok(p) => format!(
-            "sheet {} {} {} {}",
-            p.rules.len(),
-            p.alternatives,
-            p.elements,
-            p.preserved
-        ),
+    line_of(&numbers(answer))
+}
+
+/// The same of the answer's words.
+pub fn line_of(words: &[u32; NUMBERS]) -> String {
+    if words[0] != 0 {
+        return format!("refused {}", words[0]);
     }
+    format!(
+        "sheet {} {} {} {}",
+        words[RULES], words[ALTERNATIVES], words[ELEMENTS], words[PRESERVED]
+    )
 }

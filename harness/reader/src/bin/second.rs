@@ -1,4 +1,4 @@
-//! Reads a sheet on standard input with the second reader and prints the line of `inspect`.
+//! Reads a sheet on standard input with the second reader and prints its line.
 
 use std::io::Read;
 
