@@ -13,8 +13,6 @@ use Rattle.grammar.specs.Encode.{encode}
 use Rattle.grammar.specs.Valid.{okRules}
 use Rattle.grammar.specs.Found.{RulesSpan, FoundRules}
 use Rattle.reference.specs.Numbers.{mostEntries, entryWords}
-use Rattle.reference.specs.Apply.{Entry}
-use Rattle.reference.specs.Run.{encodeEntry}
 use Rattle.listed.specs.Listed.{ruleLines, entryLine, listedRules}
 use Rattle.listed.specs.Put.{Put, Filled}
 use Rattle.listed.specs.Walk.{FoundEntries}

@@ -1,12 +1,12 @@
 -- A sheet's lines written in one walk over its rules; and the entries of a trail.
 use Prim.Native.Nat.{ℕ, suc, _+_}
-use mathlib.Core.List.{List, []}
+use mathlib.Core.List.{List}
 use mathlib.Core.Bool.{Bool, true, false}
 use lib.ListN.{length}
 use lib.Seq.{sets}
 use lib.Dec.{eqb}
 use Rattle.grammar.specs.Numbers.{callKind, tokenKind, blockKind}
-use Rattle.grammar.specs.Tree.{Rule, bodyDepth, Block}
+use Rattle.grammar.specs.Tree.{Rule, bodyDepth}
 use Rattle.grammar.specs.Encode.{leafKind, encodeRule, encodeBlock}
 use Rattle.grammar.specs.Valid.{okRule, okBlock}
 use Rattle.grammar.specs.Found.{FoundMany}

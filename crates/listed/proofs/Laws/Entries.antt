@@ -1,17 +1,15 @@
 -- The entries of a trail listed one after the other.
-use Prim.Native.Nat.{ℕ, _+_, _-_, _*_, _≤_}
-use mathlib.Core.Path.{_≡_, refl, sym, ap, _∙_}
+use Prim.Native.Nat.{ℕ, _+_, _*_, _≤_}
+use mathlib.Core.Path.{_≡_, refl, ap, _∙_}
 use mathlib.Core.List.{List, [], _∷_}
-use mathlib.Core.Bool.{true}
 use native.Mathlib.Omega.{arith}
-use lib.ListN.{length, getD}
+use lib.ListN.{getD}
 use Rattle.grammar.specs.Lists.{each}
 use Rattle.grammar.specs.Words.{words}
 use Rattle.grammar.specs.Found.{Found}
 use Rattle.grammar.specs.Fold.{folded, WalkedOne}
 use Rattle.grammar.specs.Laws.Stands.{stands-length, stands-head}
 use Rattle.grammar.specs.Laws.Fold.{Folding, folding-all, folding-done}
-use Rattle.reference.specs.Numbers.{entryWords}
 use Rattle.reference.specs.Apply.{Entry}
 use Rattle.reference.specs.Run.{encodeEntry}
 use Rattle.listed.specs.Text.{line}

@@ -1,9 +1,9 @@
 -- Lines put piece by piece.
-use Prim.Native.Nat.{ℕ, _+_, _<_, _≤_}
-use mathlib.Core.Path.{_≡_, refl, sym, ap, _∙_, subst}
+use Prim.Native.Nat.{ℕ, _≤_}
+use mathlib.Core.Path.{_≡_, refl, sym, ap, subst}
 use mathlib.Core.List.{List, [], _∷_, _++_, append-assoc, append-nil}
 use native.Mathlib.Omega.{arith}
-use lib.ListN.{length, length-append}
+use lib.ListN.{length}
 use Rattle.listed.specs.Put.{Put, PutFew}
 use Rattle.listed.specs.Text.{space, newline, decimal, field, line}
 use Rattle.listed.proofs.Laws.Put.{put-then}

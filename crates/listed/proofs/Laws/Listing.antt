@@ -1,24 +1,23 @@
 -- The parts of a text, put together.
-use Prim.Native.Nat.{ℕ, zero, suc, _+_, _-_, _*_, _≤_, _<_, _^_}
-use mathlib.Core.Path.{_≡_, refl, sym, ap, _∙_, subst}
+use Prim.Native.Nat.{ℕ, _+_, _-_, _*_, _≤_}
+use mathlib.Core.Path.{_≡_}
 use mathlib.Core.List.{List, [], _∷_, _++_, append-assoc}
-use mathlib.Core.Bool.{true}
 use native.Mathlib.Omega.{arith}
-use lib.ListN.{length, getD, length-append}
+use lib.ListN.{length, getD}
 use lib.Dec.{leb}
 use borrow.Author.Tests.{leb-true}
-use Rattle.grammar.specs.Numbers.{trailerWords, mostWords, ruleLimit}
-use Rattle.grammar.specs.Lists.{each, all}
-use Rattle.grammar.specs.Tree.{Sheet, Rule, bodyDepth}
+use Rattle.grammar.specs.Numbers.{trailerWords, ruleLimit}
+use Rattle.grammar.specs.Lists.{all}
+use Rattle.grammar.specs.Tree.{Sheet, bodyDepth}
 use Rattle.grammar.specs.Words.{words}
 use Rattle.grammar.specs.Stands.{Stands}
-use Rattle.grammar.specs.Encode.{encode, encodeRules, encodeCounters, encodeBlock}
+use Rattle.grammar.specs.Encode.{encode, encodeRules, encodeCounters}
 use Rattle.grammar.specs.Valid.{okRule, okBlock, okRules}
 use Rattle.grammar.specs.Laws.Parse.{left-true, right-true}
-use Rattle.grammar.specs.Laws.Stands.{stands-split, stands-length, stands-within, run-stands}
+use Rattle.grammar.specs.Laws.Stands.{stands-split, stands-length, stands-within}
 use Rattle.words.specs.Room.{Room}
 use Rattle.listed.specs.Text.{line}
-use Rattle.listed.specs.Listed.{okWord, refusedWord, listedRefusal, listedRules, ruleLines, entryLine}
+use Rattle.listed.specs.Listed.{okWord, refusedWord, listedRefusal, listedRules}
 use Rattle.listed.specs.Put.{PutFew, Filled}
 use Rattle.listed.specs.Ready.{Ruled, Held, Recorded, RulesEnd, RulesPut, EntriesPut, JoinedPut, mostText}
 use Rattle.listed.proofs.Laws.Put.{put-then, put-filled}

@@ -1,28 +1,25 @@
 -- The rules of a sheet listed one after the other.
 use Prim.Native.Nat.{ℕ, zero, suc, _+_, _*_, _≤_}
-use mathlib.Core.Path.{_≡_, refl, sym, ap, _∙_, subst}
-use mathlib.Core.List.{List, [], _∷_, _++_, append-nil, append-assoc}
-use mathlib.Core.Bool.{Bool}
+use mathlib.Core.Path.{_≡_, refl, sym, ap, _∙_}
+use mathlib.Core.List.{List, [], _∷_, _++_}
 use native.Mathlib.Omega.{arith}
 use native.Mathlib.Nat.{add-zero}
 use lib.ListN.{length, getD, length-append}
-use lib.Seq.{sets, length-sets}
+use lib.Seq.{length-sets}
 use Rattle.grammar.specs.Numbers.{blockKind, ruleLimit}
-use Rattle.grammar.specs.Lists.{each, all}
-use Rattle.grammar.specs.Tree.{Element, leaf, block, AlternativeOf, Block, RuleOf, Rule, bodyDepth}
+use Rattle.grammar.specs.Lists.{each}
+use Rattle.grammar.specs.Tree.{leaf, block, Rule, bodyDepth}
 use Rattle.grammar.specs.Encode.{leafKind, encodeRule, encodeBlock}
 use Rattle.grammar.specs.Valid.{okRule, okBlock}
-use Rattle.grammar.specs.Read.{rulesAt}
-use Rattle.grammar.specs.Found.{Found, FoundRule, FoundRules}
-use Rattle.grammar.specs.Fold.{folded, elementFold, alternativeFold, blockFold, ruleFold, WalkedOne, WalkedMany, AlternativesWalked}
+use Rattle.grammar.specs.Fold.{folded, elementFold, alternativeFold, blockFold, ruleFold, AlternativesWalked}
 use Rattle.grammar.specs.Laws.Opened.{rule-words}
 use Rattle.grammar.specs.Laws.Complete.{rules-complete}
 use Rattle.grammar.specs.Laws.Found.{rule-room}
-use Rattle.grammar.specs.Laws.Fold.{Folding, folding-found, fold-rule, rule-walked}
+use Rattle.grammar.specs.Laws.Fold.{Folding, folding-found, rule-walked}
 use Rattle.records.specs.Rules.{RulesRead}
 use Rattle.records.specs.declared.rules.Rows.{Rows}
-use Rattle.listed.specs.Listed.{leafName, elementLine, alternativeLine, ruleLine, elementLines, alternativeLines, blockLines, ruleLines}
-use Rattle.listed.specs.Text.{line}
+use Rattle.listed.specs.Listed.{leafName, elementLine, alternativeLine, ruleLine, elementLines, alternativeLines}
+use Rattle.listed.specs.Listed.{blockLines, ruleLines}
 use Rattle.listed.specs.Put.{Put, PutFew}
 use Rattle.listed.specs.Walk.{Pen, pen, put, listing, ruleStep, RuleListed, RulesListed}
 use Rattle.listed.specs.Ready.{Ruled, Counted, RulesPut}
@@ -41,7 +38,8 @@ put-more p xs ys =
     rw (l, sets-append xs ys (p .buffer) (p .place)) refl
 
 -- Where one step puts a text, a walk over several puts their texts.
-pub puts : {A : Type 0} (step : Pen → A → Pen) (text : A → List ℕ) (level : ℕ) → ((p : Pen) (a : A) → p .level ≡ level → step p a ≡ put p (text a))
+pub puts : {A : Type 0} (step : Pen → A → Pen) (text : A → List ℕ) (level : ℕ)
+    → ((p : Pen) (a : A) → p .level ≡ level → step p a ≡ put p (text a))
     → (as′ : List A) (p : Pen) → p .level ≡ level → folded step p as′ ≡ put p (each text as′)
 unfolding put
 puts step text level h [] p e = sym (put-nothing p)

@@ -1,16 +1,15 @@
 -- Numbers and lines put piece by piece.
-use Prim.Native.Nat.{ℕ, zero, suc, _+_, _-_, _*_, _/_, _%_, _<_, _≤_, _^_}
-use mathlib.Core.Path.{_≡_, refl, sym, ap, _∙_, subst}
+use Prim.Native.Nat.{ℕ, zero, suc, _/_, _%_, _<_, _≤_, _^_}
+use mathlib.Core.Path.{_≡_, refl, ap}
 use mathlib.Core.List.{List, [], _∷_, _++_}
-use mathlib.Core.Bool.{Bool, true, false}
 use native.Mathlib.Omega.{arith}
 use native.Mathlib.Nat.{pow-succ'}
-use lib.ListN.{length, set, length-append}
+use lib.ListN.{length, length-append}
 use lib.Dec.{ltb}
 use borrow.Author.Tests.{lt-ltb, le-ltb, ltb-true, ltb-false}
 use Rattle.grammar.specs.Laws.Parse.{either}
 use Rattle.listed.specs.Put.{Put, PutFew}
-use Rattle.listed.specs.Text.{digit, decimalBy, decimal, field, line}
+use Rattle.listed.specs.Text.{digit, decimalBy, decimal}
 use Rattle.listed.proofs.Laws.Put.{put-then}
 
 -- With more divisions than are needed the digits are the same.

@@ -1,6 +1,6 @@
 -- The walk that lists: its steps by the words of an element, an alternative or a rule.
-use Prim.Native.Nat.{ℕ, suc, _+_, _-_, _*_, _/_, _%_, _<_, _≤_}
-use mathlib.Core.Path.{_≡_, refl, sym, ap, _∙_}
+use Prim.Native.Nat.{ℕ, suc, _+_, _-_, _/_, _%_, _<_, _≤_}
+use mathlib.Core.Path.{_≡_, refl, ap, _∙_}
 use mathlib.Core.List.{List, [], _∷_}
 use native.Mathlib.Omega.{arith}
 use native.Mathlib.Numerals.{add-one}
@@ -21,7 +21,7 @@ use Rattle.grammar.specs.Laws.Fold.{fold-leaf, fold-block, fold-alternative}
 use Rattle.listed.specs.Text.{line}
 use Rattle.listed.specs.Listed.{leafName, elementWord, elementLine, alternativeLine}
 use Rattle.listed.specs.Put.{Put, PutFew}
-use Rattle.listed.specs.Walk.{Pen, pen, put, listing, nameOf}
+use Rattle.listed.specs.Walk.{pen, put, listing, nameOf}
 
 -- Text put into the buffer is text put by the walk.
 pub put-is : {b a : List ℕ} {n r : ℕ} {text : List ℕ} (level : ℕ) → Put b a n r text → pen a r level ≡ put (pen b n level) text
@@ -92,7 +92,8 @@ module _ (d level : ℕ) {ws : List ℕ} {end at : ℕ} where
         → ElementWalked listing ws end d at (pen b n level) there (pen a r level)
     list-leaf other {b = b} {n = n} e x =
         fold-leaf listing head d other e λ h l q w u.
-        put-is level (x .put) ∙ ap (put (pen b n level)) (line-is level (leafName l) w (let y = leaf-kind l in omega arith) (head .kindIs) (name-is l u))
+        put-is level (x .put)
+        ∙ ap (put (pen b n level)) (line-is level (leafName l) w (let y = leaf-kind l in omega arith) (head .kindIs) (name-is l u))
 
     pub list-block : k ≡ blockKind → {m q : ℕ} {b i a : List ℕ} {n j r : ℕ} → m ≡ getD ws p 0 → PutFew b i n j (lineAt ws level at k p) 57
         → AlternativesWalked listing ws end (d - 1) m (p + 1) (pen i j (level + 1)) q (pen a r (level + 1))
@@ -100,7 +101,8 @@ module _ (d level : ℕ) {ws : List ℕ} {end at : ℕ} where
     list-block six {b = b} {n = n} e x w =
         fold-block listing head six d e
         (λ h y.
-        let z = put-is level (x .put) ∙ ap (put (pen b n level)) (line-is level 0 y (omega arith) (head .kindIs) (name-block (getD ws p 0))) in
+        let l = line-is level 0 y (omega arith) (head .kindIs) (name-block (getD ws p 0)) in
+        let z = put-is level (x .put) ∙ ap (put (pen b n level)) l in
         rw (add-one level) (ap (λ q. pen (q .buffer) (q .place) (suc level)) z))
         w
         λ h y. refl
@@ -110,7 +112,10 @@ module _ (d level : ℕ) {ws : List ℕ} {end at : ℕ} where
       → ElementsWalked listing ws end d count first (pen i j level) q (pen a r level)
       → AlternativeWalked listing ws end d at (pen b n level) q (pen a r level)
   list-alternative head {b = b} {n = n} x w =
-      fold-alternative listing d head (λ a z u. put-is level (x .put) ∙ ap (put (pen b n level)) (ap (alternativeLine level) (u .id))) w λ a z u. refl
+      fold-alternative listing d head
+      (λ a z u. put-is level (x .put) ∙ ap (put (pen b n level)) (ap (alternativeLine level) (u .id)))
+      w
+      λ a z u. refl
 
 -- The level rises as the depth falls.
 pub block-level : {ws : List ℕ} {end at k p : ℕ} (level d : ℕ) → HeadAt ws end at k p → k ≡ blockKind → FoundElement ws end d at
