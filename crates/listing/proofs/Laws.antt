@@ -1,0 +1,3 @@
+pub mod Told
+pub mod Handed
+pub mod Counts
