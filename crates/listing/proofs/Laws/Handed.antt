@@ -1,10 +1,10 @@
 -- What the pass hands over is listed as the definition says.
-use Prim.Native.Nat.{ℕ, zero, suc, _+_, _-_, _*_, _/_, _%_, _≤_, _<_}
-use mathlib.Core.Path.{_≡_, refl, sym, ap, _∙_, subst}
+use Prim.Native.Nat.{ℕ, zero, suc, _-_, _*_, _/_, _%_, _≤_, _<_}
+use mathlib.Core.Path.{_≡_, refl, sym, ap, _∙_}
 use mathlib.Core.List.{List, [], _∷_, _++_, List·Memᴰ, List·Memᴰ·head, List·Memᴰ·tail}
-use mathlib.Core.Bool.{Bool, true, false}
+use mathlib.Core.Bool.{true, false}
 use native.Mathlib.Omega.{arith}
-use lib.ListN.{length, getD, take, drop, replicate, length-append}
+use lib.ListN.{length, replicate, length-append}
 use lib.Seq.{take-append-seam}
 use lib.Dec.{leb}
 use borrow.Author.Tests.{leb-true, le-leb}
@@ -15,10 +15,10 @@ use Rattle.grammar.specs.Tree.{Sheet}
 use Rattle.grammar.specs.Words.{wordOf, words, bytes}
 use Rattle.grammar.specs.Encode.{encode}
 use Rattle.grammar.specs.Stands.{Stands}
-use Rattle.grammar.specs.Valid.{okRules, valid, fits}
+use Rattle.grammar.specs.Valid.{okRules, fits}
 use Rattle.grammar.specs.Reading as reading
 use Rattle.grammar.specs.Reading.{refused, sheet, isLength, read}
-use Rattle.grammar.specs.Laws.Words.{AreBytes, AreWords, length-words, length-bytes, words-bytes}
+use Rattle.grammar.specs.Laws.Words.{AreBytes, AreWords, length-bytes, words-bytes}
 use Rattle.grammar.specs.Laws.Parse.{either, left-true, both-true}
 use Rattle.grammar.specs.Laws.Stands.{slice-stands}
 use Rattle.grammar.specs.Laws.Whole.{valid-parts}
@@ -26,7 +26,8 @@ use Rattle.grammar.specs.Laws.Codec.{is-encoding-words, refuses-only}
 use Rattle.reference.specs.Substitute.{standard}
 use Rattle.reference.specs.Apply.{Entry}
 use Rattle.reference.specs.Run as R
-use Rattle.reference.specs.Run.{Run, ended, stopped, eliminateMutualLeftRecursion, sheetAfter, encodeEntry, entriesOf, areLent, filled, outcome}
+use Rattle.reference.specs.Run.{Run, ended, stopped, eliminateMutualLeftRecursion, sheetAfter, encodeEntry, entriesOf, areLent, filled}
+use Rattle.reference.specs.Run.{outcome}
 use Rattle.reference.specs.Run.{answerTo, answerReading, answerRun, delivered, untouched, refusedWith, refusal, answer}
 use Rattle.laws.specs.Demands.Answers.{Answered}
 use Rattle.laws.specs.Demands.Refusals.{RefusedSo, byReader, byRun, Stops, tooLarge, noIdLeft, tooLong}
@@ -38,7 +39,7 @@ use Rattle.pass.specs.declared.answer.Answer.{Answer}
 use Rattle.pass.specs.declared.answer.Answer.the-variants.{Refused, Joined}
 use Rattle.pass.specs.declared.answer.Totals.{Totals}
 use Rattle.pass.specs.Handed.{outcomeOf, Handed}
-use Rattle.listing.specs.Told.{refusalIn, JoinedAs, RefusedAs, Answers, Known, Lent}
+use Rattle.listing.specs.Told.{refusalIn, Answers, Known, Lent}
 
 -- The listing of bytes, by their answer.
 module _ (bs : List ℕ) where
@@ -83,7 +84,10 @@ front-stands {ws} buffer e =
 front-long : (ws buffer : List ℕ) → 4 * length ws ≤ length (filled (bytes ws) buffer)
 unfolding filled
 front-long ws buffer =
-    let zs : List ℕ = replicate (length buffer - length (bytes ws)) 0 in let l = length-append (bytes ws) zs in let k = length-bytes ws in omega arith
+    let zs : List ℕ = replicate (length buffer - length (bytes ws)) 0 in
+    let l = length-append (bytes ws) zs in
+    let k = length-bytes ws in
+    omega arith
 
 -- Numbers of which each is a word are words.
 in-words : (ws : List ℕ) → ((w : ℕ) → List·Memᴰ w ws → w < wordEnd) → AreWords ws
@@ -160,7 +164,8 @@ module _ {bs : List ℕ} {plans steps : ℕ} {ws ts : List ℕ} (a : Answered st
 -- The sheet's bytes, and buffers that are long enough.
 module _ (bs result trail work : List ℕ) (are : AreBytes bs) (lent : areLent result trail work ≡ true) where
   -- A sheet of a good length is answered by its words.
-  delivers : isLength (length bs) ≡ true → outcome standard rust bs result trail work ≡ delivered result trail work (answerTo standard rust bs)
+  delivers : isLength (length bs) ≡ true
+      → outcome standard rust bs result trail work ≡ delivered result trail work (answerTo standard rust bs)
   unfolding outcome
   delivers e = rw (e, lent, outcome) refl
 
@@ -174,7 +179,8 @@ module _ (bs result trail work : List ℕ) (are : AreBytes bs) (lent : areLent r
 
   -- The answer, and the outcome with its number.
   data Came : Type 0 where
-    came-refused : (n : ℕ) → answerTo standard rust bs ≡ refusal n → (n ≡ 0 → ⊥) → outcome standard rust bs result trail work .number ≡ n → Came
+    came-refused : (n : ℕ) → answerTo standard rust bs ≡ refusal n → (n ≡ 0 → ⊥)
+        → outcome standard rust bs result trail work .number ≡ n → Came
     came-answered : (plans steps : ℕ) (ws ts : List ℕ) → answerTo standard rust bs ≡ answer plans steps ws ts
         → outcome standard rust bs result trail work ≡ delivered result trail work (answer plans steps ws ts) → Came
 
