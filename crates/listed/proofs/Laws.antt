@@ -4,4 +4,4 @@ pub mod Lines
 pub mod Walk
 pub mod Rules
 pub mod Entries
-pub mod Listing
+pub mod Whole

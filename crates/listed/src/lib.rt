@@ -1,10 +1,7 @@
 // The listing (SPECIFICATION 16.2): the text of an answer, written into a lent buffer as far as it fits.
 mod entries;
 mod lines;
-mod listing;
 mod rules;
 mod text;
 mod walk;
-
-pub use listing::list_joined;
-pub use listing::list_refused;
+pub mod whole;

@@ -1,6 +1,6 @@
 // The answer of the pass to a sheet, as text (SPECIFICATION 16.2).
-use listed::list_joined;
-use listed::list_refused;
+use listed::whole::list_joined;
+use listed::whole::list_refused;
 use pass::Answer;
 use pass::entry::pass;
 ghost use lib.ListN.{length};

@@ -1,8 +1,8 @@
--- `listed::listing::list_joined` meets its contract.
+-- `listed::whole::list_joined` meets its contract.
 use borrow.Author.Needs.{needs}
-use Rattle.listed.proofs.Laws.Listing.{listings}
-use Rattle.listed.proofs.listing.list_joined.Statement.{statement}
-use Rattle.listed.proofs.listing.list_joined.Tie as tie
+use Rattle.listed.proofs.Laws.Whole.{listings}
+use Rattle.listed.proofs.whole.list_joined.Statement.{statement}
+use Rattle.listed.proofs.whole.list_joined.Tie as tie
 
 pub list-joined-spec : {M : Type 1} → statement M
 list-joined-spec =
