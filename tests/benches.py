@@ -1,5 +1,9 @@
 """Where wrong definitions and wrong programs are tried: what each answers, and where it is refused."""
+import os
+import platform
 import re
+import shutil
+from pathlib import Path
 
 import check_answers
 from answers.claims import claim
@@ -113,6 +117,19 @@ class Programs(Room):
         program.write_text(driver, encoding='utf-8')
         self.list(**{DRIVER: f'{" ".join(self.names)} io libc'})
         self.take_proved()
+
+    def rt(self, *words):
+        return self.run(*self.of_try()) if words[0] == 'try' else super().rt(*words)
+
+    def of_try(self):
+        """The command that `rt try` gives, with each crate given those that it uses. `rt try` gives it all of them, and then none
+        may have a module named like another."""
+        kit = Path(os.environ.get('RATTLE_HOME') or Path(shutil.which('rt')).resolve().parent.parent)
+        own, program = kit / 'on' / platform.machine(), self.place / 'crates' / DRIVER
+        libraries = [f'{name}={kit}/libs/{name}/src/lib.rt' for name in ('std', 'io', 'libc')]
+        libraries += [f'{name}:{",".join(self.crates.uses[name])}={self.place}/crates/{name}/src/lib.rt' for name in self.names]
+        words = ['--toolchain', own / 'toolchain', '--stdin', program / 'stdin', program / 'src/main.rt', '--crate-name', DRIVER]
+        return [own / 'bin/rattle-cases', *words, *(word for library in libraries for word in ('--lib', library))]
 
     def tried(self, edits, sheets, before, linked):
         """Of edits of one crate: each with whether the program prints otherwise, where it is refused, why if nowhere. The

@@ -12,6 +12,7 @@ A sheet's name begins with what it is about:
   nullable, corners, cycles                       6
   inlining                                        7.5
   plan                                            7 to 10
+  pass                                            3, 4.7 to 4.9, 5, 11, 12
   case                                            15, by its number there
 
 usage: reading.py PROGRAM   (`first`, over the proved reader, or `second`, of harness/reader)

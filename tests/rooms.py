@@ -38,7 +38,10 @@ class Room:
         return self.rt('dev', crate, *self.words.get(crate, ()))
 
     def rt(self, *words):
-        done = subprocess.run(['rt', *words], cwd=self.place, capture_output=True, text=True, errors='replace')
+        return self.run('rt', *words)
+
+    def run(self, *words):
+        done = subprocess.run(words, cwd=self.place, capture_output=True, text=True, errors='replace')
         return done.returncode, done.stdout + done.stderr
 
     def make(self, edit):

@@ -33,6 +33,7 @@ from benches import Definitions, Programs
 
 HERE = Path(__file__).resolve().parent
 AT_ONCE = 2
+LETTERS = {'plan': b'p', 'pass': b'j'}
 
 
 class Named:
@@ -46,8 +47,8 @@ class Named:
         return self.sheets if edit.is_code() else self.answers
 
     def sheet(self, name):
-        """What the program is asked: a letter, for plans where the sheet is named for them, and the sheet."""
-        letter = b'p' if name.startswith('plan-') else b'r'
+        """What the program is asked: a letter, for plans or the pass where the sheet is named for them, and the sheet."""
+        letter = LETTERS.get(name.partition('-')[0], b'r')
         return letter + words.sheet(self.sheets[name].read_text(encoding='utf-8'))
 
 
