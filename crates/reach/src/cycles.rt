@@ -36,7 +36,13 @@ pub enum Next {
 }
 
 // The better of rule i and the best in front of it; n is none.
-fn better(ids: &[u32; Row::RULES], left: [u64; Row::WORDS], n: usize, best: usize, i: usize) -> usize
+fn better(
+    ids: &[u32; Row::RULES],
+    left: [u64; Row::WORDS],
+    n: usize,
+    best: usize,
+    i: usize,
+) -> usize
     requires { ⌜ Best (now ids) left n i best ⌝ }
     requires { ⌜ (i < n) × (n ≤ ruleLimit) ⌝ }
     ensures { λ r. ⌜ Best (now (ids .entry)) left n (i + 1) r ⌝ }
