@@ -126,8 +126,18 @@ class Units(Tree):
         self.write('wrong/lower/again.edit', TEXT)
         self.write('wrong/lower/below.edit', TEXT.replace('Laws/L', 'Laws/M'))
         self.write('wrong/lower/code.edit', TEXT.replace('upper/Laws/L', 'lower').replace('specs/A.antt', 'src/a.rt'))
-        trial = wrong.Trial(edits.read(self.root / 'wrong'), None, None, [], None)
+        trial = wrong.Trial(edits.read(self.root / 'wrong'), None, wrong.Named([]), [], None)
         self.assertEqual([[edit.name for edit in unit] for unit in trial.units()], [['code'], ['again', 'turned'], ['below']])
+
+    def test_those_apart_that_another_program_shows(self):
+        code = TEXT.replace('upper/Laws/L', 'lower').replace('specs/A.antt', 'src/a.rt')
+        for number, shown in enumerate(('case-01', 'plan-made-plain', 'pass-7', 'pass-made-plain')):
+            self.write(f'wrong/lower/code{number}.edit', code.replace('sheet 1', shown))
+        trial = wrong.Trial(edits.read(self.root / 'wrong'), None, wrong.Named([]), [], None)
+        found = [[edit.name for edit in unit] for unit in trial.units()]
+        self.assertEqual(found, [['code0', 'code1'], ['code2', 'code3'], ['turned']])
+        letters = [trial.named.sheet(name)[:1] for name in ('case-01', 'plan-made-plain', 'pass-made-plain')]
+        self.assertEqual(letters, [b'r', b'p', b'\x01'])
 
 
 class Telling(Tree):

@@ -5,10 +5,10 @@
 
 Each edit of tests/wrong (its form is in edits.py) is tried on copies of the crates. An edited definition is computed on
 the stored answer, or the call of `outcome`, that the edit names, as check_answers.py does; edited code is run, unproved,
-on the sheet that it names, by the program in tests/wrong/driver.txt. What comes out must differ from what the unedited
-one gives, and the prover must refuse the edit: edited code in its crate, an edited definition at the module of laws that
-the edit names, which is checked with what it uses alone. An edit that is accepted, that is refused at another module, or
-that answers as before, fails.
+on the sheet that it names, by the program in tests/wrong/driver.txt, or that in pass.txt where the sheet is named for the
+whole pass. What comes out must differ from what the unedited one gives, and the prover must refuse the edit: edited code in
+its crate, an edited definition at the module of laws that the edit names, which is checked with what it uses alone. An edit
+that is accepted, that is refused at another module, or that answers as before, fails.
 
 The edits of tests/equal are definitions written otherwise, with the same answers. The prover refuses them too, so each
 must be found to answer as before: a refusal alone shows nothing wrong.
@@ -33,7 +33,7 @@ from benches import Definitions, Programs
 
 HERE = Path(__file__).resolve().parent
 AT_ONCE = 2
-LETTERS = {'plan': b'p', 'pass': b'j'}
+ASKED = {'plan': ('driver', b'p'), 'pass': ('pass', b'')}   # the program and its letter, by what a sheet's name begins with
 
 
 class Named:
@@ -47,9 +47,15 @@ class Named:
         return self.sheets if edit.is_code() else self.answers
 
     def sheet(self, name):
-        """What the program is asked: a letter, for plans or the pass where the sheet is named for them, and the sheet."""
-        letter = LETTERS.get(name.partition('-')[0], b'r')
-        return letter + words.sheet(self.sheets[name].read_text(encoding='utf-8'))
+        """What the program is asked: a letter, for plans where the sheet is named for them, and the sheet."""
+        return self.asked(name)[1] + words.sheet(self.sheets[name].read_text(encoding='utf-8'))
+
+    def program(self, edit):
+        """The program that shows an edit of code: that for the whole pass is over more crates."""
+        return self.asked(edit.shown)[0] if edit.is_code() else ''
+
+    def asked(self, name):
+        return ASKED.get(name.partition('-')[0], ('driver', b'r'))
 
 
 def short(name):
@@ -62,15 +68,17 @@ class Lane:
 
     def __init__(self, place, trial):
         self.place, self.trial = place, trial
-        self.definitions = self.programs = None
+        self.definitions, self.programs = None, {}
 
     def tried(self, unit):
-        trial = self.trial
-        if unit[0].is_code():
-            code = [edit for edit in trial.asked if edit.is_code()]
-            driver = (HERE / 'wrong/driver.txt').read_text(encoding='utf-8')
-            self.programs = self.programs or Programs(self.place / 'programs', trial.crates, code, trial.built, driver)
-            return self.programs.tried(unit, trial.named.sheet, trial.printed(self.programs, code), trial.linked)
+        trial, program = self.trial, self.trial.named.program(unit[0])
+        if program:
+            code = [edit for edit in trial.asked if trial.named.program(edit) == program]
+            driver = (HERE / f'wrong/{program}.txt').read_text(encoding='utf-8')
+            if program not in self.programs:
+                self.programs[program] = Programs(self.place / program, trial.crates, code, trial.built, driver)
+            room = self.programs[program]
+            return room.tried(unit, trial.named.sheet, trial.printed(room, program, code), trial.linked)
         defined = [edit for edit in trial.asked if not edit.is_code()]
         self.definitions = self.definitions or Definitions(self.place / 'definitions', trial.crates, defined, trial.built)
         return [(edit, differs, trial.by_gate(edit) or where, why)
@@ -88,20 +96,21 @@ class Trial:
         self.asked, self.crates, self.named, self.linked, self.built = asked, crates, named, linked, built
         self.before, self.one, self.free = {}, threading.Lock(), queue.Queue()
 
-    def printed(self, programs, code):
-        """What the program prints without an edit of all sheets that edits of code name; asked once for all lanes."""
+    def printed(self, room, program, code):
+        """What a program prints without an edit of all sheets that edits of code name; asked once for all lanes."""
         with self.one:
-            self.before = self.before or programs.printed_before({edit.shown: self.named.sheet(edit.shown) for edit in code})
-        return self.before
+            if program not in self.before:
+                self.before[program] = room.printed_before({edit.shown: self.named.sheet(edit.shown) for edit in code})
+        return self.before[program]
 
     def by_gate(self, edit):
         return f'{edit.crate}/must-fail, by rt ci' if edit in self.linked else None
 
     def units(self):
-        """Edits of code by their crate, since they take longer, then definitions; the large units first."""
+        """Edits of code by their crate and program, since they take longer, then definitions; the large units first."""
         found = {}
         for edit in self.asked:
-            found.setdefault((edit.is_code(), edit.crate, edit.refused, edit.module), []).append(edit)
+            found.setdefault((self.named.program(edit), edit.crate, edit.refused, edit.module), []).append(edit)
         return sorted(found.values(), key=lambda unit: (unit[0].is_code(), len(unit)), reverse=True)
 
     def of(self, unit):
