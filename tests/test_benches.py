@@ -3,6 +3,7 @@
 
 import pathlib
 import unittest
+import unittest.mock
 
 import benches
 import edits
@@ -205,6 +206,23 @@ class Parts(Tree):
         room.crates, room.answers = edits.Crates(self.root / 'crates'), type('Answers', (), {'head': ''})
         with self.assertRaises(SystemExit):
             room.tried([self.edit()], {})
+
+
+class Trying(Tree):
+    def test_each_crate_is_given_those_that_it_uses(self):
+        room = Stub(0, '', self.root)
+        room.crates, room.names = edits.Crates(self.root / 'crates'), ['lower', 'upper']
+        with unittest.mock.patch.dict('os.environ', RATTLE_HOME='/kit'):
+            words = [str(word) for word in room.of_try()]
+        libraries = [after for word, after in zip(words, words[1:]) if word == '--lib']
+        own = [f'lower:={self.root}/crates/lower/src/lib.rt', f'upper:lower={self.root}/crates/upper/src/lib.rt']
+        self.assertEqual(libraries, [*(f'{name}=/kit/libs/{name}/src/lib.rt' for name in ('std', 'io', 'libc')), *own])
+
+    def test_try_is_that_command_and_the_rest_is_rt(self):
+        room = Stub(0, '', self.root)
+        room.of_try, room.run = lambda: ['kit', 'cases'], lambda *words: words
+        self.assertEqual(benches.Programs.rt(room, 'try', 'driver'), ('kit', 'cases'))
+        self.assertEqual(benches.Programs.rt(room, 'dev', 'lower'), ('rt', 'dev', 'lower'))
 
 
 class Warm(Tree):
