@@ -15,11 +15,24 @@ use crate::grow;
 use crate::outcome::judged;
 use crate::tally::Tally;
 
+/// So many numbers of a run have sheets of all sorts alike. Behind them only one number in so many has: large sheets take
+/// ten times as long as the others, and a long run is to have millions of these.
+const EVEN: u64 = 200_000;
+const RARE: u64 = 16;
+
+/// Which sort of sheet a number has, as `sheet` lists them.
+fn sort(index: u64) -> u64 {
+    match index < EVEN || (index / 16).is_multiple_of(RARE) {
+        true => index % 16,
+        false => index % 4,
+    }
+}
+
 /// The sheet number `index` of the run `seed`: raw bytes, good and damaged sheets of the reader's generator, of the
 /// profiles, of the planner's generator, and of `grow`.
 pub fn sheet(seed: u64, index: u64) -> Vec<u8> {
     let mut random = Random::of(seed, index);
-    match index % 16 {
+    match sort(index) {
         0 | 1 => reader::sheets::sheet(seed, index),
         2 => generate::damaged(random.draw()),
         3..=7 => {

@@ -34,6 +34,18 @@ fn a_run_has_enough_of_each_sort() {
     assert_eq!(tally.result, 32_768);
 }
 
+#[test]
+fn far_numbers_have_small_sheets_and_some_of_each_sort() {
+    let mut tally = Tally::default();
+    let far = 5_000_000..5_000_768;
+    let small = far.clone().filter(|index| sheet(1, *index).len() < 2_048);
+    assert!(small.count() > 600);
+    far.for_each(|index| tally.add(&judged(&sheet(1, index))));
+    for answers in tally.answers {
+        assert!(answers.joined > 8 && answers.numbers[1] > 20, "{answers:?}");
+    }
+}
+
 /// Results of 32,768 bytes and just under, 9 for a word more; counters at their end, and 8 for an id more.
 #[test]
 fn sheets_are_grown_to_the_very_end() {
