@@ -3,6 +3,7 @@
 `rt dev` checks a crate over its folder of modules checked before. Such a folder is warm once the unedited crate was
 accepted over it; it is put back as it was after each edit. A refusal is a refusal; an acceptance is no verdict.
 """
+import os
 import re
 import shutil
 import subprocess
@@ -75,7 +76,7 @@ class Room:
         for name in self.names:
             library = self.built / 'rlib' / f'{name}.rlib'
             if (self.built / 'stamp' / name).is_file() and library.is_dir():
-                shutil.copytree(library, self.place / 'target/rlib' / f'{name}.rlib', dirs_exist_ok=True)
+                shutil.copytree(library, self.place / 'target/rlib' / f'{name}.rlib', copy_function=share)
                 (self.place / 'target/stamp').mkdir(exist_ok=True)
                 shutil.copy2(self.built / 'stamp' / name, self.place / 'target/stamp' / name)
 
@@ -89,6 +90,14 @@ class Room:
                 shutil.copytree(library / 'toolchain/checked', checked, dirs_exist_ok=True)
         self.accepts(crate)
         return Kept(self.place / 'target/inc' / crate, self.place / 'target/kept' / crate)
+
+
+def share(source, target):
+    """The same file under a second name: what is only read need not be there twice."""
+    try:
+        os.link(source, target)
+    except OSError:
+        shutil.copy2(source, target)
 
 
 def version_of(path):
