@@ -270,18 +270,23 @@ def program_checks(room):
         yield f"{compiler}: every stored answer", said.stdout == b"".join(map(packed, records))
 
 
+def told(name, checks):
+    """Prints what is not so, and how many are; the status of a script."""
+    passed, failed = 0, 0
+    for what, so in checks:
+        passed, failed = passed + so, failed + (not so)
+        if not so:
+            print(f"{name}: not so: {what}")
+    print(f"{passed} passed, {failed} failed")
+    return 1 if failed else 0
+
+
 def main():
     header, sources = Header((ROOT / "include" / "pass.h").read_text(encoding="utf-8")), Sources()
-    passed, failed = 0, 0
     with tempfile.TemporaryDirectory() as room:
         checks = [number_checks(header, sources), text_checks(header, sources), signature_checks(header, sources)]
         checks += [symbol_checks(), program_checks(pathlib.Path(room))]
-        for what, so in (check for part in checks for check in part):
-            passed, failed = passed + so, failed + (not so)
-            if not so:
-                print(f"header: not so: {what}")
-    print(f"{passed} passed, {failed} failed")
-    return 1 if failed else 0
+        return told("header", (check for part in checks for check in part))
 
 
 if __name__ == "__main__":

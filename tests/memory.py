@@ -44,14 +44,8 @@ def main():
     watch = ["valgrind", "--quiet", f"--error-exitcode={FOUND}"] if shutil.which("valgrind") else []
     if not watch:
         print("memory: no valgrind here, so nothing watches")
-    passed, failed = 0, 0
     with tempfile.TemporaryDirectory() as room:
-        for what, so in checks(pathlib.Path(room), watch):
-            passed, failed = passed + so, failed + (not so)
-            if not so:
-                print(f"memory: not so: {what}")
-    print(f"{passed} passed, {failed} failed")
-    return 1 if failed else 0
+        return header.told("memory", checks(pathlib.Path(room), watch))
 
 
 if __name__ == "__main__":
