@@ -4,23 +4,11 @@ use drafts::kept::rule_end;
 use reach::rows::Row;
 use reach::rows::has;
 use records::rules::Rules;
-ghost use Prim.Native.Nat.{_≤_, _<_, _^_};
+ghost use Prim.Native.Nat.{_≤_, _^_};
 ghost use Rattle.grammar.specs.Numbers.{mostWords};
 ghost use Rattle.grammar.specs.Words.{words};
 ghost use Rattle.analysis.specs.Facts.{Standing};
-ghost use Rattle.apply.specs.Left.{RuleTakes, LeftTake};
-
-// The words of the i-th rule, or none if it goes.
-fn words_at(s: &[u8], end: usize, rules: Rules, i: usize, gone: bool) -> usize
-    requires { ⌜ Standing (words (now s)) end rules × (i < rules .n) × (end ≤ mostWords) ⌝ }
-    ensures { λ r. ⌜ RuleTakes (words (now (s .entry))) end rules i gone r × (r ≤ mostWords) ⌝ }
-{
-    if gone {
-        return 0;
-    }
-    let places = rules.places;
-    rule_end(rules, i, end) - index(places[i])
-}
+ghost use Rattle.apply.specs.Left.{LeftTake};
 
 // Those from one place among the rules up to another that are not in the row.
 pub fn words_left(
@@ -34,10 +22,13 @@ pub fn words_left(
     requires { ⌜ Standing (words (now s)) end rules × (from ≤ until) × (until ≤ rules .n) × (end ≤ mostWords) ⌝ }
     ensures { λ r. ⌜ LeftTake (words (now (s .entry))) end rules row from until r × (r ≤ 2 ^ 20) ⌝ }
 {
+    let places = rules.places;
     let mut i = from;
     let mut total: usize = 0;
     while i < until {
-        total += words_at(s, end, rules, i, has(row, i));
+        if !has(row, i) {
+            total += rule_end(&places, rules.n as usize, i, end) - index(places[i]);
+        }
         i += 1;
     }
     total

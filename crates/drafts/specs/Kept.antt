@@ -1,7 +1,8 @@
 -- The rules of a sheet that stay, by a row of those that go.
 use Prim.Native.Nat.{ℕ, suc, _+_, _-_, _≤_}
+use mathlib.Core.Path.{_≡_}
 use mathlib.Core.List.{List, [], _∷_}
-use mathlib.Core.Bool.{Bool, not}
+use mathlib.Core.Bool.{not}
 use lib.ListN.{length, getD, take, drop}
 use Rattle.grammar.specs.Tree.{Rule, bodyDepth}
 use Rattle.grammar.specs.Lists.{push}
@@ -30,19 +31,12 @@ pub record RuleEnds (end : ℕ) (rules : Rules) (i r : ℕ) : Type 0 where
   pub is : (ws : List ℕ) (s : Standing ws end rules) (a : Among (s .rows .found .trees) i)
       → RuleSpans ws end bodyDepth (getD (rules .places) i 0) (a .rule) r
 
+-- So it is of all rules, so many, that have these places.
+pub record PlaceEnds (end : ℕ) (places : List ℕ) (n i r : ℕ) : Type 0 where
+  pub is : (rules : Rules) → places ≡ rules .places → n ≡ rules .n → RuleEnds end rules i r
+
 module _ (ws : List ℕ) (end : ℕ) (rules : Rules) where
-  -- There is room for the rule at a place, unless it goes.
-  pub record RuleFits (i : ℕ) (gone : Bool) (a : Draft) : Type 0 where
-    pub fits : (s : Standing ws end rules) (x : Among (s .rows .found .trees) i)
-        → a .pen .to + length (encodeRules (push (not gone) (x .rule) [])) ≤ composeEnd
-
-  -- It was added.
-  pub record RuleAdded (i : ℕ) (gone : Bool) (before after : List ℕ) (a b : Draft) : Type 0 where
-    pub is : (s : Standing ws end rules) (x : Among (s .rows .found .trees) i)
-        → Added (push (not gone) (x .rule) []) before after a b
-    pub few : b .rules .n ≤ a .rules .n + 1
-
-  -- The same of several.
+  -- There is room for those from one place up to another that are not in the row, and they were added.
   pub record RulesFit (row : List ℕ) (from until : ℕ) (a : Draft) : Type 0 where
     pub fits : (s : Standing ws end rules) → a .pen .to + length (encodeRules (keptOf row from until (s .rows .found .trees))) ≤ composeEnd
 

@@ -1,7 +1,7 @@
 -- The words of the rules that stay, counted one rule after the other.
 use Prim.Native.Nat.{ℕ, _+_, _-_, _*_, _<_, _≤_, _^_}
-use mathlib.Core.Path.{_≡_, refl, sym, ap, _∙_, subst}
-use mathlib.Core.List.{List, [], _++_, append-nil}
+use mathlib.Core.Path.{_≡_, sym, ap, _∙_}
+use mathlib.Core.List.{List, [], append-nil}
 use mathlib.Core.Bool.{Bool, true, false, not}
 use native.Mathlib.Omega.{arith}
 use lib.ListN.{length, getD, length-append}
@@ -17,34 +17,35 @@ use Rattle.analysis.specs.Facts.{Standing, Among}
 use Rattle.analysis.proofs.Laws.Standing.{rule-of}
 use Rattle.drafts.specs.Kept.{keptOf, RuleEnds}
 use Rattle.drafts.specs.Laws.Kept.{kept-first, kept-none, push-split}
-use Rattle.apply.specs.Left.{RuleTakes, LeftTake}
+use Rattle.apply.specs.Left.{LeftTake}
+
+-- The rule at a place takes so many words, or none if it goes.
+pub record RuleTakes (ws : List ℕ) (end : ℕ) (rules : Rules) (i : ℕ) (gone : Bool) (n : ℕ) : Type 0 where
+  pub is : (s : Standing ws end rules) (x : Among (s .rows .found .trees) i) → n ≡ length (encodeRules (push (not gone) (x .rule) []))
+  pub few : n ≤ mostWords
 
 pub none-taken : {ws : List ℕ} {end : ℕ} {rules : Rules} {i : ℕ} {gone : Bool} → gone ≡ true → RuleTakes ws end rules i gone 0
-none-taken e = record { is = λ s x. ap (λ g. length (encodeRules (push (not g) (x .rule) []))) (sym e) }
+none-taken e = record { is = λ s x. ap (λ g. length (encodeRules (push (not g) (x .rule) []))) (sym e); few = omega arith }
 
-module _ {ws : List ℕ} {end : ℕ} {rules : Rules} {i q at : ℕ} (r : RuleEnds end rules i q) (e : at ≡ getD (rules .places) i 0) where
+module _ {ws : List ℕ} {end : ℕ} {rules : Rules} {i q at : ℕ} (s : Standing ws end rules) (l : i < rules .n)
+    (r : RuleEnds end rules i q) (e : at ≡ getD (rules .places) i 0) where
   ends : (s : Standing ws end rules) (x : Among (s .rows .found .trees) i)
       → (q ≡ at + length (encodeRule (encodeBlock bodyDepth) (x .rule))) × (q ≤ end)
   ends s x = rw (← e) at (stands-length (r .is ws s x .stands))
 
-  module _ (s : Standing ws end rules) (l : i < rules .n) where
-    pub ends-past : at ≤ q
-    ends-past = let z = ends s (rule-of (s .rows) i l) in omega arith
+  pub ends-within : (at ≤ q) × (q ≤ end)
+  ends-within = let z = ends s (rule-of (s .rows) i l) in (omega arith, z .1)
 
-    pub ends-few : end ≤ mostWords → q - at ≤ mostWords
-    ends-few m = let z = ends s (rule-of (s .rows) i l) in omega arith
-
-  pub rule-taken : {gone : Bool} → gone ≡ false → RuleTakes ws end rules i gone (q - at)
-  rule-taken g =
+  pub rule-taken : end ≤ mostWords → {gone : Bool} → gone ≡ false → RuleTakes ws end rules i gone (q - at)
+  rule-taken m g =
       record {
         is = λ s x.
             let z = ends s x in
             let n = ap length (append-nil (encodeRule (encodeBlock bodyDepth) (x .rule))) in
             let m : q - at ≡ length (encodeRules (push true (x .rule) [])) = omega arith in
             m ∙ ap (λ g. length (encodeRules (push (not g) (x .rule) []))) (sym g);
+        few = let z = ends-within in omega arith;
       }
-
-pub ruleset takings = (none-taken, ends-past, ends-few, rule-taken)
 
 -- With those left all are counted.
 module _ (ws : List ℕ) (end : ℕ) (rules : Rules) (row : List ℕ) (from until : ℕ) where
@@ -73,12 +74,12 @@ module _ (ws : List ℕ) (end : ℕ) (rules : Rules) (row : List ℕ) (from unti
     pub counting-few : until ≤ ruleLimit → total ≤ 2 ^ 20
     counting-few l = let f = c .few in let z = c .low in omega arith
 
-    pub counting-more : {gone : Bool} {n : ℕ} → i < until → until ≤ rules .n → gone ≡ bit row i → RuleTakes ws end rules i gone n
-        → n ≤ mostWords → Counting (i + 1) (total + n)
-    counting-more {gone} {n} l m h t f =
+    pub counting-more : {gone : Bool} {n more : ℕ} → i < until → until ≤ rules .n → gone ≡ bit row i → RuleTakes ws end rules i gone n
+        → more ≡ total + n → Counting (i + 1) more
+    counting-more l m h t w =
         record {
           low = omega arith;
-          few = let z = c .few in omega arith;
+          few = let z = c .few in let f = t .few in omega arith;
           rest = λ s.
               let x = rule-of (s .rows) i (omega arith) in
               let k = t .is s x in
@@ -94,4 +95,4 @@ module _ (ws : List ℕ) (end : ℕ) (rules : Rules) (row : List ℕ) (from unti
               omega arith;
         }
 
-pub ruleset countings = (counting-none, counting-all, counting-few, counting-more)
+pub ruleset countings = (counting-none, counting-all, counting-few)

@@ -17,46 +17,58 @@ use Rattle.words.specs.Room.{Room}
 use Rattle.records.specs.declared.rules.Rules.{Rules}
 use Rattle.reach.specs.Rows.{bit}
 use Rattle.analysis.specs.Facts.{Standing, Among}
-use Rattle.analysis.proofs.Laws.Standing.{few, rule-of, id-at, name-at}
+use Rattle.analysis.proofs.Laws.Standing.{rule-of, id-at, name-at}
 use Rattle.writing.specs.Wrote.{Wrote}
+use Rattle.writing.specs.declared.counters.Counters.{Counters}
 use Rattle.drafts.specs.declared.draft.Draft.{Draft}
 use Rattle.drafts.specs.Draft.{composeEnd, Open, Added, RowAdded}
-use Rattle.drafts.specs.Kept.{keptOf, RuleEnds, RuleFits, RuleAdded, RulesFit, RulesAdded}
+use Rattle.drafts.specs.Kept.{keptOf, RuleEnds, RulesFit, RulesAdded}
 use Rattle.drafts.specs.Laws.Draft.{added-none, added-then, row-added}
 use Rattle.drafts.specs.Laws.Kept.{kept-first, kept-none, push-split}
 
 abbrev enc : Rule → List ℕ
 enc = encodeRule (encodeBlock bodyDepth)
 
--- One rule.
-pub rule-gone : {ws : List ℕ} {end : ℕ} {rules : Rules} {i : ℕ} {gone : Bool} → gone ≡ true → (work : List ℕ) (a : Draft)
-    → RuleAdded ws end rules i gone work work a a
-rule-gone e work a =
+module _ (ws : List ℕ) (end : ℕ) (rules : Rules) (i : ℕ) (gone : Bool) where
+  -- There is room for the rule at a place, unless it goes.
+  pub record RuleFits (a : Draft) : Type 0 where
+    pub fits : (s : Standing ws end rules) (x : Among (s .rows .found .trees) i)
+        → a .pen .to + length (encodeRules (push (not gone) (x .rule) [])) ≤ composeEnd
+
+  -- It was added.
+  pub record RuleAdded (before after : List ℕ) (a b : Draft) : Type 0 where
+    pub is : (s : Standing ws end rules) (x : Among (s .rows .found .trees) i) → Added (push (not gone) (x .rule) []) before after a b
+    pub few : b .rules .n ≤ a .rules .n + 1
+
+-- A draft by its parts.
+abbrev pub drawn : ℕ → Counters → Rules → ℕ → Draft
+drawn trail counters made to = record { rules = made; pen = record { to = to; trail = trail; counters = counters } }
+
+pub rule-gone : {ws : List ℕ} {end : ℕ} {rules : Rules} {i : ℕ} {gone : Bool} {trail : ℕ} {counters : Counters} → gone ≡ true
+    → {work work′ : List ℕ} {made made′ : Rules} {to to′ : ℕ} → work′ ≡ work → made′ ≡ made → to′ ≡ to
+    → RuleAdded ws end rules i gone work work′ (drawn trail counters made to) (drawn trail counters made′ to′)
+rule-gone {trail = trail} {counters = counters} e {work} {made = made} {to = to} f g h =
+    let a = drawn trail counters made to in
+    rw (f, g, h)
     record {
       is = λ s x. subst (λ g. Added (push (not g) (x .rule) []) work work a a) (sym e) (added-none work a);
       few = omega arith;
     }
 
-module _ {ws : List ℕ} {end : ℕ} {rules : Rules} {i : ℕ} (s : Standing ws end rules) (l : i < rules .n) where
-  there : Among (s .rows .found .trees) i
-  there = rule-of (s .rows) i l
+-- It stands from one place to another, and there is room for its words.
+pub record Spans (end at q to : ℕ) : Type 0 where
+  pub past : at ≤ q
+  pub within : q ≤ end
+  pub fits : to + (q - at) ≤ composeEnd
 
-  module _ {at q : ℕ} (r : RuleEnds end rules i q) (e : at ≡ getD (rules .places) i 0) where
-    ends : (q ≡ at + length (enc (there .rule))) × (q ≤ end)
-    ends = rw (← e) at (stands-length (r .is ws s there .stands))
-
-    pub rule-past : at ≤ q
-    rule-past = let z = ends in omega arith
-
-    pub rule-within : q ≤ end
-    rule-within = ends .1
-
-    pub rule-room : {gone : Bool} {a : Draft} → gone ≡ false → RuleFits ws end rules i gone a → a .pen .to + (q - at) ≤ composeEnd
-    rule-room {gone} {a} g f =
-        let z = ends in
-        let n = ap length (append-nil (enc (there .rule))) in
-        let m = rw g at (f .fits s there) in
-        omega arith
+pub rule-spans : {ws : List ℕ} {end : ℕ} {rules : Rules} {i at q : ℕ} {gone : Bool} {a : Draft} → Standing ws end rules → i < rules .n
+    → RuleEnds end rules i q → at ≡ getD (rules .places) i 0 → gone ≡ false → RuleFits ws end rules i gone a → Spans end at q (a .pen .to)
+rule-spans {ws} {end} {i = i} {a = a} s l r e g f =
+    let x = rule-of (s .rows) i l in
+    let z = rw (← e) at (stands-length (r .is ws s x .stands)) in
+    let n = ap length (append-nil (enc (x .rule))) in
+    let m = rw g at (f .fits s x) in
+    record { past = omega arith; within = z .1; fits = omega arith }
 
 module _ {bs : List ℕ} {end : ℕ} {rules : Rules} {i : ℕ} {gone : Bool} {a : Draft} where
   -- Its words are copied, and its row is added.
@@ -88,8 +100,6 @@ module _ {bs : List ℕ} {end : ℕ} {rules : Rules} {i : ℕ} {gone : Bool} {a 
             rows = row-added (x .rule) w (f ∙ id-at (s .rows) x) (h ∙ name-at (s .rows) x) n low;
           }
 
-pub ruleset one = (rule-gone, rule-past, rule-within, rule-room, rule-added)
-
 -- Several.
 module _ (ws : List ℕ) (end : ℕ) (rules : Rules) (row : List ℕ) (from until : ℕ) (work₀ : List ℕ) (a₀ : Draft) where
   abbrev left : (s : Standing ws end rules) → ℕ → List Rule
@@ -108,12 +118,6 @@ module _ (ws : List ℕ) (end : ℕ) (rules : Rules) (row : List ℕ) (from unti
   copying-none l o f r = record { ready = o; few = f; within = l; fits = r; done = λ s work′ b z. z; same = refl }
 
   module _ {work : List ℕ} {i : ℕ} {a : Draft} (g : Copying work i a) where
-    pub copying-open : Open a work
-    copying-open = g .ready
-
-    pub copying-few : a .rules .n ≤ i
-    copying-few = g .few
-
     pub copying-same : length work ≡ length work₀
     copying-same = g .same
 
@@ -174,4 +178,4 @@ module _ (ws : List ℕ) (end : ℕ) (rules : Rules) (row : List ℕ) (from unti
             same = w .wrote .long ∙ g .same;
           }
 
-pub ruleset copying = (copying-none, copying-open, copying-few, copying-same, copying-all, copying-fits, copying-more)
+pub ruleset copying = (copying-none, copying-same, copying-all)

@@ -18,7 +18,7 @@ use Rattle.records.specs.declared.rules.Rules.{Rules}
 use Rattle.reach.specs.Rows.{bit}
 use Rattle.analysis.specs.Facts.{Standing, Among}
 use Rattle.analysis.proofs.Laws.Standing.{few, all-rules}
-use Rattle.drafts.specs.Kept.{kept, part, keptOf, RuleEnds}
+use Rattle.drafts.specs.Kept.{kept, part, keptOf, PlaceEnds}
 
 -- Rules from a place on.
 module _ {rs : List Rule} {i : ℕ} (a : Among rs i) where
@@ -138,11 +138,14 @@ module _ {ws : List ℕ} {end : ℕ} {rules : Rules} (s : Standing ws end rules)
           let q = rw (w, x) at (place-at a (a .rule ∷ u ∷ xs) (rw e at (a .parts)) 1 (omega arith)) in
           rw (p, q) t
 
-module _ {end : ℕ} {rules : Rules} {i n : ℕ} (c : n ≡ rules .n) where
-  pub ends-next : i + 1 < n → {p : ℕ} → p ≡ getD (rules .places) (i + 1) 0 → RuleEnds end rules i p
-  ends-next l e = record { is = λ ws s a. rw e (next-ends s a (omega arith)) }
+module _ {end : ℕ} {places : List ℕ} {i n : ℕ} where
+  pub ends-next : i + 1 < n → {p : ℕ} → p ≡ getD places (i + 1) 0 → PlaceEnds end places n i p
+  ends-next l e =
+      record {
+        is = λ rules same c. record { is = λ ws s a. rw (e ∙ ap (λ xs. getD xs (i + 1) 0) same) (next-ends s a (omega arith)) };
+      }
 
-  pub ends-last : n ≤ i + 1 → RuleEnds end rules i end
-  ends-last l = record { is = λ ws s a. last-ends s a (omega arith) }
+  pub ends-last : n ≤ i + 1 → PlaceEnds end places n i end
+  ends-last l = record { is = λ rules same c. record { is = λ ws s a. last-ends s a (omega arith) } }
 
 pub ruleset ends = (ends-next, ends-last)

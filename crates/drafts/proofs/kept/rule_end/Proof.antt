@@ -12,7 +12,6 @@ rule-end-spec =
     (λ c. search needs)
     (λ c. search needs)
     (λ c. search needs)
-    (λ c. search needs)
     (λ c κs. search needs)
     (λ c. search (needs, ends))
     (λ c. search (needs, ends)))
