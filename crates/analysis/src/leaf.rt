@@ -76,7 +76,8 @@ fn see_call(i: usize, empty: bool, p: Passing, t: &mut [u64]) -> Passing
     }
 }
 
-fn see_symbol(past: bool, skips: bool, p: Passing) -> Passing
+// A token, or a name that is no rule's.
+pub fn see_symbol(past: bool, skips: bool, p: Passing) -> Passing
     ensures { λ r. ⌜ SymbolSeen past skips (p .seeks) (p .null) (r .seeks) (r .null) ⌝ }
 {
     Passing {

@@ -7,3 +7,4 @@ pub mod leaf;
 pub mod names;
 pub mod rounds;
 pub mod survey;
+pub mod walk;

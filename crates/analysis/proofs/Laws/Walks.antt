@@ -1,5 +1,5 @@
 -- The walk over a body as a fold: one element, one alternative.
-use Prim.Native.Nat.{ℕ, _+_, _-_, _/_, _<_, _≤_}
+use Prim.Native.Nat.{ℕ, _+_, _*_, _-_, _/_, _<_, _≤_}
 use mathlib.Core.Path.{_≡_, refl, sym, ap, _∙_}
 use mathlib.Core.List.{List, [], _∷_}
 use mathlib.Core.Bool.{Bool, true, false, _&&_, _||_, not, or-false, or-true}
@@ -7,7 +7,7 @@ use native.Mathlib.Omega.{arith}
 use lib.ListN.{getD, replicate}
 use lib.Dec.{eqb, leb}
 use borrow.Author.Tests.{leb-true, eq-eqb, ne-eqb}
-use Rattle.grammar.specs.Numbers.{callKind, blockKind, kindEnd, mostName, optionalGreedy, zeroOrMoreNongreedy}
+use Rattle.grammar.specs.Numbers.{callKind, tokenKind, blockKind, kindEnd, mostName, optionalGreedy, zeroOrMoreNongreedy}
 use Rattle.grammar.specs.Tree.{ElementHead, Leaf, epsilon, action, predicate, call, token, terminal, Element, Block, innerDepth}
 use Rattle.grammar.specs.Encode.{leafKind, encodeLeaf, encodeAlternative, encodeBlock}
 use Rattle.grammar.specs.Valid.{okLeaf, okAlternative, okBlock}
@@ -18,13 +18,13 @@ use Rattle.grammar.specs.Laws.Stands.{stands-head}
 use Rattle.grammar.specs.Laws.Parse.{right-true}
 use Rattle.grammar.specs.Laws.Complete.{leaf-kind}
 use Rattle.grammar.specs.Laws.Opened.{HeadWords, Opened, opened-leaf, opened-block, opened, alternative-words, rule-words}
-use Rattle.grammar.specs.Laws.Found.{alternative-room}
+use Rattle.grammar.specs.Laws.Found.{alternative-room, block-depth}
 use Rattle.grammar.specs.Laws.Fold.{Folding, folding-found, fold-leaf, fold-block, fold-alternative}
 use Rattle.reference.specs.Walks.{isOptional}
-use Rattle.analysis.specs.Survey.{View, Seen, seenOf, surveying, skipping, pastBlock, pastAlternative, pastLeaf, LeafSeen, StopSeen, unseen, whole}
+use Rattle.analysis.specs.Survey.{View, Seen, seenOf, surveying, skipping, pastBlock, pastAlternative, pastLeaf, SymbolSeen, LeafSeen, StopSeen, unseen, whole}
 use Rattle.analysis.specs.Survey.{pastOutermost, OutermostWalked, BodyWalked, BodySeen}
 use Rattle.reach.proofs.Laws.Rows.{no-bits}
-use Rattle.analysis.proofs.Laws.Seen.{same-seen}
+use Rattle.analysis.proofs.Laws.Seen.{same-seen, leaf-symbol}
 
 -- A call's name is in range.
 module _ (d : ℕ) {ws : List ℕ} {end at k p : ℕ} (f : FoundElement ws end d at) (h : HeadAt ws end at k p) (c : k ≡ callKind) {w : ℕ}
@@ -51,6 +51,11 @@ module _ (d : ℕ) {ws : List ℕ} {end at k p : ℕ} (f : FoundElement ws end d
           good l (let b = y .packed in let g = h .kindIs in omega arith) (rw x at u)
       go (opened-block o y u) = absurd (let b = y .packed in let g = h .kindIs in omega arith)
 
+-- The measure of a block's alternatives is below that of the block.
+pub block-lower : {ws : List ℕ} {end at k p : ℕ} → HeadAt ws end at k p → k ≡ blockKind → (d : ℕ) {t : ℕ} → FoundElement ws end d at
+    → d * 5 ≡ t → (d - 1) * 5 + 4 < t
+block-lower head six d f e = let z = block-depth head six d f in omega arith
+
 module _ (v : View) {ws : List ℕ} {end at k p : ℕ} (head : HeadAt ws end at k p) {skips : Bool} (may : skips ≡ skipping (getD ws (at + 2) 0)) where
   -- The word that packs kind and quantifier.
   optional : {h : ElementHead} {kind : ℕ} → kind < kindEnd → HeadWords ws end at h kind p → skips ≡ isOptional h
@@ -67,6 +72,11 @@ module _ (v : View) {ws : List ℕ} {end at k p : ℕ} (head : HeadAt ws end at 
       f .is l q (let x = w .packed in let y = head .kindIs in omega arith) (u .stands)
       ∙ ap (λ b. pastLeaf v s b l) (optional (omega arith) w)
 
+  pub survey-token : (d : ℕ) → k ≡ tokenKind → {there : ℕ} (xs : List ℕ) {seeks null seeks′ null′ : Bool} → LeafEnd ws end d at p there
+      → SymbolSeen (v .past) skips seeks null seeks′ null′
+      → ElementWalked (surveying v) ws end d at (seenOf xs seeks null) there (seenOf xs seeks′ null′)
+  survey-token d four xs e f = survey-leaf d (λ z. omega arith) e (leaf-symbol v xs (omega arith) f)
+
   pub survey-block : (d : ℕ) → k ≡ blockKind → {m q : ℕ} (xs ys : List ℕ) (seeks null seeks′ null′ : Bool) → m ≡ getD ws p 0
       → AlternativesWalked (surveying v) ws end (d - 1) m (p + 1) (seenOf xs seeks false) q (seenOf ys seeks′ null′)
       → ElementWalked (surveying v) ws end d at (seenOf xs seeks null) q (seenOf ys (seeks && (skips || null′)) (null && (skips || null′)))
@@ -82,7 +92,7 @@ pub survey-alternative : (v : View) {ws : List ℕ} {end at : ℕ} (d : ℕ) {co
 unfolding surveying seenOf pastAlternative
 survey-alternative v d head xs ys seeks null seeks′ null′ c = fold-alternative (surveying v) d head (λ a z w. refl) c λ a z w. refl
 
-pub ruleset surveys = (survey-leaf, survey-block, survey-alternative)
+pub ruleset surveys = (survey-leaf, survey-token, survey-block, survey-alternative)
 
 -- The word that packs kind and quantifier, read.
 pub skips-word : {w x : ℕ} → w ≡ x → (leb 1 (w / 256) && leb (w / 256) 4) ≡ skipping x

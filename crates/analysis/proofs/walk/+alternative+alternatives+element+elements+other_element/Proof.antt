@@ -1,4 +1,4 @@
--- The functions of `survey` that walk alternatives and elements meet their contracts: depth falls, then the kind of record.
+-- The functions of `walk` that walk alternatives and elements meet their contracts: depth falls, then the kind of record.
 use borrow.Author.Needs.{needs}
 use native.Mathlib.Omega.{arith}
 use mathlib.Core.Path.{_≡_}
@@ -8,42 +8,48 @@ use Rattle.grammar.specs.Words.{words}
 use Rattle.grammar.specs.Laws.Found.{rooms, inner}
 use Rattle.grammar.specs.Laws.Fold.{ElementsFolding, AlternativesFolding, folding}
 use Rattle.analysis.specs.Survey.{viewOf, seenOf, surveying}
-use Rattle.analysis.proofs.Laws.Walks.{surveys}
-use Prim.Native.Nat.{ℕ, _<_}
+use Rattle.analysis.proofs.Laws.Walks.{surveys, block-lower}
 use borrow.Fn.Kinds.{In}
 use borrow.Fn.PlainCycle.{Measures, is, falls, and}
-use Rattle.analysis.proofs.survey.alternative.Reads as alternative
-use Rattle.analysis.proofs.survey.alternative.Kinds as alternative-kinds
-use Rattle.analysis.proofs.survey.+alternative+alternatives+element+elements.Lts-alternative as alternative-lts
-use Rattle.analysis.proofs.survey.alternatives.Reads as alternatives
-use Rattle.analysis.proofs.survey.alternatives.Kinds as alternatives-kinds
-use Rattle.analysis.proofs.survey.+alternative+alternatives+element+elements.Lts-alternatives as alternatives-lts
-use Rattle.analysis.proofs.survey.element.Reads as element
-use Rattle.analysis.proofs.survey.element.Kinds as element-kinds
-use Rattle.analysis.proofs.survey.+alternative+alternatives+element+elements.Lts-element as element-lts
-use Rattle.analysis.proofs.survey.elements.Reads as elements
-use Rattle.analysis.proofs.survey.elements.Kinds as elements-kinds
-use Rattle.analysis.proofs.survey.+alternative+alternatives+element+elements.Lts-elements as elements-lts
+use Rattle.analysis.proofs.walk.alternative.Reads as alternative
+use Rattle.analysis.proofs.walk.alternative.Kinds as alternative-kinds
+use Rattle.analysis.proofs.walk.+alternative+alternatives+element+elements+other_element.Lts-alternative as alternative-lts
+use Rattle.analysis.proofs.walk.alternatives.Reads as alternatives
+use Rattle.analysis.proofs.walk.alternatives.Kinds as alternatives-kinds
+use Rattle.analysis.proofs.walk.+alternative+alternatives+element+elements+other_element.Lts-alternatives as alternatives-lts
+use Rattle.analysis.proofs.walk.element.Reads as element
+use Rattle.analysis.proofs.walk.element.Kinds as element-kinds
+use Rattle.analysis.proofs.walk.+alternative+alternatives+element+elements+other_element.Lts-element as element-lts
+use Rattle.analysis.proofs.walk.elements.Reads as elements
+use Rattle.analysis.proofs.walk.elements.Kinds as elements-kinds
+use Rattle.analysis.proofs.walk.+alternative+alternatives+element+elements+other_element.Lts-elements as elements-lts
+use Rattle.analysis.proofs.walk.other_element.Reads as other-element
+use Rattle.analysis.proofs.walk.other_element.Kinds as other-element-kinds
+use Rattle.analysis.proofs.walk.+alternative+alternatives+element+elements+other_element.Lts-other_element as other-element-lts
 use Rattle.analysis.proofs.leaf.see_leaf.Reads as see-leaf-reads
+use Rattle.analysis.proofs.leaf.see_symbol.Reads as see-symbol-reads
 use Rattle.analysis.proofs.leaf.skips_at.Reads as skips-at-reads
 use Rattle.words.proofs.walk.alternative_head.Reads as alternative-head-reads
 use Rattle.words.proofs.walk.element_head.Reads as element-head-reads
 use Rattle.words.proofs.walk.leaf_end.Reads as leaf-end-reads
 use Rattle.words.proofs.words.word.Reads as word-reads
-use Rattle.analysis.proofs.survey.+alternative+alternatives+element+elements.{statement}
-use Rattle.analysis.proofs.survey.+alternative+alternatives+element+elements.Tie.{close}
+use Rattle.analysis.proofs.walk.+alternative+alternatives+element+elements+other_element.{statement}
+use Rattle.analysis.proofs.walk.+alternative+alternatives+element+elements+other_element.Tie.{close}
 
 abbrev μ-alternative : Measures 4 alternative-kinds.ps ℕ
-μ-alternative κs a = a .1 .1 .0 * 4 + 2
+μ-alternative κs a = a .1 .1 .0 * 5 + 3
 
 abbrev μ-alternatives : Measures 4 alternatives-kinds.ps ℕ
-μ-alternatives κs a = a .1 .1 .0 * 4 + 3
+μ-alternatives κs a = a .1 .1 .0 * 5 + 4
 
 abbrev μ-element : Measures 4 element-kinds.ps ℕ
-μ-element κs a = a .1 .1 .0 * 4
+μ-element κs a = a .1 .1 .0 * 5 + 1
 
 abbrev μ-elements : Measures 4 elements-kinds.ps ℕ
-μ-elements κs a = a .1 .1 .0 * 4 + 1
+μ-elements κs a = a .1 .1 .0 * 5 + 2
+
+abbrev μ-other-element : Measures 4 other-element-kinds.ps ℕ
+μ-other-element κs a = a .1 .1 .0 * 5
 
 abbrev alternative-at : ℕ → In 4 alternative-kinds.ps
 alternative-at t =
@@ -78,6 +84,18 @@ abbrev elements-below : ℕ → In 4 elements-kinds.ps
 elements-below t =
     and 4 elements-kinds.ps (falls 4 elements-kinds.ps _<_ μ-elements t) elements.Pre
 
+abbrev other-element-at : ℕ → In 4 other-element-kinds.ps
+other-element-at t =
+    and 4 other-element-kinds.ps (is 4 other-element-kinds.ps μ-other-element t) other-element.Pre
+
+abbrev other-element-below : ℕ → In 4 other-element-kinds.ps
+other-element-below t =
+    and
+    4
+    other-element-kinds.ps
+    (falls 4 other-element-kinds.ps _<_ μ-other-element t)
+    other-element.Pre
+
 abbrev alternatives-Inv-loop : alternatives-lts.InvT-loop
 alternatives-Inv-loop s end depth names known table n t₀ i₀ p₀ t i p = (length t ≡ length t₀) × AlternativesFolding (surveying (viewOf names known)) (words s) end depth n (p₀ .at) (seenOf t₀ (p₀ .seeks) (p₀ .null)) i (p .at) (seenOf t (p .seeks) (p .null))
 
@@ -90,9 +108,9 @@ elements-Inv-loop s end depth names known table n t₀ i₀ p₀ t i p = (length
 abbrev elements-μ-loop : elements-lts.MeasureT-loop
 elements-μ-loop s end depth names known table n t₀ i₀ p₀ t i p = i
 
-pub +alternative+alternatives+element+elements-spec : {M : Type 1} → statement M
-+alternative+alternatives+element+elements-spec =
-    close μ-alternative μ-alternatives μ-element μ-elements (λ t. alternative-lts.spec (
+pub +alternative+alternatives+element+elements+other-element-spec : {M : Type 1} → statement M
++alternative+alternatives+element+elements+other-element-spec =
+    close μ-alternative μ-alternatives μ-element μ-elements μ-other-element (λ t. alternative-lts.spec (
       alternative-head-reads.Asked,
       alternative-head-reads.Learnt,
       elements-below t,
@@ -120,32 +138,26 @@ pub +alternative+alternatives+element+elements-spec : {M : Type 1} → statement
     (λ t. element-lts.spec (
       element-head-reads.Asked,
       element-head-reads.Learnt,
-      skips-at-reads.Asked,
-      skips-at-reads.Learnt,
-      word-reads.Asked,
-      word-reads.Learnt,
-      alternatives-below t,
-      alternatives.Post,
       leaf-end-reads.Asked,
       leaf-end-reads.Learnt,
-      see-leaf-reads.Asked,
-      see-leaf-reads.Learnt,
+      skips-at-reads.Asked,
+      skips-at-reads.Learnt,
+      see-symbol-reads.Asked,
+      see-symbol-reads.Learnt,
+      other-element-below t,
+      other-element.Post,
     )
     (element-at t)
     element.Post
     (λ c κs. search (needs, rooms, inner, surveys))
+    (λ c κs. (search needs, ((search needs, λ z. omega arith), search needs)))
     (λ c κs. search (needs, rooms, inner, surveys))
     (λ c κs. search (needs, rooms, inner, surveys))
     (λ c. search (needs, rooms, inner, surveys))
-    (λ c. search (needs, rooms, inner, surveys))
-    (λ c κs. (search inner, (search (needs, inner), (search needs, search (needs, inner)))))
-    (λ c. search (needs, rooms, inner, surveys))
-    (λ c. search (needs, rooms, inner, surveys))
-    (λ c κs. search (needs, rooms, inner, surveys))
     (λ c κs. search (needs, rooms, inner, surveys))
     (λ c. search (needs, rooms, inner, surveys))
     (λ c. search (needs, rooms, inner, surveys)))
-    λ t. elements-lts.spec
+    (λ t. elements-lts.spec
     (element-below t, element.Post)
     (elements-at t)
     elements.Post
@@ -157,4 +169,32 @@ pub +alternative+alternatives+element+elements-spec : {M : Type 1} → statement
     (λ c. search (needs, folding))
     (λ c. search (needs, folding))
     (λ c. search (needs, folding))
-    (λ c. search (needs, folding))
+    (λ c. search (needs, folding)))
+    λ t. other-element-lts.spec (
+      element-head-reads.Asked,
+      element-head-reads.Learnt,
+      skips-at-reads.Asked,
+      skips-at-reads.Learnt,
+      word-reads.Asked,
+      word-reads.Learnt,
+      alternatives-below t,
+      alternatives.Post,
+      leaf-end-reads.Asked,
+      leaf-end-reads.Learnt,
+      see-leaf-reads.Asked,
+      see-leaf-reads.Learnt,
+    )
+    (other-element-at t)
+    other-element.Post
+    (λ c κs. search (needs, rooms, inner, surveys))
+    (λ c κs. search (needs, rooms, inner, surveys))
+    (λ c κs. search (needs, rooms, inner, surveys))
+    (λ c. search (needs, rooms, inner, surveys))
+    (λ c. search (needs, rooms, inner, surveys))
+    (λ c κs. (search block-lower, (search (needs, inner), (search needs, search (needs, inner)))))
+    (λ c. search (needs, rooms, inner, surveys))
+    (λ c. search (needs, rooms, inner, surveys))
+    (λ c κs. search (needs, rooms, inner, surveys))
+    (λ c κs. search (needs, rooms, inner, surveys))
+    (λ c. search (needs, rooms, inner, surveys))
+    (λ c. search (needs, rooms, inner, surveys))
