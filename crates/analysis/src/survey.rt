@@ -19,24 +19,36 @@ ghost use Rattle.analysis.specs.Names.{Tabled};
 ghost use Rattle.analysis.specs.Survey.{viewOf, seenOf, OutermostWalked, BodyWalked};
 ghost use Rattle.analysis.specs.Facts.{Surveyed};
 
-// The outermost alternative at `w.at`, whose label stops inlining.
+// The outermost alternative at `at`, whose label stops inlining.
 fn outermost(
     s: &[u8],
     end: usize,
     names: &[u32],
     known: Known,
     table: &[u8],
-    w: Place,
+    at: usize,
+    seeks: bool,
+    null: bool,
     t: &mut [u64],
 ) -> Place
     requires { ⌜ Room (now s) end × (known .n ≤ ruleLimit) × (5 ≤ length (now t)) ⌝ }
     requires { ⌜ Tabled (now names) (known .n) (now table) ⌝ }
-    requires { ⌜ FoundAlternative (words (now s)) end innerDepth (w .at) × (w .at + 5 ≤ end) ⌝ }
-    ensures { λ r. ⌜ OutermostWalked (viewOf (now (names .entry)) known) (words (now (s .entry))) end (w .at)
-        (seenOf (now (t .entry)) (w .seeks) (w .null)) (r .at) (seenOf (now (t .exit)) (r .seeks) (r .null)) ⌝ }
+    requires { ⌜ FoundAlternative (words (now s)) end innerDepth at × (at + 5 ≤ end) ⌝ }
+    ensures { λ r. ⌜ OutermostWalked (viewOf (now (names .entry)) known) (words (now (s .entry))) end at
+        (seenOf (now (t .entry)) seeks null) (r .at) (seenOf (now (t .exit)) (r .seeks) (r .null)) ⌝ }
 {
-    let at = w.at;
-    let r = alternative(s, end, Block::DEPTH, names, known, table, w, t);
+    let r = alternative(
+        s,
+        end,
+        Block::DEPTH,
+        names,
+        known,
+        table,
+        at,
+        seeks,
+        null,
+        t,
+    );
     if word(s, at + 2) == 0 {
         return r;
     }
@@ -44,7 +56,7 @@ fn outermost(
     r
 }
 
-// n outermost alternatives from `w.at` on.
+// n outermost alternatives from `at` on.
 fn body(
     s: &[u8],
     end: usize,
@@ -52,23 +64,33 @@ fn body(
     known: Known,
     table: &[u8],
     n: u32,
-    w: Place,
+    at: usize,
+    seeks: bool,
+    null: bool,
     t: &mut [u64],
 ) -> Place
-    requires { ⌜ Room (now s) end × (known .n ≤ ruleLimit) × (5 ≤ length (now t)) × (w .at ≤ end) ⌝ }
+    requires { ⌜ Room (now s) end × (known .n ≤ ruleLimit) × (5 ≤ length (now t)) × (at ≤ end) ⌝ }
     requires { ⌜ Tabled (now names) (known .n) (now table) ⌝ }
-    requires { ⌜ FoundAlternatives (words (now s)) end innerDepth n (w .at) ⌝ }
-    ensures { λ r. ⌜ BodyWalked (viewOf (now (names .entry)) known) (words (now (s .entry))) end n (w .at)
-        (seenOf (now (t .entry)) (w .seeks) (w .null)) (r .at) (seenOf (now (t .exit)) (r .seeks) (r .null)) ⌝ }
+    requires { ⌜ FoundAlternatives (words (now s)) end innerDepth n at ⌝ }
+    ensures { λ r. ⌜ BodyWalked (viewOf (now (names .entry)) known) (words (now (s .entry))) end n at
+        (seenOf (now (t .entry)) seeks null) (r .at) (seenOf (now (t .exit)) (r .seeks) (r .null)) ⌝ }
 {
     let mut i: u32 = n;
-    let mut p = w;
+    let mut here = at;
+    let mut sought = seeks;
+    let mut empty = null;
     while i != 0 {
-        let q = outermost(s, end, names, known, table, p, t);
-        p = q;
+        let q = outermost(s, end, names, known, table, here, sought, empty, t);
+        here = q.at;
+        sought = q.seeks;
+        empty = q.null;
         i -= 1;
     }
-    p
+    Place {
+        at: here,
+        seeks: sought,
+        null: empty,
+    }
 }
 
 // What a survey finds of a rule.
@@ -96,12 +118,18 @@ pub fn survey_rule(
     let mut t = [0u64; Slot::ALL];
     let count = word(s, at + 3);
     let flags = word(s, at + 2);
-    let front = Place {
-        at: at + 4,
-        seeks: true,
-        null: false,
-    };
-    let w = body(s, end, names, known, table, count, front, &mut t);
+    let w = body(
+        s,
+        end,
+        names,
+        known,
+        table,
+        count,
+        at + 4,
+        true,
+        false,
+        &mut t,
+    );
     Survey {
         calls: [t[0], t[1]],
         corners: [t[2], t[3]],

@@ -26,7 +26,7 @@ pub struct Place {
     pub null: bool,
 }
 
-// The element at `w.at`, a block with all that is in it. Most are tokens, which are seen here, without a call.
+// The element at `at`, a block with all that is in it. Most are tokens, which are seen here, without a call.
 pub fn element(
     s: &[u8],
     end: usize,
@@ -34,23 +34,21 @@ pub fn element(
     names: &[u32],
     known: Known,
     table: &[u8],
-    w: Place,
+    at: usize,
+    seeks: bool,
+    null: bool,
     t: &mut [u64],
 ) -> Place
     requires { ⌜ Room (now s) end × (known .n ≤ ruleLimit) × (5 ≤ length (now t)) ⌝ }
     requires { ⌜ Tabled (now names) (known .n) (now table) ⌝ }
-    requires { ⌜ FoundElement (words (now s)) end depth (w .at) ⌝ }
-    ensures { λ r. ⌜ ElementWalked (surveying (viewOf (now (names .entry)) known)) (words (now (s .entry))) end depth (w .at)
-        (seenOf (now (t .entry)) (w .seeks) (w .null)) (r .at) (seenOf (now (t .exit)) (r .seeks) (r .null)) ⌝ }
+    requires { ⌜ FoundElement (words (now s)) end depth at ⌝ }
+    ensures { λ r. ⌜ ElementWalked (surveying (viewOf (now (names .entry)) known)) (words (now (s .entry))) end depth at
+        (seenOf (now (t .entry)) seeks null) (r .at) (seenOf (now (t .exit)) (r .seeks) (r .null)) ⌝ }
 {
-    let at = w.at;
     let head = element_head(s, end, depth, at);
     if head.kind == Kind::TOKEN {
         let there = leaf_end(s, end, depth, at, head.kind, head.payload);
-        let p = Passing {
-            seeks: w.seeks,
-            null: w.null,
-        };
+        let p = Passing { seeks, null };
         let q = see_symbol(known.past, skips_at(s, at), p);
         return Place {
             at: there,
@@ -58,7 +56,7 @@ pub fn element(
             null: q.null,
         };
     }
-    other_element(s, end, depth, names, known, table, w, t)
+    other_element(s, end, depth, names, known, table, at, seeks, null, t)
 }
 
 // The same of any element, in a function of its own so that `element` stays small.
@@ -69,40 +67,45 @@ fn other_element(
     names: &[u32],
     known: Known,
     table: &[u8],
-    w: Place,
+    at: usize,
+    seeks: bool,
+    null: bool,
     t: &mut [u64],
 ) -> Place
     requires { ⌜ Room (now s) end × (known .n ≤ ruleLimit) × (5 ≤ length (now t)) ⌝ }
     requires { ⌜ Tabled (now names) (known .n) (now table) ⌝ }
-    requires { ⌜ FoundElement (words (now s)) end depth (w .at) ⌝ }
-    ensures { λ r. ⌜ ElementWalked (surveying (viewOf (now (names .entry)) known)) (words (now (s .entry))) end depth (w .at)
-        (seenOf (now (t .entry)) (w .seeks) (w .null)) (r .at) (seenOf (now (t .exit)) (r .seeks) (r .null)) ⌝ }
+    requires { ⌜ FoundElement (words (now s)) end depth at ⌝ }
+    ensures { λ r. ⌜ ElementWalked (surveying (viewOf (now (names .entry)) known)) (words (now (s .entry))) end depth at
+        (seenOf (now (t .entry)) seeks null) (r .at) (seenOf (now (t .exit)) (r .seeks) (r .null)) ⌝ }
 {
-    let at = w.at;
     let head = element_head(s, end, depth, at);
     let kind = head.kind;
     let payload = head.payload;
     let skips = skips_at(s, at);
     if kind == Kind::BLOCK {
         let count = word(s, payload);
-        let inner = Place {
-            at: payload + 1,
-            seeks: w.seeks,
-            null: false,
-        };
-        let b = alternatives(s, end, depth - 1, names, known, table, count, inner, t);
+        let b = alternatives(
+            s,
+            end,
+            depth - 1,
+            names,
+            known,
+            table,
+            count,
+            payload + 1,
+            seeks,
+            false,
+            t,
+        );
         let empty = skips | b.null;
         return Place {
             at: b.at,
-            seeks: w.seeks & empty,
-            null: w.null & empty,
+            seeks: seeks & empty,
+            null: null & empty,
         };
     }
     let there = leaf_end(s, end, depth, at, kind, payload);
-    let p = Passing {
-        seeks: w.seeks,
-        null: w.null,
-    };
+    let p = Passing { seeks, null };
     let q = see_leaf(
         s,
         end,
@@ -124,7 +127,7 @@ fn other_element(
     }
 }
 
-// n elements from `w.at` on.
+// n elements from `at` on.
 fn elements(
     s: &[u8],
     end: usize,
@@ -133,26 +136,36 @@ fn elements(
     known: Known,
     table: &[u8],
     n: u32,
-    w: Place,
+    at: usize,
+    seeks: bool,
+    null: bool,
     t: &mut [u64],
 ) -> Place
-    requires { ⌜ Room (now s) end × (known .n ≤ ruleLimit) × (5 ≤ length (now t)) × (w .at ≤ end) ⌝ }
+    requires { ⌜ Room (now s) end × (known .n ≤ ruleLimit) × (5 ≤ length (now t)) × (at ≤ end) ⌝ }
     requires { ⌜ Tabled (now names) (known .n) (now table) ⌝ }
-    requires { ⌜ FoundElements (words (now s)) end depth n (w .at) ⌝ }
-    ensures { λ r. ⌜ ElementsWalked (surveying (viewOf (now (names .entry)) known)) (words (now (s .entry))) end depth n (w .at)
-        (seenOf (now (t .entry)) (w .seeks) (w .null)) (r .at) (seenOf (now (t .exit)) (r .seeks) (r .null)) ⌝ }
+    requires { ⌜ FoundElements (words (now s)) end depth n at ⌝ }
+    ensures { λ r. ⌜ ElementsWalked (surveying (viewOf (now (names .entry)) known)) (words (now (s .entry))) end depth n at
+        (seenOf (now (t .entry)) seeks null) (r .at) (seenOf (now (t .exit)) (r .seeks) (r .null)) ⌝ }
 {
     let mut i: u32 = n;
-    let mut p = w;
+    let mut here = at;
+    let mut sought = seeks;
+    let mut empty = null;
     while i != 0 {
-        let q = element(s, end, depth, names, known, table, p, t);
-        p = q;
+        let q = element(s, end, depth, names, known, table, here, sought, empty, t);
+        here = q.at;
+        sought = q.seeks;
+        empty = q.null;
         i -= 1;
     }
-    p
+    Place {
+        at: here,
+        seeks: sought,
+        null: empty,
+    }
 }
 
-// The alternative at `w.at`.
+// The alternative at `at`.
 pub fn alternative(
     s: &[u8],
     end: usize,
@@ -160,31 +173,40 @@ pub fn alternative(
     names: &[u32],
     known: Known,
     table: &[u8],
-    w: Place,
+    at: usize,
+    seeks: bool,
+    null: bool,
     t: &mut [u64],
 ) -> Place
     requires { ⌜ Room (now s) end × (known .n ≤ ruleLimit) × (5 ≤ length (now t)) ⌝ }
     requires { ⌜ Tabled (now names) (known .n) (now table) ⌝ }
-    requires { ⌜ FoundAlternative (words (now s)) end depth (w .at) ⌝ }
-    ensures { λ r. ⌜ AlternativeWalked (surveying (viewOf (now (names .entry)) known)) (words (now (s .entry))) end depth (w .at)
-        (seenOf (now (t .entry)) (w .seeks) (w .null)) (r .at) (seenOf (now (t .exit)) (r .seeks) (r .null)) ⌝ }
+    requires { ⌜ FoundAlternative (words (now s)) end depth at ⌝ }
+    ensures { λ r. ⌜ AlternativeWalked (surveying (viewOf (now (names .entry)) known)) (words (now (s .entry))) end depth at
+        (seenOf (now (t .entry)) seeks null) (r .at) (seenOf (now (t .exit)) (r .seeks) (r .null)) ⌝ }
 {
-    let head = alternative_head(s, end, depth, w.at);
+    let head = alternative_head(s, end, depth, at);
     let count = head.count;
-    let inner = Place {
-        at: head.first,
-        seeks: w.seeks,
-        null: true,
-    };
-    let e = elements(s, end, depth, names, known, table, count, inner, t);
+    let e = elements(
+        s,
+        end,
+        depth,
+        names,
+        known,
+        table,
+        count,
+        head.first,
+        seeks,
+        true,
+        t,
+    );
     Place {
         at: e.at,
-        seeks: w.seeks,
-        null: w.null | e.null,
+        seeks,
+        null: null | e.null,
     }
 }
 
-// n alternatives from `w.at` on: a block.
+// n alternatives from `at` on: a block.
 fn alternatives(
     s: &[u8],
     end: usize,
@@ -193,21 +215,31 @@ fn alternatives(
     known: Known,
     table: &[u8],
     n: u32,
-    w: Place,
+    at: usize,
+    seeks: bool,
+    null: bool,
     t: &mut [u64],
 ) -> Place
-    requires { ⌜ Room (now s) end × (known .n ≤ ruleLimit) × (5 ≤ length (now t)) × (w .at ≤ end) ⌝ }
+    requires { ⌜ Room (now s) end × (known .n ≤ ruleLimit) × (5 ≤ length (now t)) × (at ≤ end) ⌝ }
     requires { ⌜ Tabled (now names) (known .n) (now table) ⌝ }
-    requires { ⌜ FoundAlternatives (words (now s)) end depth n (w .at) ⌝ }
-    ensures { λ r. ⌜ AlternativesWalked (surveying (viewOf (now (names .entry)) known)) (words (now (s .entry))) end depth n (w .at)
-        (seenOf (now (t .entry)) (w .seeks) (w .null)) (r .at) (seenOf (now (t .exit)) (r .seeks) (r .null)) ⌝ }
+    requires { ⌜ FoundAlternatives (words (now s)) end depth n at ⌝ }
+    ensures { λ r. ⌜ AlternativesWalked (surveying (viewOf (now (names .entry)) known)) (words (now (s .entry))) end depth n at
+        (seenOf (now (t .entry)) seeks null) (r .at) (seenOf (now (t .exit)) (r .seeks) (r .null)) ⌝ }
 {
     let mut i: u32 = n;
-    let mut p = w;
+    let mut here = at;
+    let mut sought = seeks;
+    let mut empty = null;
     while i != 0 {
-        let q = alternative(s, end, depth, names, known, table, p, t);
-        p = q;
+        let q = alternative(s, end, depth, names, known, table, here, sought, empty, t);
+        here = q.at;
+        sought = q.seeks;
+        empty = q.null;
         i -= 1;
     }
-    p
+    Place {
+        at: here,
+        seeks: sought,
+        null: empty,
+    }
 }

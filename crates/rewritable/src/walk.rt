@@ -4,7 +4,6 @@ use analysis::leaf::Known;
 use analysis::leaf::Passing;
 use analysis::leaf::Slot;
 use analysis::leaf::see_leaf;
-use analysis::walk::Place;
 use analysis::walk::element;
 use planned::list::Item;
 use planned::list::Listed;
@@ -58,12 +57,7 @@ fn walk_item(
             t,
         );
     }
-    let from = Place {
-        at,
-        seeks: p.seeks,
-        null: p.null,
-    };
-    let w = element(s, end, depth, names, known, table, from, t);
+    let w = element(s, end, depth, names, known, table, at, p.seeks, p.null, t);
     Passing {
         seeks: w.seeks,
         null: w.null,

@@ -10,10 +10,10 @@ use Rattle.analysis.proofs.survey.body.Statement.{statement}
 use Rattle.analysis.proofs.survey.body.Tie as tie
 
 abbrev Inv-loop : tie.InvT-loop
-Inv-loop s end names known table n t₀ i₀ p₀ t i p = (length t ≡ length t₀) × BodyFolding (viewOf names known) (words s) end n (p₀ .at) (seenOf t₀ (p₀ .seeks) (p₀ .null)) i (p .at) (seenOf t (p .seeks) (p .null))
+Inv-loop s end names known table n at seeks null t₀ i₀ here₀ sought₀ empty₀ t i here sought empty = (length t ≡ length t₀) × BodyFolding (viewOf names known) (words s) end n at (seenOf t₀ seeks null) i here (seenOf t sought empty)
 
 abbrev μ-loop : tie.MeasureT-loop
-μ-loop s end names known table n t₀ i₀ p₀ t i p = i
+μ-loop s end names known table n at seeks null t₀ i₀ here₀ sought₀ empty₀ t i here sought empty = i
 
 pub body-spec : {M : Type 1} → statement M
 body-spec =

@@ -97,16 +97,16 @@ other-element-below t =
     other-element.Pre
 
 abbrev alternatives-Inv-loop : alternatives-lts.InvT-loop
-alternatives-Inv-loop s end depth names known table n t₀ i₀ p₀ t i p = (length t ≡ length t₀) × AlternativesFolding (surveying (viewOf names known)) (words s) end depth n (p₀ .at) (seenOf t₀ (p₀ .seeks) (p₀ .null)) i (p .at) (seenOf t (p .seeks) (p .null))
+alternatives-Inv-loop s end depth names known table n at seeks null t₀ i₀ here₀ sought₀ empty₀ t i here sought empty = (length t ≡ length t₀) × AlternativesFolding (surveying (viewOf names known)) (words s) end depth n at (seenOf t₀ seeks null) i here (seenOf t sought empty)
 
 abbrev alternatives-μ-loop : alternatives-lts.MeasureT-loop
-alternatives-μ-loop s end depth names known table n t₀ i₀ p₀ t i p = i
+alternatives-μ-loop s end depth names known table n at seeks null t₀ i₀ here₀ sought₀ empty₀ t i here sought empty = i
 
 abbrev elements-Inv-loop : elements-lts.InvT-loop
-elements-Inv-loop s end depth names known table n t₀ i₀ p₀ t i p = (length t ≡ length t₀) × ElementsFolding (surveying (viewOf names known)) (words s) end depth n (p₀ .at) (seenOf t₀ (p₀ .seeks) (p₀ .null)) i (p .at) (seenOf t (p .seeks) (p .null))
+elements-Inv-loop s end depth names known table n at seeks null t₀ i₀ here₀ sought₀ empty₀ t i here sought empty = (length t ≡ length t₀) × ElementsFolding (surveying (viewOf names known)) (words s) end depth n at (seenOf t₀ seeks null) i here (seenOf t sought empty)
 
 abbrev elements-μ-loop : elements-lts.MeasureT-loop
-elements-μ-loop s end depth names known table n t₀ i₀ p₀ t i p = i
+elements-μ-loop s end depth names known table n at seeks null t₀ i₀ here₀ sought₀ empty₀ t i here sought empty = i
 
 pub +alternative+alternatives+element+elements+other-element-spec : {M : Type 1} → statement M
 +alternative+alternatives+element+elements+other-element-spec =
