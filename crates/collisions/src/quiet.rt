@@ -51,6 +51,28 @@ fn see_leaf(
     noisy | (reference_count(s, end, depth, at, kind, payload) != 0)
 }
 
+// The element at `at`, which is no block.
+fn leaf(
+    s: &[u8],
+    end: usize,
+    depth: u32,
+    at: usize,
+    kind: u32,
+    payload: usize,
+    noisy: bool,
+) -> Place
+    requires { ⌜ Room (now s) end ⌝ }
+    requires { ⌜ HeadAt (words (now s)) end at kind payload × (kind ≡ blockKind → ⊥) × FoundElement (words (now s)) end depth at ⌝ }
+    ensures { λ r. ⌜ ElementWalked listening (words (now (s .entry))) end depth at noisy (r .at) (r .noisy) ⌝ }
+{
+    let there = leaf_end(s, end, depth, at, kind, payload);
+    let labelled = see_label(s, at, noisy);
+    Place {
+        at: there,
+        noisy: see_leaf(s, end, depth, at, kind, payload, labelled),
+    }
+}
+
 // The element at `w.at`, a block with all that is in it.
 fn element(s: &[u8], end: usize, depth: u32, w: Place) -> Place
     requires { ⌜ Room (now s) end ⌝ }
@@ -61,20 +83,15 @@ fn element(s: &[u8], end: usize, depth: u32, w: Place) -> Place
     let head = element_head(s, end, depth, at);
     let kind = head.kind;
     let payload = head.payload;
-    let noisy = see_label(s, at, w.noisy);
     if kind == Kind::BLOCK {
         let count = word(s, payload);
         let inner = Place {
             at: payload + 1,
-            noisy,
+            noisy: see_label(s, at, w.noisy),
         };
         return alternatives(s, end, depth - 1, count, inner);
     }
-    let there = leaf_end(s, end, depth, at, kind, payload);
-    Place {
-        at: there,
-        noisy: see_leaf(s, end, depth, at, kind, payload, noisy),
-    }
+    leaf(s, end, depth, at, kind, payload, w.noisy)
 }
 
 // n elements from `w.at` on.
@@ -124,6 +141,21 @@ fn alternatives(s: &[u8], end: usize, depth: u32, n: u32, w: Place) -> Place
     p
 }
 
+// An element of a planned alternative. Most are no blocks, and are looked at without a call of `element`.
+fn outermost(s: &[u8], end: usize, at: usize, noisy: bool) -> Place
+    requires { ⌜ Room (now s) end ⌝ }
+    requires { ⌜ FoundElement (words (now s)) end innerDepth at ⌝ }
+    ensures { λ r. ⌜ ElementWalked listening (words (now (s .entry))) end innerDepth at noisy (r .at) (r .noisy) ⌝ }
+{
+    let head = element_head(s, end, Block::DEPTH, at);
+    let kind = head.kind;
+    if kind == Kind::BLOCK {
+        let w = Place { at, noisy };
+        return element(s, end, Block::DEPTH, w);
+    }
+    leaf(s, end, Block::DEPTH, at, kind, head.payload, noisy)
+}
+
 // Whether nothing in a planned alternative has a label or a reference.
 pub fn is_quiet(s: &[u8], end: usize, work: &[u8], x: Listed) -> bool
     requires { ⌜ Room (now s) end × Located (now work) x ⌝ }
@@ -134,8 +166,7 @@ pub fn is_quiet(s: &[u8], end: usize, work: &[u8], x: Listed) -> bool
     let mut noisy = false;
     while i < x.ne {
         let e = item(work, x, i);
-        let w = Place { at: e.at, noisy };
-        let r = element(s, end, Block::DEPTH, w);
+        let r = outermost(s, end, e.at, noisy);
         noisy = r.noisy;
         i += 1;
     }

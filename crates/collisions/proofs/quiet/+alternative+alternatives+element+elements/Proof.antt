@@ -21,11 +21,10 @@ use Rattle.collisions.proofs.quiet.+alternative+alternatives+element+el
 use Rattle.collisions.proofs.quiet.elements.Reads as elements
 use Rattle.collisions.proofs.quiet.elements.Kinds as elements-kinds
 use Rattle.collisions.proofs.quiet.+alternative+alternatives+element+elements.Lts-elements as elements-lts
+use Rattle.collisions.proofs.quiet.leaf.Reads as leaf-reads
 use Rattle.collisions.proofs.quiet.see_label.Reads as see-label-reads
-use Rattle.collisions.proofs.quiet.see_leaf.Reads as see-leaf-reads
 use Rattle.words.proofs.walk.alternative_head.Reads as alternative-head-reads
 use Rattle.words.proofs.walk.element_head.Reads as element-head-reads
-use Rattle.words.proofs.walk.leaf_end.Reads as leaf-end-reads
 use Rattle.words.proofs.words.word.Reads as word-reads
 use Rattle.collisions.proofs.quiet.+alternative+alternatives+element+elements.{statement}
 use Rattle.collisions.proofs.quiet.+alternative+alternatives+element+elements.Tie.{close}
@@ -117,29 +116,26 @@ pub +alternative+alternatives+element+elements-spec : {M : Type 1} → statement
     (λ t. element-lts.spec (
       element-head-reads.Asked,
       element-head-reads.Learnt,
-      see-label-reads.Asked,
-      see-label-reads.Learnt,
       word-reads.Asked,
       word-reads.Learnt,
+      see-label-reads.Asked,
+      see-label-reads.Learnt,
       alternatives-below t,
       alternatives.Post,
-      leaf-end-reads.Asked,
-      leaf-end-reads.Learnt,
-      see-leaf-reads.Asked,
-      see-leaf-reads.Learnt,
+      leaf-reads.Asked,
+      leaf-reads.Learnt,
     )
     (element-at t)
     element.Post
     (λ c κs. search (needs, rooms, inner, notes))
     (λ c κs. search (needs, rooms, inner, notes))
-    (λ c κs. search (needs, rooms, inner, notes))
     (λ c. search (needs, rooms, inner, notes))
+    (λ c κs. search (needs, rooms, inner, notes))
     (λ c. search (needs, rooms, inner, notes))
     (λ c κs. (search inner, (search (needs, inner), search (needs, inner))))
     (λ c. search (needs, rooms, inner, notes))
-    (λ c κs. search (needs, rooms, inner, notes))
-    (λ c κs. search (needs, rooms, inner, notes))
-    (λ c. search (needs, rooms, inner, notes)))
+    (λ c κs. search needs)
+    (λ c. search needs))
     λ t. elements-lts.spec
     (element-below t, element.Post)
     (elements-at t)
