@@ -16,11 +16,15 @@ impl Row {
     pub const BITS: usize = 64;
 }
 
+// No index is computed, so that a row can stay out of memory.
 pub fn has(row: [u64; Row::WORDS], j: usize) -> bool
     requires { ⌜ j < ruleLimit ⌝ }
     ensures { λ r. ⌜ r ≡ bit row j ⌝ }
 {
-    (row[j / Row::BITS] >> (j % Row::BITS)) % 2 == 1
+    if j < Row::BITS {
+        return (row[0] >> j) % 2 == 1;
+    }
+    (row[1] >> (j - Row::BITS)) % 2 == 1
 }
 
 // One rule alone.

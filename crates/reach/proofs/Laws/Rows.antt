@@ -43,9 +43,13 @@ two-words row k =
     places k (λ h. low-bit two k h ∙ sym (low-bit row k h)) (λ h i. high-bit two k h i ∙ sym (high-bit row k h i))
     (λ h. no-bit two k h ∙ sym (no-bit row k h))
 
-pub has-bit : (row : List ℕ) (j : ℕ) → j < 128 → eqb (getD row (j / 64) 0 / 2 ^ (j % 64) % 2) 1 ≡ bit row j
-unfolding bit digit
-has-bit row j l = rw (lt-ltb j 128 l)
+pub has-low : (row : List ℕ) (j : ℕ) → j < 64 → eqb (getD row 0 0 / 2 ^ j % 2) 1 ≡ bit row j
+unfolding digit
+has-low row j l = sym (low-bit row j l)
+
+pub has-high : (row : List ℕ) (j : ℕ) → 64 ≤ j → j < 128 → eqb (getD row 1 0 / 2 ^ (j - 64) % 2) 1 ≡ bit row j
+unfolding digit
+has-high row j h l = sym (high-bit row j h l)
 
 pub one-low : (j : ℕ) → j < 64 → One j (1 * 2 ^ j % 18446744073709551616 ∷ 0 ∷ [])
 one-low j l =
