@@ -2,6 +2,6 @@
 pub mod Last
 pub mod Made
 pub mod With
-pub mod Search
 pub mod Cycles
+pub mod Search
 pub mod Ground

@@ -13,7 +13,7 @@ use Rattle.reference.specs.Run.{noPlan, planned, tooLarge, searchCycles, findPl
 use Rattle.reference.specs.Run as R
 use Rattle.records.specs.declared.rules.Rules.{Rules}
 use Rattle.reach.specs.Rows.{RowOf}
-use Rattle.reach.specs.Listed.{CycleRows}
+use Rattle.reach.specs.Listed.{AllLeft}
 use Rattle.analysis.specs.Survey.{reading}
 use Rattle.analysis.specs.declared.rounds.Marks.{Marks}
 use Rattle.hub.specs.Grounds.{Known, rulesOf, grammarAt, IsCycle}
@@ -99,12 +99,11 @@ pub record FoundOf (ws : List ℕ) (end : ℕ) (rules : Rules) (past : Bool) (ca
   pub is : (x : RulesKnown ws end rules past calls corners marks kept) → FoundAs x limits bs r
 
 module _ (ws : List ℕ) (end : ℕ) (rules : Rules) (past : Bool) (calls : List (List ℕ)) (marks : Marks) (kept : List ℕ) where
-  -- With rows that are the definition's cycles, so many of them.
-  pub record CyclesKnown (rows : List (List ℕ)) (n : ℕ) : Type 0 where
+  -- With rows by which the rules that are on a cycle reach each other.
+  pub record JoinedKnown (closed : List (List ℕ)) : Type 0 where
     pub corners : List (List ℕ)
     pub known : RulesKnown ws end rules past calls corners marks kept
-    pub listed : CycleRows (rules .ids) (rules .n) (cyclesOf known) rows n
-    pub low : n ≤ rules .n
+    pub joined : AllLeft corners (rules .n) closed
 
-  pub record TriedOf (rows : List (List ℕ)) (n : ℕ) (limits : Limits) (bs : List ℕ) (r : Found) : Type 0 where
-    pub is : (x : CyclesKnown rows n) → FoundAs (x .known) limits bs r
+  pub record TriedOf (closed : List (List ℕ)) (limits : Limits) (bs : List ℕ) (r : Found) : Type 0 where
+    pub is : (x : JoinedKnown closed) → FoundAs (x .known) limits bs r

@@ -1,9 +1,12 @@
 // The search for the first cycle with a plan (SPECIFICATION 5): the cycles in their order, until one has a plan or passes a limit.
+// No cycle is looked for before those in front of it are declined.
 use crate::plan::Decision;
 use crate::plan::Plan;
 use crate::plan::plan_cycle;
 use analysis::rounds::Marks;
-use reach::cycles::list_cycles;
+use reach::cycles::joined;
+use reach::cycles::next_cycle;
+use reach::reach::loops;
 use reach::rows::Row;
 use records::rules::Rules;
 use turns::state::Limits;
@@ -14,7 +17,7 @@ ghost use Rattle.grammar.specs.Numbers.{ruleLimit, mostWords, workBytes};
 ghost use Rattle.grammar.specs.Words.{words};
 ghost use Rattle.words.specs.Room.{Room};
 ghost use Rattle.turns.specs.Midway.{LimitsFit};
-ghost use Rattle.plan.specs.Search.{IsNone, RulesKnown, FoundOf, CyclesKnown, TriedOf};
+ghost use Rattle.plan.specs.Search.{IsNone, RulesKnown, FoundOf, JoinedKnown, TriedOf};
 
 // A plan, and the members of its cycle as the two words of a row.
 pub struct FoundPlan {
@@ -49,31 +52,37 @@ impl Found {
     }
 }
 
-// The first n rows, each a cycle's members.
+// The cycles of rules that are joined.
 fn try_cycles(
     s: &[u8],
     end: usize,
     rules: Rules,
     past: bool,
     calls: &[[u64; Row::WORDS]; Row::RULES],
-    cycles: &[[u64; Row::WORDS]; Row::RULES],
-    n: usize,
+    closed: &[[u64; Row::WORDS]; Row::RULES],
     marks: Marks,
     kept: [u64; Row::WORDS],
     limits: Limits,
     work: &mut [u8],
 ) -> Found
     requires { ⌜ Room (now s) end × (end ≤ mostWords) × (workBytes ≤ length (now work)) × LimitsFit limits ⌝ }
-    requires { ⌜ (length (now calls) ≡ ruleLimit) × (length (now cycles) ≡ ruleLimit) × (n ≤ ruleLimit) ⌝ }
-    requires { ⌜ CyclesKnown (words (now s)) end rules past (now calls) marks kept (now cycles) n ⌝ }
-    ensures { λ r. ⌜ TriedOf (words (now (s .entry))) end rules past (now (calls .entry)) marks kept (now (cycles .entry)) n limits
+    requires { ⌜ (length (now calls) ≡ ruleLimit) × (length (now closed) ≡ ruleLimit) × (rules .n ≤ ruleLimit) ⌝ }
+    requires { ⌜ JoinedKnown (words (now s)) end rules past (now calls) marks kept (now closed) ⌝ }
+    ensures { λ r. ⌜ TriedOf (words (now (s .entry))) end rules past (now (calls .entry)) marks kept (now (closed .entry)) limits
         (now (work .exit)) r ⌝ }
 {
+    let n = rules.n as usize;
+    let ids = rules.ids;
     let none = Found::none();
     let mut clauses = none.clauses;
+    let mut left = loops(closed, n);
     let mut k = 0;
     while k < n {
-        let members = cycles[k];
+        let ahead = next_cycle(closed, &ids, n, left);
+        if ahead.done {
+            break;
+        }
+        let members = ahead.members;
         match plan_cycle(
             s,
             end,
@@ -88,6 +97,7 @@ fn try_cycles(
         ) {
             Decision::Declined(clause) => {
                 clauses[k] = clause;
+                left = ahead.left;
                 k += 1;
             }
             Decision::Planned(plan) => {
@@ -136,17 +146,14 @@ pub fn find_plan(
     ensures { λ r. ⌜ FoundOf (words (now (s .entry))) end rules past (now (calls .entry)) (now (corners .entry)) marks kept limits
         (now (work .exit)) r ⌝ }
 {
-    let ids = rules.ids;
-    let mut cycles = [[0u64; Row::WORDS]; Row::RULES];
-    let n = list_cycles(*corners, ids, rules.n as usize, &mut cycles);
+    let closed = joined(*corners, rules.n as usize);
     try_cycles(
         s,
         end,
         rules,
         past,
         calls,
-        &cycles,
-        n as usize,
+        &closed,
         marks,
         kept,
         limits,

@@ -9,4 +9,5 @@ pub mod Cycles
 pub mod Graph
 pub mod Listed
 pub mod Given
+pub mod Ahead
 pub mod Written

@@ -2,13 +2,14 @@
 use Prim.Native.Nat.{ℕ, _≤_, _<_}
 use mathlib.Core.Path.{_≡_}
 use mathlib.Core.List.{List, [], _∷_, _++_, map}
-use mathlib.Core.Bool.{true, _&&_}
+use mathlib.Core.Bool.{Bool, true, false, _&&_}
 use lib.ListN.{length, getD}
 use Rattle.grammar.specs.Tree.{Block, RuleOf}
 use Rattle.grammar.specs.Lists.{each, member, distinct}
 use Rattle.grammar.specs.Corners.{Corners}
 use Rattle.reference.specs.Analysis.{Grammar, Row, rowIds, rowOf, reach, component, cyclesFrom, leftCornerCycles}
 use Rattle.graph.specs.Order.{Rising}
+use Rattle.reach.specs.declared.cycles.Ahead.{Ahead}
 use Rattle.reach.specs.declared.cycles.Next.{Next}
 use Rattle.reach.specs.declared.cycles.Next.the-variants.{Done, Rule}
 use Rattle.reach.specs.Rows.{bit, edge, Minus, RowOf, Behind}
@@ -73,6 +74,22 @@ pub record AllLeft (corners : List (List ℕ)) (n : ℕ) (closed : List (List �
 pub record GivesNext (ids left : List ℕ) (n : ℕ) (r : Next) : Type 0 where
   pub gives : (rows : List Row) (all closed cycles : List (List ℕ)) → Ids rows n ids → Left rows n all closed left cycles
       → Gives rows n all closed left cycles r
+
+-- The next one as a row, and a row of what is left behind it.
+pub record Taken (rows : List Row) (ids : List ℕ) (n : ℕ) (all closed cycles : List (List ℕ)) (row less : List ℕ) : Type 0 where
+  pub cycle : List ℕ
+  pub rest : List (List ℕ)
+  pub first : cycles ≡ cycle ∷ rest
+  pub members : RowOf ids n cycle row
+  pub behind : Left rows n all closed less rest
+
+abbrev pub Takes : List Row → List ℕ → ℕ → List (List ℕ) → List (List ℕ) → List (List ℕ) → List ℕ → List ℕ → Bool → Type 0
+Takes rows ids n all closed cycles row less true = cycles ≡ []
+Takes rows ids n all closed cycles row less false = Taken rows ids n all closed cycles row less
+
+pub record AheadOf (closed : List (List ℕ)) (ids : List ℕ) (n : ℕ) (left : List ℕ) (r : Ahead) : Type 0 where
+  pub takes : (rows : List Row) (all cycles : List (List ℕ)) → Ids rows n ids → Left rows n all closed left cycles
+      → Takes rows ids n all closed cycles (r .members) (r .left) (r .done)
 
 -- Cycles in their order, as rows from the first on.
 pub record CycleRows (ids : List ℕ) (n : ℕ) (all rows : List (List ℕ)) (r : ℕ) : Type 0 where

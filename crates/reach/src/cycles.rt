@@ -1,5 +1,5 @@
-// The cycles of a grammar, by least id (SPECIFICATION 6.7, 6.8). `list_cycles` goes through them so: `loops` of what is joined is
-// left; the `first` that is left names a cycle, whose members are `around` it; `minus` these, the later cycles are left.
+// The cycles of a grammar, by least id (SPECIFICATION 6.7, 6.8). They are gone through so: `loops` of what is joined is left; the
+// `first` that is left names a cycle, whose members are `around` it; `minus` these, the later cycles are left.
 use crate::reach::around;
 use crate::reach::closed;
 use crate::reach::loops;
@@ -15,7 +15,7 @@ ghost use lib.ListN.{length};
 ghost use Rattle.grammar.specs.Numbers.{ruleLimit};
 ghost use Rattle.reach.specs.Steps.{Best};
 ghost use Rattle.reach.specs.Cycles.{Joined, IsNext};
-ghost use Rattle.reach.specs.Listed.{AllLeft, GivesNext, CyclesIn};
+ghost use Rattle.reach.specs.Listed.{AllLeft, GivesNext, AheadOf, CyclesIn};
 
 // What is reached between different rules. Where no rule is on a cycle of several, nothing is closed.
 pub fn joined(corners: [[u64; Row::WORDS]; Row::RULES], n: usize) -> [[u64; Row::WORDS]; Row::RULES]
@@ -74,6 +74,42 @@ pub fn first(ids: [u32; Row::RULES], left: [u64; Row::WORDS], n: usize) -> Next
     Next::Done
 }
 
+// The members of the next cycle and those of all behind it, unless none is left.
+pub struct Ahead {
+    pub done: bool,
+    pub members: [u64; Row::WORDS],
+    pub left: [u64; Row::WORDS],
+}
+
+pub fn next_cycle(
+    closed: &[[u64; Row::WORDS]; Row::RULES],
+    ids: &[u32; Row::RULES],
+    n: usize,
+    left: [u64; Row::WORDS],
+) -> Ahead
+    requires { ⌜ (n ≤ ruleLimit) × (length (now closed) ≡ ruleLimit) ⌝ }
+    ensures { λ r. ⌜ AheadOf (now (closed .entry)) (now (ids .entry)) n left r ⌝ }
+{
+    match first(*ids, left, n) {
+        Next::Done => {
+            Ahead {
+                done: true,
+                members: left,
+                left,
+            }
+        }
+        Next::Rule(i) => {
+            let members = around(closed, i, n);
+            let later = minus(left, members);
+            Ahead {
+                done: false,
+                members,
+                left: later,
+            }
+        }
+    }
+}
+
 // The cycles in their order, a row each; returned is how many there are.
 pub fn list_cycles(
     corners: [[u64; Row::WORDS]; Row::RULES],
@@ -85,19 +121,17 @@ pub fn list_cycles(
     ensures { λ r. ⌜ CyclesIn corners ids n (now (cycles .entry)) (now (cycles .exit)) r ⌝ }
 {
     let closed = joined(corners, n);
-    let mut left = loops(closed, n);
+    let mut left = loops(&closed, n);
     let mut k = 0;
     while k < n {
-        match first(ids, left, n) {
-            Next::Done => return k as u32,
-            Next::Rule(i) => {
-                let c = around(closed, i, n);
-                cycles[k] = c;
-                let l = minus(left, c);
-                left = l;
-                k += 1;
-            }
+        let ahead = next_cycle(&closed, &ids, n, left);
+        if ahead.done {
+            return k as u32;
         }
+        let members = ahead.members;
+        cycles[k] = members;
+        left = ahead.left;
+        k += 1;
     }
     k as u32
 }

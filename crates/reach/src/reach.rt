@@ -5,7 +5,9 @@ use crate::rows::has;
 use crate::rows::meet;
 use crate::rows::union;
 use crate::rows::without;
+ghost use mathlib.Core.Path.{_≡_};
 ghost use Prim.Native.Nat.{_<_, _≤_};
+ghost use lib.ListN.{length};
 ghost use Rattle.grammar.specs.Numbers.{ruleLimit};
 ghost use Rattle.reach.specs.Reach.{Others, Closed, Loops, Around};
 ghost use Rattle.reach.specs.Steps.{Through};
@@ -57,9 +59,9 @@ pub fn closed(rows: [[u64; Row::WORDS]; Row::RULES], n: usize) -> [[u64; Row::WO
 }
 
 // The rules that reach themselves.
-pub fn loops(reach: [[u64; Row::WORDS]; Row::RULES], n: usize) -> [u64; Row::WORDS]
-    requires { ⌜ n ≤ ruleLimit ⌝ }
-    ensures { λ r. ⌜ Loops reach n r ⌝ }
+pub fn loops(reach: &[[u64; Row::WORDS]; Row::RULES], n: usize) -> [u64; Row::WORDS]
+    requires { ⌜ (n ≤ ruleLimit) × (length (now reach) ≡ ruleLimit) ⌝ }
+    ensures { λ r. ⌜ Loops (now (reach .entry)) n r ⌝ }
 {
     let mut r = [0; Row::WORDS];
     let mut i = 0;
@@ -72,9 +74,9 @@ pub fn loops(reach: [[u64; Row::WORDS]; Row::RULES], n: usize) -> [u64; Row::WOR
 }
 
 // The rules that rule i reaches and that reach it.
-pub fn around(reach: [[u64; Row::WORDS]; Row::RULES], i: usize, n: usize) -> [u64; Row::WORDS]
-    requires { ⌜ (i < n) × (n ≤ ruleLimit) ⌝ }
-    ensures { λ r. ⌜ Around reach i n r ⌝ }
+pub fn around(reach: &[[u64; Row::WORDS]; Row::RULES], i: usize, n: usize) -> [u64; Row::WORDS]
+    requires { ⌜ (i < n) × (n ≤ ruleLimit) × (length (now reach) ≡ ruleLimit) ⌝ }
+    ensures { λ r. ⌜ Around (now (reach .entry)) i n r ⌝ }
 {
     let mut r = [0; Row::WORDS];
     let mut j = 0;

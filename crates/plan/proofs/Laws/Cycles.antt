@@ -1,4 +1,4 @@
--- The rows that are listed are the definition's cycles.
+-- The rules' left corners and ids are those of the definition's graph, and its cycles those of the rows that are joined.
 use Prim.Native.Nat.{ℕ, _≤_}
 use mathlib.Core.Path.{_≡_, refl, sym, ap, _∙_}
 use mathlib.Core.List.{List, []}
@@ -6,22 +6,24 @@ use mathlib.Core.Bool.{Bool}
 use native.Mathlib.Omega.{arith}
 use lib.ListN.{length, length-map}
 use borrow.Author.Tests.{lt-ltb}
-use Rattle.grammar.specs.Numbers.{ruleLimit}
 use Rattle.grammar.specs.Tree.{Rule, bodyDepth}
 use Rattle.grammar.specs.Lists.{distinct}
 use Rattle.grammar.specs.Corners.{Corners}
 use Rattle.graph.specs.Cycles.{row-ids}
-use Rattle.reference.specs.Analysis.{Grammar, rowOf, grammarOf}
+use Rattle.reference.specs.Analysis.{Grammar, Row, rowOf, grammarOf}
 use Rattle.records.specs.declared.rules.Rules.{Rules}
 use Rattle.reach.specs.Rows.{holds}
-use Rattle.reach.specs.Listed.{rowAt, cornerRows, Numbered, Edges, Ids, CyclesIn}
+use Rattle.reach.specs.Reach.{Loops}
+use Rattle.reach.specs.Listed.{rowAt, cornerRows, Numbered, Edges, Ids, Left, AllLeft}
+use Rattle.reach.proofs.Laws.Written.{corners-few}
 use Rattle.analysis.specs.Survey.{reading}
 use Rattle.analysis.specs.Facts.{Among, Standing, FactsOf}
+use Rattle.hub.specs.Grounds.{rulesOf, grammarAt}
 use Rattle.analysis.specs.declared.rounds.Marks.{Marks}
 use Rattle.analysis.proofs.Laws.Standing.{key-at, all-rules, id-at, rule-of}
 use Rattle.turns.specs.declared.state.Limits.{Limits}
 use Rattle.plan.specs.declared.search.Found.{Found}
-use Rattle.plan.specs.Search.{RulesKnown, FoundOf, CyclesKnown, TriedOf}
+use Rattle.plan.specs.Search.{RulesKnown, FoundOf, cyclesOf, JoinedKnown, TriedOf}
 
 module _ {ws : List ℕ} {end : ℕ} {rules : Rules} (s : Standing ws end rules) where
   abbrev rs : List Rule
@@ -59,30 +61,34 @@ module _ {ws : List ℕ} {end : ℕ} {rules : Rules} (s : Standing ws end rules)
             ∙ rw (row-is c g a, row-is c g b, id-at (s .rows) b, lt-ltb j (length rs) (let e = all-rules (s .rows) in omega arith)) refl;
       }
 
-module _ {ws : List ℕ} {end : ℕ} {rules : Rules} {past : Bool} {calls corners : List (List ℕ)} {marks : Marks} {kept : List ℕ} where
-  pub rules-standing : RulesKnown ws end rules past calls corners marks kept → Standing ws end rules
-  rules-standing x = x .known .standing
+module _ {ws : List ℕ} {end : ℕ} {rules : Rules} {past : Bool} {calls : List (List ℕ)} {marks : Marks} {kept : List ℕ}
+    {closed : List (List ℕ)} (x : JoinedKnown ws end rules past calls marks kept closed) where
+  -- The definition's graph.
+  abbrev pub graph : List Row
+  graph =
+      cornerRows (reading past) (grammarAt ws end rules (x .known .known .standing)) bodyDepth
+      (rulesOf ws end rules (x .known .known .standing))
 
-  module _ {m n i : ℕ} {before rows : List (List ℕ)} (e : m ≡ rules .n) (f : i ≡ n)
-      (c : CyclesIn corners (rules .ids) m before rows n) where
-    pub cycles-known : RulesKnown ws end rules past calls corners marks kept → CyclesKnown ws end rules past calls marks kept rows i
-    cycles-known x =
-        let s = x .known .standing in
-        let z : CyclesIn corners (rules .ids) (rules .n) before rows i = rw (← e, f) c in
-        record {
-          corners = corners;
-          known = x;
-          listed = z .is (reading past) (grammarOf bodyDepth (rs s)) bodyDepth (rs s) (are-edges s (x .known .facts))
-              (are-ids s (reading past) (grammarOf bodyDepth (rs s)));
-          low = z .low;
-        }
+  pub graph-ids : Ids graph (rules .n) (rules .ids)
+  graph-ids = are-ids (x .known .known .standing) (reading past) (grammarAt ws end rules (x .known .known .standing))
 
-    pub found-of : {limits : Limits} {bs : List ℕ} {r : Found} → TriedOf ws end rules past calls marks kept rows i limits bs r
-        → FoundOf ws end rules past calls corners marks kept limits bs r
-    unfolding cycles-known
-    found-of t = record { is = λ x. t .is (cycles-known x) }
+  pub all-ahead : {row : List ℕ} → Loops closed (rules .n) row
+      → Left graph (rules .n) (cyclesOf (x .known)) closed row (cyclesOf (x .known))
+  all-ahead {row} l =
+      let s = x .known .known .standing in
+      x .joined .left (reading past) (grammarOf bodyDepth (rs s)) bodyDepth (rs s) (are-edges s (x .known .known .facts)) row l
 
-    pub cycles-few : RulesKnown ws end rules past calls corners marks kept → i ≤ ruleLimit
-    cycles-few x = let a = c .low in let b = x .known .standing .rows .few in omega arith
+  pub cycles-few : length (cyclesOf (x .known)) ≤ rules .n
+  cycles-few =
+      let s = x .known .known .standing in
+      corners-few (reading past) (grammarOf bodyDepth (rs s)) bodyDepth (rs s) (graph-ids .numbered)
 
-pub ruleset finding = (rules-standing, cycles-known, found-of, cycles-few)
+module _ {ws : List ℕ} {end : ℕ} {rules : Rules} {past : Bool} {calls corners closed : List (List ℕ)} {marks : Marks} {kept : List ℕ}
+    {m : ℕ} (e : m ≡ rules .n) (l : AllLeft corners m closed) where
+  joined-known : RulesKnown ws end rules past calls corners marks kept → JoinedKnown ws end rules past calls marks kept closed
+  joined-known x = record { corners = corners; known = x; joined = rw e at l }
+
+  pub found-of : {limits : Limits} {bs : List ℕ} {r : Found} → TriedOf ws end rules past calls marks kept closed limits bs r
+      → FoundOf ws end rules past calls corners marks kept limits bs r
+  unfolding joined-known
+  found-of t = record { is = λ x. t .is (joined-known x) }

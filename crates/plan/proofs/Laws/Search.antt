@@ -2,11 +2,11 @@
 use Prim.Native.Nat.{ℕ, zero, suc, _+_, _<_, _≤_}
 use mathlib.Core.Path.{_≡_, refl, sym, ap, _∙_, subst}
 use mathlib.Core.List.{List, [], _∷_, List·Memᴰ, List·Memᴰ·head, Memᴰ·append-right}
-use mathlib.Core.Bool.{Bool}
+use mathlib.Core.Bool.{Bool, true, false}
 use native.Mathlib.Omega.{arith}
 use native.Mathlib.Numerals.{add-one}
-use lib.ListN.{length, getD, take, drop, replicate, set, length-set, length-replicate}
-use lib.Seq.{drop-length, drop-cons, split-at, length-take-le, getD-set-same, getD-set-other}
+use lib.ListN.{length, getD, take, drop, replicate, set, length-set, length-drop, length-replicate}
+use lib.Seq.{drop-length, drop-cons, split-at, getD-set-same, getD-set-other}
 use lib.Dec.{eqb}
 use borrow.Author.Tests.{eqb-true, eqb-false}
 use Rattle.grammar.specs.Numbers.{ruleLimit}
@@ -15,6 +15,9 @@ use Rattle.reference.specs.Substitute.{declined}
 use Rattle.reference.specs.Run.{searchCycles, findPlan}
 use Rattle.records.specs.declared.rules.Rules.{Rules}
 use Rattle.reach.specs.Rows.{RowOf}
+use Rattle.reach.specs.Reach.{Loops}
+use Rattle.reach.specs.Listed.{Ids, Left, Taken, AheadOf}
+use Rattle.reach.specs.declared.cycles.Ahead.{Ahead}
 use Rattle.reach.proofs.Laws.Rows.{two-words}
 use Rattle.analysis.specs.Survey.{reading}
 use Rattle.analysis.specs.declared.rounds.Marks.{Marks}
@@ -30,7 +33,8 @@ use Rattle.plan.specs.declared.search.Search.the-variants.{NoPlan, Plann
 use Rattle.plan.specs.declared.search.Found.{Found}
 use Rattle.plan.specs.Known.{CycleKnown}
 use Rattle.plan.specs.Decision.{DecidedAs, PlanOf}
-use Rattle.plan.specs.Search.{IsNone, cyclesOf, decisionOn, searchThrough, wholeSearch, AnswerIs, CyclesKnown, TriedOf}
+use Rattle.plan.specs.Search.{IsNone, cyclesOf, decisionOn, searchThrough, wholeSearch, AnswerIs, JoinedKnown, TriedOf}
+use Rattle.plan.proofs.Laws.Cycles.{graph, graph-ids, all-ahead, cycles-few}
 
 -- Zeros, and the default behind them.
 zeros-at : (n j : ℕ) → _≡_ {A = ℕ} (getD (replicate n 0) j 0) 0
@@ -39,153 +43,193 @@ zeros-at (suc n) zero = refl
 zeros-at (suc n) (suc j) = zeros-at n j
 
 module _ (ws : List ℕ) (end : ℕ) (rules : Rules) (past : Bool) (calls : List (List ℕ)) (marks : Marks) (kept : List ℕ)
-    (rows : List (List ℕ)) (n : ℕ) (limits : Limits) where
-  -- The first k cycles were declined.
-  pub record Trying (k : ℕ) (clauses : List ℕ) : Type 0 where
+    (closed : List (List ℕ)) (limits : Limits) where
+  -- The first k cycles were declined; `left` has the members of the others.
+  pub record Trying (n k : ℕ) (left clauses : List ℕ) : Type 0 where
+    pub size : n ≡ rules .n
+    pub few : n ≤ ruleLimit
     pub low : k ≤ n
     pub long : length clauses ≡ ruleLimit
-    pub few : n ≤ ruleLimit
-    pub left : (x : CyclesKnown ws end rules past calls marks kept rows n)
+    pub within : (x : JoinedKnown ws end rules past calls marks kept closed) → k ≤ length (cyclesOf (x .known))
+    pub ahead : (x : JoinedKnown ws end rules past calls marks kept closed)
+        → Left (graph x) n (cyclesOf (x .known)) closed left (drop k (cyclesOf (x .known)))
+    pub same : (x : JoinedKnown ws end rules past calls marks kept closed)
         → wholeSearch (x .known) limits ≡ searchThrough (x .known) limits (drop k (cyclesOf (x .known)))
-    pub declines : (x : CyclesKnown ws end rules past calls marks kept rows n) (j : ℕ) → j < k
+    pub declines : (x : JoinedKnown ws end rules past calls marks kept closed) (j : ℕ) → j < k
         → DeclinedBy (decisionOn (x .known) limits (getD (cyclesOf (x .known)) j [])) (getD clauses j 0)
     pub behind : (j : ℕ) → k ≤ j → getD clauses j 0 ≡ 0
 
 module _ {ws : List ℕ} {end : ℕ} {rules : Rules} {past : Bool} {calls : List (List ℕ)} {marks : Marks} {kept : List ℕ}
-    {rows : List (List ℕ)} {n : ℕ} where
-  module _ (x : CyclesKnown ws end rules past calls marks kept rows n) where
-    abbrev all : List (List ℕ)
-    all = cyclesOf (x .known)
+    {closed : List (List ℕ)} where
+  abbrev all : JoinedKnown ws end rules past calls marks kept closed → List (List ℕ)
+  all x = cyclesOf (x .known)
 
-    module _ (k : ℕ) (l : k < n) where
-      inside : k < length all
-      inside = let c = x .listed .count in omega arith
+module _ {ws : List ℕ} {end : ℕ} {rules : Rules} {past : Bool} {calls : List (List ℕ)} {marks : Marks} {kept : List ℕ}
+    {closed : List (List ℕ)} {limits : Limits} where
+  pub try-all : {n : ℕ} {r : Found} {left : List ℕ} → IsNone r → n ≡ rules .n → rules .n ≤ ruleLimit → Loops closed n left
+      → Trying ws end rules past calls marks kept closed limits n 0 left (r .clauses)
+  unfolding findPlan
+  try-all {n} {r} {left} z e few l =
+      record {
+        size = e;
+        few = omega arith;
+        low = omega arith;
+        long = ap length (z .clauses) ∙ length-replicate {A = ℕ} ruleLimit 0;
+        within = λ x. omega arith;
+        ahead = λ x. rw e (all-ahead x (rw e at l));
+        same = λ x. refl;
+        declines = λ x j l. absurd (omega arith);
+        behind = λ j l. rw (z .clauses) (zeros-at ruleLimit j);
+      }
 
-      nth-row : RowOf (rules .ids) (rules .n) (getD all k []) (getD rows k [])
-      nth-row =
-          subst (λ i. RowOf (rules .ids) (rules .n) (getD all k []) (getD rows i []))
-          (length-take-le k all (let z = inside in omega arith))
-          (x .listed .at (take k all) (getD all k []) (drop (suc k) all) (sym (split-at all k [] inside)))
-
-      nth-there : List·Memᴰ (getD all k []) all
-      nth-there =
-          subst (List·Memᴰ (getD all k [])) (sym (split-at all k [] inside)) (Memᴰ·append-right (take k all) (List·Memᴰ·head refl))
-
-      nth-cycle : {row : List ℕ} → RowOf (rules .ids) (rules .n) (getD all k []) row
-          → IsCycle ws end rules (x .known .known .standing) (getD all k []) row
-      nth-cycle r = listed-cycle (x .known .known .standing) (reading past) r nth-there
-
-      pub cycle-known : {row : List ℕ} → row ≡ getD rows k [] → CycleKnown ws end rules past calls marks kept row
-      cycle-known {row} e =
-          record {
-            corners = x .corners;
-            known = x .known .known;
-            cycle = getD all k [];
-            isCycle = nth-cycle (rw e nth-row);
-            preserved = x .known .preserved;
-            keeps = x .known .keeps;
-          }
-
-  module _ {limits : Limits} where
-    pub try-all : {r : Found} → IsNone r → n ≤ ruleLimit → Trying ws end rules past calls marks kept rows n limits 0 (r .clauses)
-    unfolding findPlan
-    try-all {r} z few =
+  module _ {n k : ℕ} {left clauses : List ℕ} (g : Trying ws end rules past calls marks kept closed limits n k left clauses) where
+    -- The answer at hand, behind those that were declined.
+    tried : {i : ℕ} {answer : Search} {bs : List ℕ} → i ≡ k
+        → ((x : JoinedKnown ws end rules past calls marks kept closed) → AnswerIs (x .known) limits bs k answer)
+        → TriedOf ws end rules past calls marks kept closed limits bs (record { answer = answer; declined = i; clauses = clauses })
+    tried e f =
         record {
-          low = omega arith;
-          long = ap length (z .clauses) ∙ length-replicate {A = ℕ} ruleLimit 0;
-          few = few;
-          left = λ x. refl;
-          declines = λ x j l. absurd (omega arith);
-          behind = λ j l. rw (z .clauses) (zeros-at ruleLimit j);
+          is = λ x.
+              record {
+                answer = rw e (f x);
+                declines = λ j l. g .declines x j (omega arith);
+                behind = λ j l. g .behind j (omega arith);
+                few = let h = g .low in let m = g .size in omega arith;
+              };
         }
 
-    module _ {k : ℕ} {clauses : List ℕ} (g : Trying ws end rules past calls marks kept rows n limits k clauses) where
-      -- The answer at hand, behind those that were declined.
-      tried : {i : ℕ} {answer : Search} {bs : List ℕ} → i ≡ k
-          → ((x : CyclesKnown ws end rules past calls marks kept rows n) → AnswerIs (x .known) limits bs k answer)
-          → TriedOf ws end rules past calls marks kept rows n limits bs (record { answer = answer; declined = i; clauses = clauses })
-      tried e f =
-          record {
-            is = λ x.
-                record {
-                  answer = rw e (f x);
-                  declines = λ j l. g .declines x j (omega arith);
-                  behind = λ j l. g .behind j (omega arith);
-                  few = let h = g .low in let m = x .low in omega arith;
-                };
-          }
+    ended : {i : ℕ} (bs : List ℕ) → ((x : JoinedKnown ws end rules past calls marks kept closed) → length (all x) ≤ k) → i ≡ k
+        → TriedOf ws end rules past calls marks kept closed limits bs (record { answer = NoPlan; declined = i; clauses = clauses })
+    unfolding searchCycles
+    ended bs l e =
+        tried e λ x.
+        let z : k ≡ length (all x) = let h = g .within x in let m = l x in omega arith in
+        record {
+          all = z;
+          is = g .same x ∙ ap (searchThrough (x .known) limits) (ap (λ m. drop m (all x)) z ∙ drop-length (all x));
+        }
 
-      pub try-end : {i : ℕ} (bs : List ℕ) → n ≤ k → i ≡ k
-          → TriedOf ws end rules past calls marks kept rows n limits bs (record { answer = NoPlan; declined = i; clauses = clauses })
-      unfolding searchCycles
-      try-end {i} bs l e =
-          tried e λ x.
-          let c = x .listed .count in
-          let h = g .low in
-          record {
-            all = omega arith;
-            is = g .left x
-                ∙ ap (searchThrough (x .known) limits)
-                (let z : k ≡ length (all x) = omega arith in ap (λ m. drop m (all x)) z ∙ drop-length (all x));
-          }
+    -- As many were declined as there are rules.
+    pub try-full : {i : ℕ} (bs : List ℕ) → n ≤ k → i ≡ k
+        → TriedOf ws end rules past calls marks kept closed limits bs (record { answer = NoPlan; declined = i; clauses = clauses })
+    try-full bs l e = ended bs (λ x. let f = cycles-few x in let m = g .size in omega arith) e
 
-      module _ (l : k < n) {row : List ℕ} (e : row ≡ getD rows k []) {bs : List ℕ} {d : Decision}
-          (p : PlanOf ws end rules past calls marks kept row limits bs d) where
-        module _ (x : CyclesKnown ws end rules past calls marks kept rows n) where
-          here : {t : Decision} → d ≡ t
-              → DecidedAs ws end (rules .ids) (rules .n) bs (decisionOn (x .known) limits (getD (all x) k [])) t
-          unfolding cycle-known
-          here z =
-              subst (DecidedAs ws end (rules .ids) (rules .n) bs (decisionOn (x .known) limits (getD (all x) k []))) z
-              (p .is (cycle-known x k l e))
+    module _ {r : Ahead} (a : AheadOf closed (rules .ids) n left r) where
+      ids : (x : JoinedKnown ws end rules past calls marks kept closed) → Ids (graph x) n (rules .ids)
+      ids x = rw (g .size) (graph-ids x)
+
+      -- None is left.
+      pub try-done : {i : ℕ} (bs : List ℕ) → r .done ≡ true → i ≡ k
+          → TriedOf ws end rules past calls marks kept closed limits bs (record { answer = NoPlan; declined = i; clauses = clauses })
+      try-done bs d e =
+          ended bs
+          (λ x.
+          let none : drop k (all x) ≡ [] = rw d at (a .takes (graph x) (all x) (drop k (all x)) (ids x) (g .ahead x)) in
+          let z = ap length none in
+          let s = length-drop k (all x) in
+          omega arith)
+          e
+
+      module _ (d : r .done ≡ false) where
+        module _ (x : JoinedKnown ws end rules past calls marks kept closed) where
+          taken : Taken (graph x) (rules .ids) n (all x) closed (drop k (all x)) (r .members) (r .left)
+          taken = rw d at (a .takes (graph x) (all x) (drop k (all x)) (ids x) (g .ahead x))
+
+          inside : k < length (all x)
+          inside = let e = ap length (taken .first) in let s = length-drop k (all x) in omega arith
 
           -- The k-th is next.
+          nth : drop k (all x) ≡ getD (all x) k [] ∷ drop (suc k) (all x)
+          nth = drop-cons (all x) k [] inside
+
           next : wholeSearch (x .known) limits ≡ searchThrough (x .known) limits (getD (all x) k [] ∷ drop (suc k) (all x))
-          next = g .left x ∙ ap (searchThrough (x .known) limits) (drop-cons (all x) k [] (inside x k l))
+          next = g .same x ∙ ap (searchThrough (x .known) limits) nth
 
-        pub try-next : {c : ℕ} → d ≡ D.Declined c → Trying ws end rules past calls marks kept rows n limits (k + 1) (set clauses k c)
-        unfolding searchCycles
-        try-next {c} z =
-            record {
-              low = omega arith;
-              long = length-set clauses k c ∙ g .long;
-              few = g .few;
-              left = λ x.
-                  next x
-                  ∙ rw (here x z .is, searchCycles) (ap (λ m. searchThrough (x .known) limits (drop m (all x))) (sym (add-one k)));
-              declines = λ x j m.
-                  either (eqb j k)
-                  (λ t. rw (eqb-true j k t, getD-set-same clauses k c 0 (let a = g .long in let b = g .few in omega arith)) (here x z))
-                  (λ f.
-                  let o = eqb-false j k f in
-                  rw (getD-set-other clauses k j c 0 o) (g .declines x j (omega arith)));
-              behind = λ j m. getD-set-other clauses k j c 0 (λ e. omega arith) ∙ g .behind j (omega arith);
-            }
+          nth-row : RowOf (rules .ids) (rules .n) (getD (all x) k []) (r .members)
+          nth-row =
+              let e : taken .cycle ≡ getD (all x) k [] = cc (taken .first, nth) in
+              subst (λ m. RowOf (rules .ids) m (getD (all x) k []) (r .members)) (g .size) (rw e at (taken .members))
 
-        pub try-planned : {i : ℕ} {plan : Plan} → d ≡ D.Planned plan → i ≡ k
-            → TriedOf ws end rules past calls marks kept rows n limits bs
-            (record {
-              answer = Planned (record { plan = plan; low = getD row 0 0; high = getD row 1 0 });
-              declined = i;
-              clauses = clauses;
-            })
-        unfolding searchCycles
-        try-planned {i} z f =
-            tried f λ x.
-            let h = here x z in
-            record {
-              plan = h .plan;
-              low = inside x k l;
-              is = next x ∙ rw (h .is, searchCycles) refl;
-              isCycle = nth-cycle x k l (record { at = λ j. two-words row j ∙ rw e (nth-row x k l .at j) });
-              same = h .same;
-            }
+          nth-behind : Left (graph x) n (all x) closed (r .left) (drop (k + 1) (all x))
+          nth-behind =
+              let e : taken .rest ≡ drop (suc k) (all x) = cc (taken .first, nth) in
+              rw (add-one, ← e) (taken .behind)
 
-        pub try-overfull : {i : ℕ} → d ≡ D.Overfull → i ≡ k
-            → TriedOf ws end rules past calls marks kept rows n limits bs
-            (record { answer = TooLarge; declined = i; clauses = clauses })
-        unfolding searchCycles
-        try-overfull {i} z f =
-            tried f λ x. record { low = inside x k l; over = here x z; is = next x ∙ rw (here x z, searchCycles) refl }
+          nth-there : List·Memᴰ (getD (all x) k []) (all x)
+          nth-there =
+              subst (List·Memᴰ (getD (all x) k [])) (sym (split-at (all x) k [] inside))
+              (Memᴰ·append-right (take k (all x)) (List·Memᴰ·head refl))
 
-pub ruleset trying = (cycle-known, try-all, try-end, try-next, try-planned, try-overfull)
+          nth-cycle : {row : List ℕ} → RowOf (rules .ids) (rules .n) (getD (all x) k []) row
+              → IsCycle ws end rules (x .known .known .standing) (getD (all x) k []) row
+          nth-cycle r = listed-cycle (x .known .known .standing) (reading past) r nth-there
+
+          pub cycle-known : CycleKnown ws end rules past calls marks kept (r .members)
+          cycle-known =
+              record {
+                corners = x .corners;
+                known = x .known .known;
+                cycle = getD (all x) k [];
+                isCycle = nth-cycle nth-row;
+                preserved = x .known .preserved;
+                keeps = x .known .keeps;
+              }
+
+        module _ {bs : List ℕ} {t : Decision} (p : PlanOf ws end rules past calls marks kept (r .members) limits bs t) where
+          here : (x : JoinedKnown ws end rules past calls marks kept closed) {u : Decision} → t ≡ u
+              → DecidedAs ws end (rules .ids) (rules .n) bs (decisionOn (x .known) limits (getD (all x) k [])) u
+          unfolding cycle-known
+          here x z =
+              subst (DecidedAs ws end (rules .ids) (rules .n) bs (decisionOn (x .known) limits (getD (all x) k []))) z
+              (p .is (cycle-known x))
+
+          pub try-next : {c : ℕ} → k < n → t ≡ D.Declined c
+              → Trying ws end rules past calls marks kept closed limits n (k + 1) (r .left) (set clauses k c)
+          unfolding searchCycles
+          try-next {c} l z =
+              record {
+                size = g .size;
+                few = g .few;
+                low = omega arith;
+                long = length-set clauses k c ∙ g .long;
+                within = λ x. let m = inside x in omega arith;
+                ahead = nth-behind;
+                same = λ x.
+                    next x
+                    ∙ rw (here x z .is, searchCycles) (ap (λ m. searchThrough (x .known) limits (drop m (all x))) (sym (add-one k)));
+                declines = λ x j m.
+                    either (eqb j k)
+                    (λ y. rw (eqb-true j k y, getD-set-same clauses k c 0 (let a = g .long in let b = g .few in omega arith)) (here x z))
+                    (λ f.
+                    let o = eqb-false j k f in
+                    rw (getD-set-other clauses k j c 0 o) (g .declines x j (omega arith)));
+                behind = λ j m. getD-set-other clauses k j c 0 (λ e. omega arith) ∙ g .behind j (omega arith);
+              }
+
+          pub try-planned : {i : ℕ} {plan : Plan} → t ≡ D.Planned plan → i ≡ k
+              → TriedOf ws end rules past calls marks kept closed limits bs
+              (record {
+                answer = Planned (record { plan = plan; low = getD (r .members) 0 0; high = getD (r .members) 1 0 });
+                declined = i;
+                clauses = clauses;
+              })
+          unfolding searchCycles
+          try-planned z f =
+              tried f λ x.
+              let h = here x z in
+              record {
+                plan = h .plan;
+                low = inside x;
+                is = next x ∙ rw (h .is, searchCycles) refl;
+                isCycle = nth-cycle x (record { at = λ j. two-words (r .members) j ∙ nth-row x .at j });
+                same = h .same;
+              }
+
+          pub try-overfull : {i : ℕ} → t ≡ D.Overfull → i ≡ k
+              → TriedOf ws end rules past calls marks kept closed limits bs
+              (record { answer = TooLarge; declined = i; clauses = clauses })
+          unfolding searchCycles
+          try-overfull z f =
+              tried f λ x. record { low = inside x; over = here x z; is = next x ∙ rw (here x z, searchCycles) refl }
+
+pub ruleset trying = (try-all, try-next, try-planned, try-overfull)

@@ -6,20 +6,18 @@ use mathlib.Core.Bool.{Bool, true, false}
 use native.Mathlib.Omega.{arith}
 use lib.ListN.{length, getD, set, length-set, length-append, length-map}
 use lib.Seq.{getD-append-seam, getD-set-same, getD-set-other}
-use lib.Dec.{eqb, leb, ltb}
-use borrow.Author.Tests.{eqb-true, eqb-false, ltb-true}
+use lib.Dec.{eqb, leb}
+use borrow.Author.Tests.{eqb-true, eqb-false}
 use Rattle.grammar.specs.Numbers.{ruleLimit}
 use Rattle.grammar.specs.Tree.{Block, RuleOf}
 use Rattle.grammar.specs.Lists.{push, insert, sorted}
 use Rattle.grammar.specs.Corners.{Corners}
 use Rattle.grammar.specs.Laws.Parse.{either}
 use Rattle.reference.specs.Analysis.{Grammar, Row, idsOf, rowOf, reach, component, isCycle, cyclesFrom, leftCornerCycles}
-use Rattle.reach.specs.Rows.{Minus, holds, RowOf, Behind}
-use Rattle.reach.specs.Reach.{Loops, Around}
-use Rattle.reach.specs.Cycles.{Least, IsNext}
-use Rattle.reach.specs.Listed.{rowAt, cornerRows, Numbered, Ids, Members, Left, Given, AllLeft, GivesNext, CycleRows, CyclesIn}
-use Rattle.reach.specs.declared.cycles.Next.{Next}
-use Rattle.reach.specs.declared.cycles.Next.the-variants.{Done, Rule}
+use Rattle.reach.specs.Rows.{RowOf, Behind}
+use Rattle.reach.specs.Reach.{Loops}
+use Rattle.reach.specs.Listed.{cornerRows, Numbered, Ids, Left, AllLeft, Taken, AheadOf, CycleRows, CyclesIn}
+use Rattle.reach.specs.declared.cycles.Ahead.{Ahead}
 
 -- There are no more cycles than rules.
 insert-length : (x : ℕ) (ys : List ℕ) → length (insert x ys) ≡ suc (length ys)
@@ -44,7 +42,7 @@ cycles-few rows (i ∷ is) =
     let others = cycles-few rows is in
     omega arith
 
-corners-few : (c : Corners) (g : Grammar) (d : ℕ) (rs : List (RuleOf (Block d))) {n : ℕ} → Numbered (cornerRows c g d rs) n
+pub corners-few : (c : Corners) (g : Grammar) (d : ℕ) (rs : List (RuleOf (Block d))) {n : ℕ} → Numbered (cornerRows c g d rs) n
     → length (leftCornerCycles c g d rs) ≤ n
 unfolding leftCornerCycles
 corners-few c g d rs k =
@@ -59,15 +57,6 @@ one-at : {A : Type 0} (front given : List A) {x y : A} (xs ys : List A) → fron
     → length front ≡ length given → x ≡ y
 one-at front given {x} {y} xs ys e l = cc (getD-append-seam front x xs x, getD-append-seam given y ys x)
 
--- Who is around a rule is all that a row has.
-around-row : {rows : List Row} {n i : ℕ} {ids row xs : List ℕ} {closed : List (List ℕ)} → Ids rows n ids → Around closed i n row
-    → Members rows n row xs → RowOf ids n xs row
-unfolding holds
-around-row {n = n} d a m =
-    record {
-      at = λ j. either (ltb j n) (λ t. let l = ltb-true j n t in rw (t, d .at j l) (m .at j l)) (λ f. a .at j ∙ rw f);
-    }
-
 -- The first k of all cycles are written; `left` has the others.
 pub record Part (rows : List Row) (ids : List ℕ) (n : ℕ) (all closed : List (List ℕ)) (left : List ℕ) (written : List (List ℕ)) (k : ℕ)
     : Type 0 where
@@ -80,26 +69,26 @@ pub record Part (rows : List Row) (ids : List ℕ) (n : ℕ) (all closed : List 
 module _ {rows : List Row} {ids : List ℕ} {n : ℕ} {all closed : List (List ℕ)} {left : List ℕ} {written : List (List ℕ)} {k : ℕ}
     (p : Part rows ids n all closed left written k) where
   -- The next one, in the row behind the last.
-  part-more : {i : ℕ} {row less : List ℕ} → Ids rows n ids → Given rows n all closed left i (p .rest) → Around closed i n row
-      → Minus left row less → k < length written → Part rows ids n all closed less (set written k row) (k + 1)
-  part-more {i} {row} {less} d g a m l =
+  part-more : {row less : List ℕ} → Taken rows ids n all closed (p .rest) row less → k < length written
+      → Part rows ids n all closed less (set written k row) (k + 1)
+  part-more {row} {less} t l =
       record {
-        rest = g .rest;
-        others = g .behind row less a m;
-        count = let e = ap length (g .first) in omega arith;
-        at = λ front x behind e b. either (eqb (length front) k) (λ t. here front behind e (eqb-true (length front) k t))
-            (λ t. there front behind e b (eqb-false (length front) k t));
+        rest = t .rest;
+        others = t .behind;
+        count = let e = ap length (t .first) in omega arith;
+        at = λ front x behind e b. either (eqb (length front) k) (λ y. here front behind e (eqb-true (length front) k y))
+            (λ y. there front behind e b (eqb-false (length front) k y));
       }
     where
       here : (front : List (List ℕ)) {x : List ℕ} (behind : List (List ℕ)) → front ++ (x ∷ behind) ≡ all → length front ≡ k
           → RowOf ids n x (getD (set written k row) (length front) [])
       here front {x} behind e z =
-          let parts : front ++ (x ∷ behind) ≡ p .others .given ++ (component (reach rows) (rowAt rows i .id) ∷ g .rest) =
-          e ∙ sym (p .others .order) ∙ ap (λ cs. p .others .given ++ cs) (g .first) in
+          let parts : front ++ (x ∷ behind) ≡ p .others .given ++ (t .cycle ∷ t .rest) =
+          e ∙ sym (p .others .order) ∙ ap (λ cs. p .others .given ++ cs) (t .first) in
           let size = ap length (p .others .order) in
           let sum = length-append (p .others .given) (p .rest) in
-          let same = one-at front (p .others .given) behind (g .rest) parts (omega arith) in
-          rw (z, getD-set-same written k row [] l, same) (around-row d a (g .around row a))
+          let same = one-at front (p .others .given) behind (t .rest) parts (omega arith) in
+          rw (z, getD-set-same written k row [] l, same) (t .members)
 
       there : (front : List (List ℕ)) {x : List ℕ} (behind : List (List ℕ)) → front ++ (x ∷ behind) ≡ all → length front < k + 1
           → (length front ≡ k → ⊥) → RowOf ids n x (getD (set written k row) (length front) [])
@@ -136,9 +125,10 @@ write-none e =
 
 module _ {ids left₀ left : List ℕ} {n k : ℕ} {closed before after : List (List ℕ)}
     (w : Writing ids n closed left₀ before after left k) where
-  pub write-more : {r : Next} {i : ℕ} {row less : List ℕ} → GivesNext ids left n r → r ≡ Rule i → Around closed i n row
-      → Minus left row less → k < n → n ≤ ruleLimit → Writing ids n closed left₀ before (set after k row) less (k + 1)
-  write-more {row = row} f r a m l few =
+  pub write-more : {r : Ahead} → AheadOf closed ids n left r → r .done ≡ false → k < n → n ≤ ruleLimit
+      → Writing ids n closed left₀ before (set after k (r .members)) (r .left) (k + 1)
+  write-more {r} f y l few =
+      let row = r .members in
       record {
         low = omega arith;
         behind = record {
@@ -147,13 +137,13 @@ module _ {ids left₀ left : List ℕ} {n k : ℕ} {closed before after : List (
         };
         is = λ rows all d h.
             let p = w .is rows all d h in
-            part-more p d (rw r at (f .gives rows all closed (p .rest) d (p .others))) a m (let z = w .behind .long in omega arith);
+            part-more p (rw y at (f .takes rows all (p .rest) d (p .others))) (let z = w .behind .long in omega arith);
       }
 
   module _ {corners : List (List ℕ)} (j : AllLeft corners n closed) (u : Loops closed n left₀) where
     -- Where the first finds none, or as many are written as there are rules, these are all.
-    pub write-done : {r : Next} → GivesNext ids left n r → r ≡ Done → CyclesIn corners ids n before after k
-    write-done f r =
+    pub write-done : {r : Ahead} → AheadOf closed ids n left r → r .done ≡ true → CyclesIn corners ids n before after k
+    write-done f y =
         record {
           low = w .low;
           behind = w .behind;
@@ -161,7 +151,7 @@ module _ {ids left₀ left : List ℕ} {n k : ℕ} {closed before after : List (
               let rows = cornerRows c g d rs in
               let all = leftCornerCycles c g d rs in
               let p = w .is rows all i (j .left c g d rs e left₀ u) in
-              let none : p .rest ≡ [] = rw r at (f .gives rows all closed (p .rest) i (p .others)) in
+              let none : p .rest ≡ [] = rw y at (f .takes rows all (p .rest) i (p .others)) in
               let size = ap length none in
               part-all p (omega arith);
         }
@@ -176,7 +166,4 @@ module _ {ids left₀ left : List ℕ} {n k : ℕ} {closed before after : List (
               part-all (w .is (cornerRows c g d rs) (leftCornerCycles c g d rs) i (j .left c g d rs e left₀ u)) (omega arith);
         }
 
-pub next-below : (ids left : List ℕ) {n i : ℕ} {r : Next} → IsNext ids left n r → r ≡ Rule i → i < n
-next-below ids left {n} {i} h e = let l : Least ids left n i = rw e at h in l .below
-
-pub ruleset writing = (next-below, write-none, write-more, write-done, write-full)
+pub ruleset writing = (write-none, write-more, write-done, write-full)

@@ -6,10 +6,10 @@ use Rattle.reach.proofs.cycles.list_cycles.Statement.{statement}
 use Rattle.reach.proofs.cycles.list_cycles.Tie as tie
 
 abbrev Inv-loop : tie.InvT-loop
-Inv-loop ids n cycles₀ closed left₀ k₀ cycles left k = Writing ids n closed left₀ cycles₀ cycles left k
+Inv-loop n cycles₀ ids closed left₀ k₀ cycles left k = Writing ids n closed left₀ cycles₀ cycles left k
 
 abbrev μ-loop : tie.MeasureT-loop
-μ-loop ids n cycles₀ closed left₀ k₀ cycles left k = n - k
+μ-loop n cycles₀ ids closed left₀ k₀ cycles left k = n - k
 
 pub list-cycles-spec : {M : Type 1} → statement M
 list-cycles-spec =
@@ -22,13 +22,9 @@ list-cycles-spec =
     (λ c. search (needs, writing))
     (λ c κs. search needs)
     (λ c. search needs)
-    (λ c. search needs)
     (λ c. search (needs, writing))
     (λ c. search needs)
-    (λ c κs. search (needs, writing))
     (λ c. search needs)
-    (λ c. search needs)
-    (λ c κs. search needs)
     (λ c. search needs)
     (λ c. search needs)
     (λ c. search (needs, writing))

@@ -6,10 +6,10 @@ use Rattle.reach.proofs.reach.around.Statement.{statement}
 use Rattle.reach.proofs.reach.around.Tie as tie
 
 abbrev Inv-loop : tie.InvT-loop
-Inv-loop i n reach r₀ j₀ r j = (j ≤ n) × Into reach i j r
+Inv-loop reach i n r₀ j₀ r j = (j ≤ n) × Into reach i j r
 
 abbrev μ-loop : tie.MeasureT-loop
-μ-loop i n reach r₀ j₀ r j = n - j
+μ-loop reach i n r₀ j₀ r j = n - j
 
 loop-holds : tie.Need-loop-holds Inv-loop μ-loop
 loop-holds c = search (needs, filling)
@@ -17,8 +17,8 @@ loop-holds c = search (needs, filling)
 mul-has : tie.Need-mul-has Inv-loop μ-loop
 mul-has c = search needs
 
-array-copy-out-has : tie.Need-array-copy-out-has Inv-loop μ-loop
-array-copy-out-has c = search needs
+element-copy-out-has : tie.Need-element-copy-out-has Inv-loop μ-loop
+element-copy-out-has c = search needs
 
 has-requires : tie.Need-has-requires Inv-loop μ-loop
 has-requires c κs = search needs
@@ -38,8 +38,8 @@ loop-again c = search (needs, filling)
 mul-meet : tie.Need-mul-meet Inv-loop μ-loop
 mul-meet c = search needs
 
-array-copy-out-meet : tie.Need-array-copy-out-meet Inv-loop μ-loop
-array-copy-out-meet c = search needs
+element-copy-out-meet : tie.Need-element-copy-out-meet Inv-loop μ-loop
+element-copy-out-meet c = search needs
 
 meet-requires : tie.Need-meet-requires Inv-loop μ-loop
 meet-requires c κs = search needs
@@ -55,13 +55,13 @@ around-spec =
     μ-loop
     loop-holds
     mul-has
-    array-copy-out-has
+    element-copy-out-has
     has-requires
     add-if-requires
     add-j
     loop-less
     loop-again
     mul-meet
-    array-copy-out-meet
+    element-copy-out-meet
     meet-requires
     returns)

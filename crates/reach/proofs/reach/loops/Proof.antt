@@ -7,10 +7,10 @@ use Rattle.reach.proofs.reach.loops.Statement.{statement}
 use Rattle.reach.proofs.reach.loops.Tie as tie
 
 abbrev Inv-loop : tie.InvT-loop
-Inv-loop n reach r₀ i₀ r i = (i ≤ n) × Loops reach i r
+Inv-loop reach n r₀ i₀ r i = (i ≤ n) × Loops reach i r
 
 abbrev μ-loop : tie.MeasureT-loop
-μ-loop n reach r₀ i₀ r i = n - i
+μ-loop reach n r₀ i₀ r i = n - i
 
 loop-holds : tie.Need-loop-holds Inv-loop μ-loop
 loop-holds c = search (needs, filling)
@@ -18,8 +18,8 @@ loop-holds c = search (needs, filling)
 mul-has : tie.Need-mul-has Inv-loop μ-loop
 mul-has c = search needs
 
-array-copy-out-has : tie.Need-array-copy-out-has Inv-loop μ-loop
-array-copy-out-has c = search needs
+element-copy-out-has : tie.Need-element-copy-out-has Inv-loop μ-loop
+element-copy-out-has c = search needs
 
 has-requires : tie.Need-has-requires Inv-loop μ-loop
 has-requires c κs = search needs
@@ -47,7 +47,7 @@ loops-spec =
     μ-loop
     loop-holds
     mul-has
-    array-copy-out-has
+    element-copy-out-has
     has-requires
     add-if-requires
     add-i
