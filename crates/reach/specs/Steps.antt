@@ -4,14 +4,16 @@ use mathlib.Core.Path.{_≡_}
 use mathlib.Core.Logic.{_↔_}
 use mathlib.Core.List.{List}
 use mathlib.Core.Bool.{true, _&&_, _||_}
-use lib.ListN.{getD}
+use lib.ListN.{length, getD}
 use lib.Dec.{ltb}
+use Rattle.grammar.specs.Numbers.{ruleLimit}
 use Rattle.reach.specs.Rows.{bit, edge}
 use Rattle.reach.specs.Reach.{Path}
 
--- A row, and where rule k leads, if k is in it.
-pub record Through (row : List ℕ) (k : ℕ) (via r : List ℕ) : Type 0 where
-  pub at : (j : ℕ) → bit r j ≡ (bit row j || (bit row k && bit via j))
+-- Rows, and where rule k leads, if k is in them.
+pub record Through (rows : List (List ℕ)) (k : ℕ) (via : List ℕ) (n : ℕ) (r : List (List ℕ)) : Type 0 where
+  pub size : length r ≡ ruleLimit
+  pub at : (i j : ℕ) → i < n → edge r i j ≡ (edge rows i j || (edge rows i k && bit via j))
 
 -- A rule stays if it leads to one that is left.
 pub record Kept (alive : List ℕ) (i : ℕ) (to r : List ℕ) : Type 0 where

@@ -2,6 +2,7 @@
 use crate::rows::Row;
 use crate::rows::add_if;
 use crate::rows::has;
+use crate::rows::is_empty;
 use crate::rows::meet;
 use crate::rows::union;
 use crate::rows::without;
@@ -27,15 +28,22 @@ pub fn others(rows: [[u64; Row::WORDS]; Row::RULES], n: usize) -> [[u64; Row::WO
     r
 }
 
-// A row, and where rule k leads, if k is in it.
-fn through(row: [u64; Row::WORDS], k: usize, via: [u64; Row::WORDS]) -> [u64; Row::WORDS]
-    requires { ⌜ k < ruleLimit ⌝ }
-    ensures { λ r. ⌜ Through row k via r ⌝ }
+// Where rule k leads, each row that has k leads too. A row is stored where it changes alone.
+fn through(rows: &mut [[u64; Row::WORDS]; Row::RULES], k: usize, via: [u64; Row::WORDS], n: usize)
+    requires { ⌜ (k < ruleLimit) × (n ≤ ruleLimit) × (length (now rows) ≡ ruleLimit) ⌝ }
+    ensures { λ _. ⌜ Through (now (rows .entry)) k via n (now (rows .exit)) ⌝ }
 {
-    if has(row, k) {
-        return union(row, via);
+    if is_empty(via) {
+        return;
     }
-    row
+    let mut i = 0;
+    while i < n {
+        if has(rows[i], k) {
+            let t = union(rows[i], via);
+            rows[i] = t;
+        }
+        i += 1;
+    }
 }
 
 // Closed under reachability: with the paths through rules below k, for each k in turn (Warshall).
@@ -47,12 +55,7 @@ pub fn closed(rows: [[u64; Row::WORDS]; Row::RULES], n: usize) -> [[u64; Row::WO
     let mut k = 0;
     while k < n {
         let via = r[k];
-        let mut i = 0;
-        while i < n {
-            let t = through(r[i], k, via);
-            r[i] = t;
-            i += 1;
-        }
+        through(&mut r, k, via, n);
         k += 1;
     }
     r

@@ -2,7 +2,7 @@
 use Prim.Native.Nat.{ℕ, _+_, _≤_, _<_}
 use mathlib.Core.Path.{_≡_, refl, sym, ap, ap₂, _∙_, subst}
 use mathlib.Core.List.{List, []}
-use mathlib.Core.Bool.{Bool, true, false, _&&_, _||_, not}
+use mathlib.Core.Bool.{Bool, true, false, _&&_, _||_, not, and-false}
 use native.Mathlib.Omega.{arith}
 use native.Mathlib.Numerals.{add-one}
 use lib.ListN.{length, getD, set, length-set}
@@ -10,7 +10,7 @@ use lib.Seq.{getD-set-same, getD-set-other}
 use lib.Dec.{eqb}
 use borrow.Author.Tests.{eqb-true, eqb-false}
 use Rattle.grammar.specs.Laws.Parse.{either}
-use Rattle.reach.specs.Rows.{bit, edge, Without, Union}
+use Rattle.reach.specs.Rows.{bit, edge, Without, Union, Empty}
 use Rattle.reach.specs.Reach.{other, Others, Closed}
 use Rattle.reach.specs.Steps.{Through}
 use Rattle.reach.proofs.Laws.Rows.{or-false}
@@ -62,13 +62,6 @@ cleared-done h l = record { at = λ a j k. h .below a j (omega arith) }
 
 pub ruleset clearing = (cleared-more, cleared-done)
 
--- A step through a rule.
-pub through-yes : {row via r : List ℕ} {k : ℕ} {b : Bool} → b ≡ bit row k → b ≡ true → Union row via r → Through row k via r
-through-yes {row} {via} e t u = record { at = λ j. u .at j ∙ ap (λ b. bit row j || (b && bit via j)) (sym t ∙ e) }
-
-pub through-no : {row via : List ℕ} {k : ℕ} {b : Bool} → b ≡ bit row k → b ≡ false → Through row k via row
-through-no {row} {via} e f = record { at = λ j. sym (or-false (bit row j)) ∙ ap (λ b. bit row j || (b && bit via j)) (sym f ∙ e) }
-
 -- Rows below i have gone through rule k.
 pub record Midway (rows : List (List ℕ)) (k : ℕ) (via : List ℕ) (n i : ℕ) (r : List (List ℕ)) : Type 0 where
   pub size : length r ≡ 128
@@ -76,21 +69,59 @@ pub record Midway (rows : List (List ℕ)) (k : ℕ) (via : List ℕ) (n i : ℕ
   pub below : (a j : ℕ) → a < i → edge r a j ≡ (edge rows a j || (edge rows a k && bit via j))
   pub rest : (a j : ℕ) → i ≤ a → edge r a j ≡ edge rows a j
 
-pub midway-more : {rows : List (List ℕ)} {k : ℕ} {via : List ℕ} {n i : ℕ} {r : List (List ℕ)} {t : List ℕ}
-    → Midway rows k via n i r → i < n → n ≤ 128 → Through (getD r i []) k via t → Midway rows k via n (i + 1) (set r i t)
-midway-more {rows} {k} {via} {n} {i} {r} {t} h l m w =
+pub midway-none : {rows : List (List ℕ)} {k : ℕ} {via : List ℕ} {n : ℕ} → length rows ≡ 128 → Midway rows k via n 0 rows
+midway-none s = record { size = s; room = omega arith; below = λ a j l. absurd (omega arith); rest = λ a j l. refl }
+
+module _ {rows : List (List ℕ)} {k : ℕ} {via : List ℕ} {n i : ℕ} {r : List (List ℕ)} (h : Midway rows k via n i r) where
+  -- A row that has rule k, and one that has not.
+  pub midway-yes : {s : List (List ℕ)} {t : List ℕ} {b : Bool} → i < n → n ≤ 128 → b ≡ bit (getD r i []) k → b ≡ true
+      → Union (getD r i []) via t → s ≡ set r i t → Midway rows k via n (i + 1) s
+  midway-yes {t = t} l m e y u q =
+      subst (Midway rows k via n (i + 1)) (sym q)
+      record {
+        size = size-set r i t (h .size);
+        room = omega arith;
+        below = λ a j c.
+            upto a i c
+            (λ z.
+            subst (λ x. edge (set r i t) x j ≡ (edge rows x j || (edge rows x k && bit via j))) (sym z)
+            (edge-same r i t j (let s = h .size in omega arith) ∙ u .at j
+            ∙ ap₂ (λ x y. x || (y && bit via j)) (h .rest i j (omega arith)) (sym y ∙ e ∙ h .rest i k (omega arith))))
+            (λ c. edge-other r i t a j (λ z. omega arith) ∙ h .below a j c);
+        rest = λ a j c. edge-other r i t a j (λ z. omega arith) ∙ h .rest a j (omega arith);
+      }
+
+  pub midway-no : {s : List (List ℕ)} {b : Bool} → i < n → b ≡ bit (getD r i []) k → b ≡ false → s ≡ r → Midway rows k via n (i + 1) s
+  midway-no l e f q =
+      subst (Midway rows k via n (i + 1)) (sym q)
+      record {
+        size = h .size;
+        room = omega arith;
+        below = λ a j c.
+            upto a i c
+            (λ z.
+            subst (λ x. edge r x j ≡ (edge rows x j || (edge rows x k && bit via j))) (sym z)
+            (sym (or-false (edge r i j))
+            ∙ ap₂ (λ x y. x || (y && bit via j)) (h .rest i j (omega arith)) (sym f ∙ e ∙ h .rest i k (omega arith))))
+            (λ c. h .below a j c);
+        rest = λ a j c. h .rest a j (omega arith);
+      }
+
+  pub midway-done : n ≤ i → Through rows k via n r
+  midway-done l = record { size = h .size; at = λ a j c. h .below a j (omega arith) }
+
+-- A rule that leads nowhere changes nothing.
+pub through-none : {rows : List (List ℕ)} {k : ℕ} {via : List ℕ} {n : ℕ} {e : Bool} → length rows ≡ 128 → Empty via e → e ≡ true
+    → Through rows k via n rows
+through-none {rows} {k} s x t =
     record {
-      size = size-set r i t (h .size);
-      room = omega arith;
-      below = λ a j b.
-          upto a i b
-          (λ e.
-          subst (λ x. edge (set r i t) x j ≡ (edge rows x j || (edge rows x k && bit via j))) (sym e)
-          (edge-same r i t j (let s = h .size in omega arith) ∙ w .at j
-          ∙ ap₂ (λ x y. x || (y && bit via j)) (h .rest i j (omega arith)) (h .rest i k (omega arith))))
-          (λ b. edge-other r i t a j (λ e. omega arith) ∙ h .below a j b);
-      rest = λ a j b. edge-other r i t a j (λ e. omega arith) ∙ h .rest a j (omega arith);
+      size = s;
+      at = λ i j l.
+          sym (or-false (edge rows i j))
+          ∙ ap (λ b. edge rows i j || b) (sym (and-false (edge rows i k)) ∙ ap (λ b. edge rows i k && b) (sym (x .none t j)));
     }
+
+pub ruleset passing = (midway-none, midway-yes, midway-no, midway-done, through-none)
 
 -- The rows have the paths through rules below k.
 pub record Sofar (rows : List (List ℕ)) (n k : ℕ) (r : List (List ℕ)) : Type 0 where
@@ -102,19 +133,15 @@ pub sofar-none : {rows : List (List ℕ)} {n : ℕ} → length rows ≡ 128 → 
 unfolding within
 sofar-none s = record { size = s; room = omega arith; at = λ i j l. refl }
 
-pub midway-none : {rows : List (List ℕ)} {n k : ℕ} {r : List (List ℕ)} {via : List ℕ} → Sofar rows n k r → Midway r k via n 0 r
-midway-none h = record { size = h .size; room = omega arith; below = λ a j l. absurd (omega arith); rest = λ a j l. refl }
-
-pub sofar-more : {rows : List (List ℕ)} {n k i : ℕ} {r s : List (List ℕ)} → Sofar rows n k r → k < n → Midway r k (getD r k []) n i s
-    → n ≤ i
+pub sofar-more : {rows : List (List ℕ)} {n k : ℕ} {r s : List (List ℕ)} → Sofar rows n k r → k < n → Through r k (getD r k []) n s
     → Sofar rows n (k + 1) s
 unfolding within
-sofar-more {rows} {n} {k} {i} {r} {s} h l m e =
+sofar-more {rows} {n} {k} h l m =
     record {
       size = m .size;
       room = omega arith;
       at = λ a j b.
-          m .below a j (omega arith) ∙ ap₂ _||_ (h .at a j b) (ap₂ _&&_ (h .at a k b) (h .at k j l))
+          m .at a j b ∙ ap₂ _||_ (h .at a j b) (ap₂ _&&_ (h .at a k b) (h .at k j l))
           ∙ ap (λ x. within (edge rows) x a j) (sym (add-one k));
     }
 
@@ -130,4 +157,4 @@ sofar-done {rows} {n} {k} h l =
     same : n ≡ k
     same = let r = h .room in omega arith
 
-pub ruleset closing = (midway-none, midway-more, sofar-more, sofar-done)
+pub ruleset closing = (sofar-more, sofar-done)
