@@ -32,6 +32,12 @@ pub record IsNone (r : Found) : Type 0 where
   pub declined : r .declined ≡ 0
   pub clauses : r .clauses ≡ replicate ruleLimit 0
 
+-- The search ends with an answer.
+pub record Ended (answer : Search) (declined : ℕ) (clauses : List ℕ) (r : Found) : Type 0 where
+  pub is : r .answer ≡ answer
+  pub count : r .declined ≡ declined
+  pub list : r .clauses ≡ clauses
+
 -- Rules that stand in a sheet, of which all is known by a reading of left corners, and the preserved ones as a row.
 pub record RulesKnown (ws : List ℕ) (end : ℕ) (rules : Rules) (past : Bool) (calls corners : List (List ℕ)) (marks : Marks) (kept : List ℕ)
     : Type 0 where

@@ -17,7 +17,7 @@ ghost use Rattle.grammar.specs.Numbers.{ruleLimit, mostWords, workBytes};
 ghost use Rattle.grammar.specs.Words.{words};
 ghost use Rattle.words.specs.Room.{Room};
 ghost use Rattle.turns.specs.Midway.{LimitsFit};
-ghost use Rattle.plan.specs.Search.{IsNone, RulesKnown, FoundOf, JoinedKnown, TriedOf};
+ghost use Rattle.plan.specs.Search.{IsNone, Ended, RulesKnown, FoundOf, JoinedKnown, TriedOf};
 
 // A plan, and the members of its cycle as the two words of a row.
 pub struct FoundPlan {
@@ -49,6 +49,17 @@ impl Found {
             declined: 0,
             clauses: [0; Row::RULES],
         }
+    }
+}
+
+fn ended(answer: Search, declined: usize, clauses: [u32; Row::RULES]) -> Found
+    requires { ⌜ declined ≤ ruleLimit ⌝ }
+    ensures { λ r. ⌜ Ended answer declined clauses r ⌝ }
+{
+    Found {
+        answer,
+        declined: declined as u32,
+        clauses,
     }
 }
 
@@ -101,30 +112,17 @@ fn try_cycles(
                 k += 1;
             }
             Decision::Planned(plan) => {
-                return Found {
-                    answer: Search::Planned(FoundPlan {
-                        plan,
-                        low: members[0],
-                        high: members[1],
-                    }),
-                    declined: k as u32,
-                    clauses,
-                };
+                let answer = Search::Planned(FoundPlan {
+                    plan,
+                    low: members[0],
+                    high: members[1],
+                });
+                return ended(answer, k, clauses);
             }
-            Decision::Overfull => {
-                return Found {
-                    answer: Search::TooLarge,
-                    declined: k as u32,
-                    clauses,
-                };
-            }
+            Decision::Overfull => return ended(Search::TooLarge, k, clauses),
         }
     }
-    Found {
-        answer: Search::NoPlan,
-        declined: k as u32,
-        clauses,
-    }
+    ended(Search::NoPlan, k, clauses)
 }
 
 // The cycles of the rules, by their left corners.

@@ -11,7 +11,6 @@ use lib.Dec.{eqb}
 use borrow.Author.Tests.{eqb-true, eqb-false}
 use Rattle.grammar.specs.Numbers.{ruleLimit}
 use Rattle.grammar.specs.Laws.Parse.{either}
-use Rattle.reference.specs.Substitute.{declined}
 use Rattle.reference.specs.Run.{searchCycles, findPlan}
 use Rattle.records.specs.declared.rules.Rules.{Rules}
 use Rattle.reach.specs.Rows.{RowOf}
@@ -33,7 +32,7 @@ use Rattle.plan.specs.declared.search.Search.the-variants.{NoPlan, Plann
 use Rattle.plan.specs.declared.search.Found.{Found}
 use Rattle.plan.specs.Known.{CycleKnown}
 use Rattle.plan.specs.Decision.{DecidedAs, PlanOf}
-use Rattle.plan.specs.Search.{IsNone, cyclesOf, decisionOn, searchThrough, wholeSearch, AnswerIs, JoinedKnown, TriedOf}
+use Rattle.plan.specs.Search.{IsNone, Ended, cyclesOf, decisionOn, searchThrough, wholeSearch, AnswerIs, JoinedKnown, TriedOf}
 use Rattle.plan.proofs.Laws.Cycles.{graph, graph-ids, all-ahead, cycles-few}
 
 -- Zeros, and the default behind them.
@@ -84,24 +83,24 @@ module _ {ws : List ℕ} {end : ℕ} {rules : Rules} {past : Bool} {calls : List
 
   module _ {n k : ℕ} {left clauses : List ℕ} (g : Trying ws end rules past calls marks kept closed limits n k left clauses) where
     -- The answer at hand, behind those that were declined.
-    tried : {i : ℕ} {answer : Search} {bs : List ℕ} → i ≡ k
+    tried : {f : Found} {answer : Search} {bs : List ℕ} → Ended answer k clauses f
         → ((x : JoinedKnown ws end rules past calls marks kept closed) → AnswerIs (x .known) limits bs k answer)
-        → TriedOf ws end rules past calls marks kept closed limits bs (record { answer = answer; declined = i; clauses = clauses })
-    tried e f =
+        → TriedOf ws end rules past calls marks kept closed limits bs f
+    tried e y =
         record {
           is = λ x.
               record {
-                answer = rw e (f x);
-                declines = λ j l. g .declines x j (omega arith);
-                behind = λ j l. g .behind j (omega arith);
-                few = let h = g .low in let m = g .size in omega arith;
+                answer = rw (e .count, e .is) (y x);
+                declines = λ j l. let c = e .count in rw (e .list) (g .declines x j (omega arith));
+                behind = λ j l. let c = e .count in rw (e .list) (g .behind j (omega arith));
+                few = let c = e .count in let h = g .low in let m = g .size in omega arith;
               };
         }
 
-    ended : {i : ℕ} (bs : List ℕ) → ((x : JoinedKnown ws end rules past calls marks kept closed) → length (all x) ≤ k) → i ≡ k
-        → TriedOf ws end rules past calls marks kept closed limits bs (record { answer = NoPlan; declined = i; clauses = clauses })
+    no-more : {f : Found} (bs : List ℕ) → ((x : JoinedKnown ws end rules past calls marks kept closed) → length (all x) ≤ k)
+        → Ended NoPlan k clauses f → TriedOf ws end rules past calls marks kept closed limits bs f
     unfolding searchCycles
-    ended bs l e =
+    no-more bs l e =
         tried e λ x.
         let z : k ≡ length (all x) = let h = g .within x in let m = l x in omega arith in
         record {
@@ -110,19 +109,19 @@ module _ {ws : List ℕ} {end : ℕ} {rules : Rules} {past : Bool} {calls : List
         }
 
     -- As many were declined as there are rules.
-    pub try-full : {i : ℕ} (bs : List ℕ) → n ≤ k → i ≡ k
-        → TriedOf ws end rules past calls marks kept closed limits bs (record { answer = NoPlan; declined = i; clauses = clauses })
-    try-full bs l e = ended bs (λ x. let f = cycles-few x in let m = g .size in omega arith) e
+    pub try-full : {f : Found} (bs : List ℕ) → n ≤ k → Ended NoPlan k clauses f
+        → TriedOf ws end rules past calls marks kept closed limits bs f
+    try-full bs l e = no-more bs (λ x. let f = cycles-few x in let m = g .size in omega arith) e
 
     module _ {r : Ahead} (a : AheadOf closed (rules .ids) n left r) where
       ids : (x : JoinedKnown ws end rules past calls marks kept closed) → Ids (graph x) n (rules .ids)
       ids x = rw (g .size) (graph-ids x)
 
       -- None is left.
-      pub try-done : {i : ℕ} (bs : List ℕ) → r .done ≡ true → i ≡ k
-          → TriedOf ws end rules past calls marks kept closed limits bs (record { answer = NoPlan; declined = i; clauses = clauses })
+      pub try-done : {f : Found} (bs : List ℕ) → r .done ≡ true → Ended NoPlan k clauses f
+          → TriedOf ws end rules past calls marks kept closed limits bs f
       try-done bs d e =
-          ended bs
+          no-more bs
           (λ x.
           let none : drop k (all x) ≡ [] = rw d at (a .takes (graph x) (all x) (drop k (all x)) (ids x) (g .ahead x)) in
           let z = ap length none in
@@ -206,16 +205,12 @@ module _ {ws : List ℕ} {end : ℕ} {rules : Rules} {past : Bool} {calls : List
                 behind = λ j m. getD-set-other clauses k j c 0 (λ e. omega arith) ∙ g .behind j (omega arith);
               }
 
-          pub try-planned : {i : ℕ} {plan : Plan} → t ≡ D.Planned plan → i ≡ k
-              → TriedOf ws end rules past calls marks kept closed limits bs
-              (record {
-                answer = Planned (record { plan = plan; low = getD (r .members) 0 0; high = getD (r .members) 1 0 });
-                declined = i;
-                clauses = clauses;
-              })
+          pub try-planned : {f : Found} {plan : Plan} → t ≡ D.Planned plan
+              → Ended (Planned (record { plan = plan; low = getD (r .members) 0 0; high = getD (r .members) 1 0 })) k clauses f
+              → TriedOf ws end rules past calls marks kept closed limits bs f
           unfolding searchCycles
-          try-planned z f =
-              tried f λ x.
+          try-planned z e =
+              tried e λ x.
               let h = here x z in
               record {
                 plan = h .plan;
@@ -225,11 +220,10 @@ module _ {ws : List ℕ} {end : ℕ} {rules : Rules} {past : Bool} {calls : List
                 same = h .same;
               }
 
-          pub try-overfull : {i : ℕ} → t ≡ D.Overfull → i ≡ k
-              → TriedOf ws end rules past calls marks kept closed limits bs
-              (record { answer = TooLarge; declined = i; clauses = clauses })
+          pub try-overfull : {f : Found} → t ≡ D.Overfull → Ended TooLarge k clauses f
+              → TriedOf ws end rules past calls marks kept closed limits bs f
           unfolding searchCycles
-          try-overfull z f =
-              tried f λ x. record { low = inside x; over = here x z; is = next x ∙ rw (here x z, searchCycles) refl }
+          try-overfull z e =
+              tried e λ x. record { low = inside x; over = here x z; is = next x ∙ rw (here x z, searchCycles) refl }
 
 pub ruleset trying = (try-all, try-next, try-planned, try-overfull)

@@ -46,16 +46,16 @@ try-cycles-spec =
     (λ c. search (needs, trying))
     (λ c. search (needs, trying))
     (λ c. search (needs, trying))
+    (λ c κs. search (needs, trying))
     (λ c. search (needs, trying))
     (λ c. search (needs, trying))
     (λ c. search (needs, trying))
+    (λ c κs. search (needs, trying))
     (λ c. search (needs, trying))
     (λ c. search (needs, trying))
-    (λ c. search (needs, trying))
-    (λ c. search (needs, trying))
-    (λ c. search (needs, trying))
+    (λ c κs. search (needs, trying))
     (λ c. search (needs, trying))
     (λ c.
-    let inv = c .before .loop .inv .1 in
-    ⊎-elim (λ w. try-full inv _ (w .left) (search needs)) (λ w. try-done inv (w .2 .ensures) _ (w .3 .taken) (search needs))
-    (c .loop-test .came)))
+    let inv = c .before .before .loop .inv .1 in
+    ⊎-elim (λ w. try-full inv _ (w .left) (c .ended3 .ensures)) (λ w. try-done inv (w .2 .ensures) _ (w .3 .taken) (c .ended3 .ensures))
+    (c .before .loop-test .came)))
