@@ -3,6 +3,7 @@ import os
 import platform
 import re
 import shutil
+import subprocess
 from pathlib import Path
 
 import check_answers
@@ -107,6 +108,40 @@ class Definitions(Room):
         return (not open_equations, *refused(crate, status, said))
 
 
+def kit_at():
+    return Path(os.environ.get('RATTLE_HOME') or Path(shutil.which('rt')).resolve().parent.parent)
+
+
+def own_of(kit):
+    """What the kit has for this machine."""
+    return kit / 'on' / platform.machine()
+
+
+# Stands for the compiler where the interpreter's run alone counts: every program becomes one that does nothing.
+NO_COMPILER = """#!/bin/sh
+while [ $# -gt 0 ]; do
+    if [ "$1" = -o ]; then cp "$(dirname "$0")/../empty.o" "$2"; exit 0; fi
+    shift
+done
+exit 1
+"""
+
+
+def without_compiler(kit, folder):
+    """The kit's toolchain with that in place of its compiler, which takes most of the time of a run; or the kit's own, where it
+    is laid out otherwise or gcc is not at hand."""
+    if not (kit / 'bin/clang').is_file() or not shutil.which('gcc'):
+        return kit
+    (folder / 'bin').mkdir(parents=True)
+    for part in [*kit.iterdir(), *(kit / 'bin').iterdir()]:
+        if part.name not in ('bin', 'clang'):
+            (folder / part.relative_to(kit)).symlink_to(part)
+    (folder / 'bin/clang').write_text(NO_COMPILER)
+    (folder / 'bin/clang').chmod(0o755)
+    subprocess.run(['gcc', '-c', '-x', 'c', '-', '-o', folder / 'empty.o'], input=b'int main(void) { return 0; }', check=True)
+    return folder
+
+
 class Programs(Room):
     """Crates of code, and a program over them that prints what they tell of a sheet."""
 
@@ -119,17 +154,22 @@ class Programs(Room):
         self.take_proved()
 
     def rt(self, *words):
-        return self.run(*self.of_try()) if words[0] == 'try' else super().rt(*words)
+        return self.run(*self.of_try(*words[2:])) if words[0] == 'try' else super().rt(*words)
 
-    def of_try(self):
+    def of_try(self, toolchain=None):
         """The command that `rt try` gives, with each crate given those that it uses. `rt try` gives it all of them, and then none
         may have a module named like another."""
-        kit = Path(os.environ.get('RATTLE_HOME') or Path(shutil.which('rt')).resolve().parent.parent)
-        own, program = kit / 'on' / platform.machine(), self.place / 'crates' / DRIVER
+        kit, own, program = kit_at(), own_of(kit_at()), self.place / 'crates' / DRIVER
         libraries = [f'{name}={kit}/libs/{name}/src/lib.rt' for name in ('std', 'io', 'libc')]
         libraries += [f'{name}:{",".join(self.crates.uses[name])}={self.place}/crates/{name}/src/lib.rt' for name in self.names]
-        words = ['--toolchain', own / 'toolchain', '--stdin', program / 'stdin', program / 'src/main.rt', '--crate-name', DRIVER]
+        words = ['--toolchain', toolchain or own / 'toolchain', '--stdin', program / 'stdin', program / 'src/main.rt']
+        words += ['--crate-name', DRIVER]
         return [own / 'bin/rattle-cases', *words, *(word for library in libraries for word in ('--lib', library))]
+
+    def interpreter(self):
+        """The toolchain for runs of which the interpreter's alone counts."""
+        folder = self.place / 'toolchain'
+        return folder if folder.is_dir() else without_compiler(own_of(kit_at()) / 'toolchain', folder)
 
     def tried(self, edits, sheets, before, linked):
         """Of edits of one crate: each with whether the program prints otherwise, where it is refused, why if nowhere. The
@@ -159,11 +199,11 @@ class Programs(Room):
         self.undo()
         return now != (before if now.startswith('"') else self.printed_to_the_end(sheet))
 
-    def runs(self, sheets):
+    def runs(self, sheets, *toolchain):
         """How each run of the program on some sheets ends and what it prints, unproved: on the interpreter, then compiled."""
         framed = b''.join(len(sheet).to_bytes(4, 'little') + sheet for sheet in sheets)
         (self.place / 'crates' / DRIVER / 'stdin').write_bytes(framed)
-        _, said = self.rt('try', DRIVER)
+        _, said = self.rt('try', DRIVER, *toolchain)
         found = [(run[1] or '', run[2] or '') for run in FOUND.finditer(said)]
         if not found:
             raise SystemExit(f'the program does not run in {self.place}:\n{said[-1500:]}')
@@ -171,7 +211,7 @@ class Programs(Room):
 
     def printed(self, sheet):
         """What the program prints of a sheet on the interpreter; or how its run ends, if not as it should."""
-        how, text = self.runs([sheet])[0]
+        how, text = self.runs([sheet], self.interpreter())[0]
         return text if ENDED in how else how
 
     def printed_to_the_end(self, sheet):

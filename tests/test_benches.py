@@ -2,6 +2,7 @@
 """Shows the benches of wrong.py finding what is refused where, what a program prints, and putting back what an edit changed."""
 
 import pathlib
+import subprocess
 import unittest
 import unittest.mock
 
@@ -21,6 +22,9 @@ class Stub(benches.Definitions, benches.Programs):
 
     def rt(self, *words):
         return self.answer
+
+    def interpreter(self):
+        return 'toolchain'
 
 
 class Refusing(unittest.TestCase):
@@ -166,8 +170,7 @@ class Parts(Tree):
 
     def tried(self, law, guest=''):
         """What is found of the edit where `rt` has these errors once it is made, and none before."""
-        end = 'crate upper: modules loaded=1 checked=2\nlogic='
-        room = Stub(0, '', self.root / 'room')
+        end, room = 'crate upper: modules loaded=1 checked=2\nlogic=', Stub(0, '', self.root / 'room')
         room.crates, room.defined, room.edited = edits.Crates(self.root / 'crates'), ['lower'], {}
         room.answers = type('Answers', (), {'head': ''})
         room.copy('lower')
@@ -225,6 +228,16 @@ class Trying(Tree):
         self.assertEqual(benches.Programs.rt(room, 'dev', 'lower'), ('rt', 'dev', 'lower'))
 
 
+    def test_the_interpreter_is_asked_without_a_compiler(self):
+        for path in ('kit/bin/clang', 'kit/bin/ld.lld', 'kit/lib/a'):
+            self.write(path, path)
+        made = benches.without_compiler(self.root / 'kit', self.root / 'made')
+        self.assertEqual((made / 'lib/a').read_text() + (made / 'bin/ld.lld').read_text(), 'kit/lib/akit/bin/ld.lld')
+        subprocess.run([made / 'bin/clang', '-o', self.root / 'program.o', 'program.ll'], check=True)
+        self.assertEqual((self.root / 'program.o').read_bytes(), (made / 'empty.o').read_bytes())
+        self.assertEqual(benches.without_compiler(self.root, self.root / 'none'), self.root)
+
+
 class Warm(Tree):
     """Edits of a crate of code, over the folder in which it was accepted."""
 
@@ -260,15 +273,14 @@ class Warm(Tree):
 
 class Keeping(Tree):
     def test_put_back(self):
-        self.write('0/target/inc/upper/v/a', 'one')
-        self.write('0/target/inc/upper/v/b', 'two')
+        for name, text in (('a', 'one'), ('b', 'two')):
+            self.write(f'0/target/inc/upper/v/{name}', text)
         kept = rooms.Kept(self.root / '0/target/inc/upper', self.root / '0/target/kept/upper')
         self.write('0/target/inc/upper/v/a', 'other')
         self.write('0/target/inc/upper/v/c', 'new')
         (self.root / '0/target/inc/upper/v/b').unlink()
         kept.restore()
-        found = {path.name: path.read_text() for path in (self.root / '0/target/inc/upper/v').iterdir()}
-        self.assertEqual(found, {'a': 'one', 'b': 'two'})
+        self.assertEqual({path.name: path.read_text() for path in (self.root / '0/target/inc/upper/v').iterdir()}, {'a': 'one', 'b': 'two'})
 
     def test_version_as_a_library_has_it(self):
         self.write('format', 'rattle rlib\nrattle-build antt/1/src-2\ncrate std\n')
