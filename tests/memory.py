@@ -1,6 +1,6 @@
 #!/usr/bin/env python3
-"""Runs the pass under valgrind, where that is at hand: a byte read or written beside what is lent, and a decision by a byte
-that nobody wrote, are errors. Without valgrind the same program runs by itself.
+"""Runs the pass under valgrind, where that is at hand: a byte read or written beside what is lent is an error. What is lent is
+full of junk, so that nothing is told of bytes that nobody wrote. Without valgrind the same program runs by itself.
 
 The archive is libpass.a, as for header.py. The last line is 'N passed, 0 failed' where nothing failed.
 
