@@ -24,3 +24,20 @@ pub fn median(rounds: usize, calls: usize, mut call: impl FnMut()) -> f64 {
     times.sort_by(f64::total_cmp);
     times[rounds / 2]
 }
+
+/// The last line of a benchmark: how many sheets were timed, and the least and the greatest of what was found.
+pub fn found(ratios: &[f64], what: &str) -> String {
+    let least = ratios.iter().copied().fold(f64::INFINITY, f64::min);
+    let most = ratios.iter().copied().fold(0.0, f64::max);
+    let sheets = ratios.len();
+    format!("{sheets} sheets timed: {what} {least:.1} to {most:.1} times as long")
+}
+
+#[test]
+fn the_last_line_has_the_least_and_the_greatest() {
+    let line = found(&[2.0, 0.5, 31.25], "the original takes");
+    assert_eq!(
+        line,
+        "3 sheets timed: the original takes 0.5 to 31.2 times as long"
+    );
+}

@@ -6,7 +6,7 @@ use std::hint::black_box;
 use analysis::compare::{Outputs, WORK};
 use analysis::facts::Facts;
 use analysis::proved::proved;
-use reader::clock::time;
+use reader::clock::{found, time};
 use sheets::codec::{bytes_of, encode};
 use sheets::parse::sheet;
 use sheets::tree::Sheet;
@@ -51,7 +51,8 @@ fn asked(sheet: &[u8]) -> (f64, [u32; 3]) {
     (took, found.numbers)
 }
 
-fn show(name: &str, cycles: u32, tree: &Sheet) {
+/// How many times as long as the reading alone the call takes.
+fn show(name: &str, cycles: u32, tree: &Sheet) -> f64 {
     let sheet = bytes_of(&encode(tree));
     let (finding, numbers) = asked(&sheet);
     assert_eq!(numbers, [0, tree.rules.len() as u32, cycles], "{name}");
@@ -70,17 +71,24 @@ fn show(name: &str, cycles: u32, tree: &Sheet) {
         "{name:<24} {:>6} bytes {finding:>9.2} µs, read in {reading:.2} µs, copied in {copying:.2} µs",
         sheet.len()
     );
+    finding / reading
 }
 
 fn main() {
     let rings_of_ten = |at| Some(at - at % 10 + (at + 1) % 10);
     let downwards = |at| (at < 99).then(|| at + 1);
     let ring = |at| Some((at + 1) % 128);
-    show(
-        "30 rules, three cycles",
-        3,
-        &grammar(30, 2_816, rings_of_ten),
+    let ratios = [
+        show(
+            "30 rules, three cycles",
+            3,
+            &grammar(30, 2_816, rings_of_ten),
+        ),
+        show("100 rules, no cycle", 0, &grammar(100, MOST, downwards)),
+        show("a ring of 128 rules", 1, &grammar(128, MOST, ring)),
+    ];
+    println!(
+        "{} as the reading alone",
+        found(&ratios, "reading and facts take")
     );
-    show("100 rules, no cycle", 0, &grammar(100, MOST, downwards));
-    show("a ring of 128 rules", 1, &grammar(128, MOST, ring));
 }

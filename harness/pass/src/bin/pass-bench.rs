@@ -136,7 +136,8 @@ fn times(case: &Case, ours: &mut Ours) -> [f64; 2] {
     [ours, theirs - idle]
 }
 
-fn show(case: &Case) {
+/// Whether the original takes as many times as long as is wanted.
+fn show(case: &Case) -> bool {
     let mut ours = Ours {
         sheet: bytes_of(&encode(&case.tree)),
         buffers: LEAST.map(|length| vec![0; length]),
@@ -155,6 +156,19 @@ fn show(case: &Case) {
         ours.sheet.len(),
         case.wanted
     );
+    case.wanted <= ratio
+}
+
+/// The last line: how many were timed, and which are below what is wanted.
+fn found(timed: usize, below: &[&str]) -> String {
+    let reached = timed - below.len();
+    match below {
+        [] => format!("{timed} sheets timed: all reach what is wanted"),
+        _ => format!(
+            "{timed} sheets timed: {reached} reach what is wanted, below it: {}",
+            below.join("; ")
+        ),
+    }
 }
 
 fn main() {
@@ -162,5 +176,11 @@ fn main() {
         "{:<26} {:>6} {:>10} {:>12} {:>9} {:>7}",
         "sheet", "bytes", "ours µs", "original µs", "ratio", "wanted"
     );
-    cases().iter().for_each(show);
+    let cases = cases();
+    let below: Vec<&str> = cases
+        .iter()
+        .filter(|case| !show(case))
+        .map(|case| case.name)
+        .collect();
+    println!("{}", found(cases.len(), &below));
 }

@@ -4,7 +4,7 @@ use std::hint::black_box;
 
 use analysis::compare::WORK;
 use plans::proved::nth;
-use reader::clock::median;
+use reader::clock::{found, median};
 use sheets::codec::{bytes_of, encode};
 use sheets::parse::sheet;
 use sheets::tree::Sheet;
@@ -49,8 +49,8 @@ fn original(tree: &Sheet) -> f64 {
     took
 }
 
-/// For a grammar of one cycle.
-fn show(name: &str, (what, clause): (u32, u32), grammar: &str) {
+/// For a grammar of one cycle: how many times as long the original's plan takes.
+fn show(name: &str, (what, clause): (u32, u32), grammar: &str) -> f64 {
     let tree = sheet(grammar);
     let bytes = bytes_of(&encode(&tree));
     let (whole, numbers) = asked(&bytes, 0);
@@ -69,6 +69,7 @@ fn show(name: &str, (what, clause): (u32, u32), grammar: &str) {
         bytes.len(),
         theirs / planning
     );
+    theirs / planning
 }
 
 fn options(from: usize, count: usize) -> String {
@@ -97,40 +98,43 @@ fn looped(alternatives: usize) -> String {
 
 fn main() {
     let (front, behind) = (options(1, 1_024), options(2_000, 1_024));
-    show(
-        "2,048 options",
-        PLANNED,
-        &format!("e: {front} a | INT; a: {behind} e PLUS;"),
-    );
-    show("a loop of 5 alternatives", BY_THE_BUDGET, &looped(5));
-    show("a loop of 6 alternatives", BY_THE_BUDGET, &looped(6));
     let optional = "a? ".repeat(32);
-    show(
-        "65 steps declined",
-        BY_THE_BUDGET,
-        &format!("e: {optional} DOTS | a | INT; a: e PLUS;"),
-    );
-    show("a chain of 127 satellites", PLANNED, &chain(128));
-    show(
-        "7 by alternatives",
-        OVERFULL,
-        &format!(
-            "e: a | INT; a: {}; b: {};",
-            many("b T", 32),
-            many("e T", 32)
+    let (dots, tail) = (". ".repeat(250), options(1, 63));
+    let cases = [
+        (
+            "2,048 options",
+            PLANNED,
+            format!("e: {front} a | INT; a: {behind} e PLUS;"),
         ),
-    );
-    show("7 by elements, in a loop", OVERFULL, &looped(8));
-    let tail = ". ".repeat(250);
-    show(
-        "7 by elements, in one step",
-        OVERFULL,
-        &format!("e: a {tail} | INT; a: {};", many("e PLUS", 33)),
-    );
-    let tail = options(1, 63);
-    show(
-        "7 by options, in one step",
-        OVERFULL,
-        &format!("e: {tail} a | INT; a: {};", many("e PLUS", 33)),
-    );
+        ("a loop of 5 alternatives", BY_THE_BUDGET, looped(5)),
+        ("a loop of 6 alternatives", BY_THE_BUDGET, looped(6)),
+        (
+            "65 steps declined",
+            BY_THE_BUDGET,
+            format!("e: {optional} DOTS | a | INT; a: e PLUS;"),
+        ),
+        ("a chain of 127 satellites", PLANNED, chain(128)),
+        (
+            "7 by alternatives",
+            OVERFULL,
+            format!(
+                "e: a | INT; a: {}; b: {};",
+                many("b T", 32),
+                many("e T", 32)
+            ),
+        ),
+        ("7 by elements, in a loop", OVERFULL, looped(8)),
+        (
+            "7 by elements, in one step",
+            OVERFULL,
+            format!("e: a {dots} | INT; a: {};", many("e PLUS", 33)),
+        ),
+        (
+            "7 by options, in one step",
+            OVERFULL,
+            format!("e: {tail} a | INT; a: {};", many("e PLUS", 33)),
+        ),
+    ];
+    let ratios = cases.map(|(name, answer, grammar)| show(name, answer, &grammar));
+    println!("{}", found(&ratios, "the original's plan takes"));
 }

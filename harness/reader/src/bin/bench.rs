@@ -1,6 +1,6 @@
 //! `bench`: how long the proved reader takes for a sheet, beside a copy of the same bytes.
 
-use reader::clock::time;
+use reader::clock::{found, time};
 use reader::compare::WORK;
 use reader::numbers::NUMBERS;
 use reader::proved::proved;
@@ -112,7 +112,8 @@ fn sheet(words: usize, order: Ids) -> Vec<u8> {
     sheet.bytes()
 }
 
-fn show(name: &str, sheet: &[u8]) {
+/// How many times as long as a copy the reading takes.
+fn show(name: &str, sheet: &[u8]) -> f64 {
     let mut work = vec![0; WORK];
     let mut numbers = vec![0; NUMBERS];
     let reading = time(sheet, || proved(black_box(sheet), &mut work, &mut numbers));
@@ -125,15 +126,19 @@ fn show(name: &str, sheet: &[u8]) {
         "{name:<28} {:>6} bytes {reading:>9.2} µs, copied in {copying:.2} µs",
         sheet.len()
     );
+    reading / copying
 }
 
 fn main() {
-    show(
-        "case 1",
-        include_bytes!("../../../../examples/case-1.sheet"),
-    );
-    show("11 KB, rising ids", &sheet(2_816, Ids::Rising));
-    show("32 KB, rising ids", &sheet(MOST, Ids::Rising));
-    show("32 KB, shuffled ids", &sheet(MOST, Ids::Shuffled));
-    show("32 KB, ids of 32 bits", &sheet(MOST, Ids::Wide));
+    let ratios = [
+        show(
+            "case 1",
+            include_bytes!("../../../../examples/case-1.sheet"),
+        ),
+        show("11 KB, rising ids", &sheet(2_816, Ids::Rising)),
+        show("32 KB, rising ids", &sheet(MOST, Ids::Rising)),
+        show("32 KB, shuffled ids", &sheet(MOST, Ids::Shuffled)),
+        show("32 KB, ids of 32 bits", &sheet(MOST, Ids::Wide)),
+    ];
+    println!("{} as a copy", found(&ratios, "the reader takes"));
 }
