@@ -52,6 +52,12 @@ class Fitting(Tree):
         self.assertEqual(self.misfits('file: ', 'when: asked\nfile: '), [])
         self.assertEqual(self.misfits('file: ', 'when: never\nfile: '), ['lower/turned: when: never, which is not asked'])
 
+    def test_of_either_sort(self):
+        definition = self.edit()
+        code = self.edit('specs/A.antt', 'src/lib.rt')
+        self.assertEqual([wrong.of_sort([definition, code], only) for only in (wrong.DEFINITIONS, wrong.PROGRAMS, None)],
+                         [[definition], [code], [definition, code]])
+
     def test_old_text_not_there(self):
         self.assertEqual(self.misfits('not x', 'not y'), ['lower/turned: specs/A.antt: this stands 0 times: f x = not y'])
 

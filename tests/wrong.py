@@ -32,7 +32,7 @@ import words
 from benches import Definitions, Programs
 
 HERE = Path(__file__).resolve().parent
-AT_ONCE = 2
+DEFINITIONS, PROGRAMS = 'definitions', 'programs'
 ASKED = {'plan': ('driver', b'p'), 'pass': ('pass', b'')}   # the program and its letter, by what a sheet's name begins with
 
 
@@ -120,12 +120,12 @@ class Trial:
         finally:
             self.free.put(lane)
 
-    def run(self, place):
+    def run(self, place, at_once):
         """All edits with what was found of them; each lane ends with its crates accepted."""
-        lanes = [Lane(place / str(number), self) for number in range(AT_ONCE)]
+        lanes = [Lane(place / str(number), self) for number in range(at_once)]
         for lane in lanes:
             self.free.put(lane)
-        with ThreadPoolExecutor(AT_ONCE) as pool:
+        with ThreadPoolExecutor(at_once) as pool:
             for found in pool.map(self.of, self.units()):
                 yield from found
             for _ in pool.map(Lane.end, lanes):
@@ -165,12 +165,19 @@ def arguments():
     parser = argparse.ArgumentParser(description=__doc__, formatter_class=argparse.RawDescriptionHelpFormatter)
     parser.add_argument('names', nargs='*', help='edits, as CRATE/NAME; where none is given, all but those that wait to be asked for')
     parser.add_argument('--all', action='store_true', help='those too')
+    parser.add_argument('--only', choices=(DEFINITIONS, PROGRAMS), help='of these, the edits of definitions or those of code')
+    parser.add_argument('--lanes', default=2, type=int, help='how many are tried side by side')
     parser.add_argument('--crates', default=HERE.parent / 'crates', type=Path, help='the folder of crates')
     parser.add_argument('--answers', default=HERE.parent / 'harness/answers', type=Path, help='the stored answers')
     parser.add_argument('--built', default=HERE.parent / 'target', type=Path, help="what rt built of the crates, if it did")
     parser.add_argument('--room', default=HERE.parent / 'target/wrong', type=Path, help='the scratch folder')
     parser.add_argument('--fits', action='store_true', help='see only whether the edits fit the crates')
     return parser.parse_args()
+
+
+def of_sort(some, only):
+    """The edits of definitions or those of code, or all of them."""
+    return [edit for edit in some if not only or edit.is_code() == (only == PROGRAMS)]
 
 
 def fitting(given, crates, named):
@@ -184,7 +191,7 @@ def fitting(given, crates, named):
         raise SystemExit('\n'.join(misfits) + f'\n{len(misfits)} misfits')
     if not (given.names or given.all or given.fits):
         wrong = [edit for edit in wrong if edit.when != edits.ASKED]
-    return wrong, equal
+    return of_sort(wrong, given.only), of_sort(equal, given.only)
 
 
 def main():
@@ -198,7 +205,7 @@ def main():
     shutil.rmtree(room, ignore_errors=True)
     links = [path.resolve() for path in crates.must_fail()]
     linked = [edit for edit in wrong if edit.path.resolve() in links]
-    for edit, *found in Trial(wrong + equal, crates, named, linked, given.built.resolve()).run(room):
+    for edit, *found in Trial(wrong + equal, crates, named, linked, given.built.resolve()).run(room, given.lanes):
         line, good = told(edit, *found, equal=edit in equal)
         print(line, flush=True)
         failed += not good
