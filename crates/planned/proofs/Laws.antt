@@ -1,20 +1,8 @@
 -- The laws that the answers cite, each in the shape of the facts that the code has at one of its returns.
-pub mod Bring
 pub mod Halves
-pub mod Options
-pub mod OptionsAdded
-pub mod OptionsPut
-pub mod OptionsUnion
-pub mod Places
 pub mod Reading
 pub mod Written
 pub mod Settling
-pub mod Splice
-pub mod SpliceAll
-pub mod SpliceDecided
-pub mod SpliceElements
-pub mod SpliceFits
-pub mod SpliceOne
 pub mod Hand
 pub mod Placed
 pub mod Absent

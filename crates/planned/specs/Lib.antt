@@ -5,7 +5,4 @@ pub mod Moves
 pub mod Reading
 pub mod Laws
 pub mod Written
-pub mod Places
-pub mod Options
-pub mod Splice
 pub mod Split

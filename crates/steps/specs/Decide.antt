@@ -22,7 +22,7 @@ use Rattle.steps.specs.declared.decide.One.{One}
 use Rattle.steps.specs.declared.decide.One.the-variants.{Declines, Adds}
 use Rattle.steps.specs.declared.decide.Decision.{Decision}
 use Rattle.steps.specs.declared.decide.Decision.the-variants.{Goes, Declined}
-use Rattle.planned.specs.declared.splice.Size.{Size}
+use Rattle.splices.specs.declared.splice.Size.{Size}
 
 -- Sizes that can be added to.
 pub record SmallSize (z : Size) : Type 0 where

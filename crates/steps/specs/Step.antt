@@ -17,7 +17,7 @@ use Rattle.planned.specs.declared.list.Listed.{Listed}
 use Rattle.steps.specs.Decide.{DeclinedBy, Around, Unreferring, SmallSize}
 use Rattle.steps.specs.declared.decide.Decision.{Decision}
 use Rattle.steps.specs.declared.decide.Decision.the-variants.{Goes, Declined}
-use Rattle.planned.specs.declared.splice.Size.{Size}
+use Rattle.splices.specs.declared.splice.Size.{Size}
 use Rattle.steps.specs.declared.step.Prepared.{Prepared}
 
 -- The rule that stands at a place: its name; and that it refers to nothing.

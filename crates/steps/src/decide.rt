@@ -3,9 +3,9 @@
 use collisions::clash::clash_at;
 use ends::ends::alternative_end;
 use planned::list::Listed;
-use planned::options::Added;
-use planned::options::options_added;
-use planned::splice::Size;
+use splices::options::Added;
+use splices::options::options_added;
+use splices::splice::Size;
 use words::numbers::Block;
 use words::walk::alternative_head;
 use words::words::word;

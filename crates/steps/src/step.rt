@@ -5,7 +5,7 @@ use crate::decide::splice_size;
 use collisions::mark::mark_around;
 use collisions::quiet::is_quiet;
 use planned::list::Listed;
-use planned::splice::Size;
+use splices::splice::Size;
 ghost use mathlib.Core.Path.{_≡_};
 ghost use mathlib.Core.Bool.{false};
 ghost use Prim.Native.Nat.{_+_, _<_, _≤_};

@@ -15,7 +15,7 @@ use Rattle.hub.specs.Grounds.{rulesOf}
 use Rattle.planned.specs.Layout.{meaning}
 use Rattle.planned.specs.Laws.Counts.{optionsAll}
 use Rattle.planned.specs.declared.list.Listed.{Listed}
-use Rattle.planned.specs.declared.splice.Size.{Size}
+use Rattle.splices.specs.declared.splice.Size.{Size}
 use Rattle.steps.specs.Corner.{MemberIn}
 use Rattle.steps.specs.Decide.{DeclinedBy}
 use Rattle.steps.specs.Step.{stepBy}

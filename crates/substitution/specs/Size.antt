@@ -13,7 +13,7 @@ use Rattle.grammar.specs.Found.{RuleSpans}
 use Rattle.reference.specs.Substitute.{PlannedAlternative}
 use Rattle.reference.specs.Plan.{asTheyAre}
 use Rattle.planned.specs.Laws.Counts.{elementsAll, optionsAll}
-use Rattle.planned.specs.declared.splice.Size.{Size}
+use Rattle.splices.specs.declared.splice.Size.{Size}
 use Rattle.steps.specs.Decide.{SmallSize}
 
 -- So many more than before.

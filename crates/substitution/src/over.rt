@@ -3,8 +3,8 @@
 use crate::run::Made;
 use analysis::names::index;
 use ends::ends::alternative_end;
-use planned::bring::hub_in_hand;
 use planned::list::Listed;
+use splices::bring::hub_in_hand;
 use steps::corner::Corner;
 use steps::corner::Cycle;
 use steps::corner::Place;

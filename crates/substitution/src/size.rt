@@ -1,7 +1,7 @@
 // How large a rule is: its alternatives, with their outermost elements and options.
 use analysis::names::index;
 use ends::ends::alternative_end;
-use planned::splice::Size;
+use splices::splice::Size;
 use words::numbers::Block;
 use words::words::word;
 ghost use Prim.Native.Nat.{_+_, _≤_};

@@ -17,7 +17,7 @@ use Rattle.planned.specs.List.{alternativesIn, elementsIn, optionsIn, Laid, Has
 use Rattle.planned.specs.Moves.{IsDrained, IsEmpty}
 use Rattle.planned.specs.Laws.Counts.{elementsAll, optionsAll}
 use Rattle.planned.specs.declared.list.Listed.{Listed}
-use Rattle.planned.specs.declared.splice.Size.{Size}
+use Rattle.splices.specs.declared.splice.Size.{Size}
 use Rattle.turns.specs.Turns.{Task, IsSettled, Substituting}
 use Rattle.steps.specs.Decide.{SmallSize}
 use Rattle.turns.specs.declared.state.Limits.{Limits}

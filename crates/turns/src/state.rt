@@ -1,12 +1,12 @@
 // A substitution on its way: the settled alternatives and the stack in the work area, the hub's remaining ones in the sheet.
 use ends::ends::alternative_end;
-use planned::bring::hub_in_hand;
 use planned::list::Listed;
 use planned::list::Sizes;
 use planned::list::is_drained;
 use planned::list::settle;
 use planned::list::take_top;
-use planned::splice::Size;
+use splices::bring::hub_in_hand;
+use splices::splice::Size;
 use words::numbers::Block;
 ghost use mathlib.Core.Path.{_≡_};
 ghost use mathlib.Core.Bool.{true};

@@ -15,13 +15,13 @@ use Rattle.grammar.specs.Laws.Stands.{stands-length}
 use Rattle.grammar.specs.Laws.Opened.{options-length, alternative-words}
 use Rattle.grammar.specs.Laws.Found.{inner-found}
 use Rattle.reference.specs.Substitute.{addOption, unionOptions}
-use Rattle.planned.specs.Moves.{OptionsAdded}
+use Rattle.splices.specs.Moves.{OptionsAdded}
 use Rattle.planned.specs.declared.list.Listed.{Listed}
-use Rattle.planned.specs.declared.options.Added.{Added}
-use Rattle.planned.specs.declared.options.Added.the-variants as A
-use Rattle.planned.proofs.Laws.Places.{elements-low}
+use Rattle.splices.specs.declared.options.Added.{Added}
+use Rattle.splices.specs.declared.options.Added.the-variants as A
+use Rattle.splices.proofs.Laws.Places.{elements-low}
 use Rattle.steps.specs.Decide.{HandFits, IsCounted, AlternativeCounted}
-use Rattle.planned.specs.declared.splice.Size.{Size}
+use Rattle.splices.specs.declared.splice.Size.{Size}
 
 abbrev many : Option (List OptionDecl) → ℕ
 many none = 0

@@ -14,10 +14,10 @@ use Rattle.reference.specs.Substitute.{Planned, Decided, decided, declined, fou
 use Rattle.reference.specs.Substitute.{labelCollision, bindingCollision, optionCollision, labelsCollide, implicitBindingsCollide}
 use Rattle.reference.specs.Substitute.{spliceAlternative, unionOptions, collectLabels, actionReferenceNames, bindableNames}
 use Rattle.planned.specs.Layout.{meaning}
-use Rattle.planned.specs.Moves.{OptionsAdded, UnionOf}
+use Rattle.splices.specs.Moves.{OptionsAdded, UnionOf}
 use Rattle.planned.specs.declared.list.Listed.{Listed}
-use Rattle.planned.specs.declared.options.Added.{Added}
-use Rattle.planned.specs.declared.options.Added.the-variants as A
+use Rattle.splices.specs.declared.options.Added.{Added}
+use Rattle.splices.specs.declared.options.Added.the-variants as A
 use Rattle.collisions.specs.Clash.{ClashesAt}
 use Rattle.collisions.specs.declared.clash.Clash.{Clash}
 use Rattle.collisions.proofs.Laws.Inlinable.{inlinable-binding}

@@ -27,7 +27,7 @@ use Rattle.steps.specs.declared.decide.One.{One}
 use Rattle.steps.specs.declared.decide.One.the-variants.{Declines, Adds}
 use Rattle.steps.specs.declared.decide.Decision.{Decision}
 use Rattle.steps.specs.declared.decide.Decision.the-variants.{Goes, Declined}
-use Rattle.planned.specs.declared.splice.Size.{Size}
+use Rattle.splices.specs.declared.splice.Size.{Size}
 
 -- A decision for each item: the first one's, then the others'.
 module _ {A B : Type 0} (f : A → Decided B) (a : A) (as′ : List A) where

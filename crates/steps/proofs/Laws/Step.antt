@@ -13,7 +13,7 @@ use Rattle.reference.specs.Substitute.{splitOptional, spliceSatellite, decideEa
 use Rattle.planned.specs.Layout.{meaning}
 use Rattle.planned.specs.List.{SameList, Located, InHand}
 use Rattle.planned.specs.declared.list.Listed.{Listed}
-use Rattle.planned.specs.declared.splice.Size.{Size}
+use Rattle.splices.specs.declared.splice.Size.{Size}
 use Rattle.planned.specs.Laws.Same.{same-refl, same-meaning, same-listed, same-located}
 use Rattle.planned.specs.Laws.Counts.{count-elements, count-options}
 use Rattle.collisions.specs.Quiet.{isQuiet}

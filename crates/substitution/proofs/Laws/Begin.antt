@@ -20,7 +20,7 @@ use Rattle.reference.specs.Plan.{asItIs, asTheyAre}
 use Rattle.analysis.specs.Facts.{Among}
 use Rattle.hub.specs.Grounds.{rulesOf}
 use Rattle.planned.specs.Layout.{settled, stack}
-use Rattle.planned.specs.declared.splice.Size.{Size}
+use Rattle.splices.specs.declared.splice.Size.{Size}
 use Rattle.turns.specs.Turns.{Task, Substituting, substitution}
 use Rattle.substitution.specs.Size.{RuleCounted}
 use Rattle.turns.specs.Ground.{Ground, taskOf}

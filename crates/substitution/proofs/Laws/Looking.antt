@@ -24,7 +24,7 @@ use Rattle.analysis.specs.Facts.{Among}
 use Rattle.hub.specs.Grounds.{rulesOf}
 use Rattle.ends.specs.Ends.{skipping}
 use Rattle.planned.specs.Laws.Counts.{optionsAll}
-use Rattle.planned.specs.declared.splice.Size.{Size}
+use Rattle.splices.specs.declared.splice.Size.{Size}
 use Rattle.steps.specs.Decide.{DeclinedBy}
 use Rattle.substitution.specs.Size.{RuleCounted}
 use Rattle.turns.specs.Ground.{Ground, taskOf}

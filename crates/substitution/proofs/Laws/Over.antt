@@ -15,9 +15,9 @@ use Rattle.analysis.proofs.Laws.Standing.{id-at}
 use Rattle.hub.specs.Grounds.{rulesOf}
 use Rattle.hub.proofs.Laws.Grounds.{row-bit}
 use Rattle.planned.specs.Layout.{meaning}
-use Rattle.planned.specs.Moves.{Brought}
+use Rattle.splices.specs.Moves.{Brought}
 use Rattle.planned.specs.declared.list.Listed.{Listed}
-use Rattle.planned.specs.declared.splice.Size.{Size}
+use Rattle.splices.specs.declared.splice.Size.{Size}
 use Rattle.steps.specs.Corner.{CornerAt}
 use Rattle.steps.specs.Step.{RuleNamed, RuleUnreferring, DecidedAt}
 use Rattle.turns.specs.Ground.{Ground, taskOf}

@@ -17,7 +17,7 @@ use Rattle.grammar.specs.Laws.Found.{alternative-room}
 use Rattle.grammar.specs.Laws.Opened.{Opened, opened-leaf, opened-block, opened, first-spans, first-found, rest-found, alternative-words, rule-words}
 use Rattle.reference.specs.Plan.{asItIs, asTheyAre}
 use Rattle.ends.specs.Ends.{skipping}
-use Rattle.planned.specs.declared.splice.Size.{Size}
+use Rattle.splices.specs.declared.splice.Size.{Size}
 use Rattle.steps.specs.Decide.{SmallSize, IsCounted}
 use Rattle.substitution.specs.Size.{CountedTo, ManyCounted, RuleCounted}
 

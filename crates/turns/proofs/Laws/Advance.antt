@@ -24,12 +24,12 @@ use Rattle.reference.specs.Plan.{asItIs, asTheyAre}
 use Rattle.planned.specs.Layout.{meaning, settled, stack}
 use Rattle.planned.specs.List.{alternativesIn, elementsIn, optionsIn, Laid, HasRoom, InHand}
 use Rattle.planned.specs.Moves.{Pushed, Grown}
-use Rattle.planned.specs.Splice.{HandIn}
+use Rattle.splices.specs.Splice.{HandIn}
 use Rattle.planned.specs.Laws.Counts.{elementsAll, optionsAll, elements-all, options-all, alternatives-in, elements-in, options-in}
 use Rattle.planned.specs.Laws.Counts.{count-elements, count-options}
 use Rattle.planned.specs.declared.list.Listed.{Listed}
 use Rattle.planned.specs.declared.list.Sizes.{Sizes}
-use Rattle.planned.specs.declared.splice.Size.{Size}
+use Rattle.splices.specs.declared.splice.Size.{Size}
 use Rattle.turns.specs.Turns.{Task, Replaced, Substituting, substitution}
 use Rattle.steps.specs.Decide.{SmallSize}
 use Rattle.steps.specs.Step.{stepBy, GoesTo, Goable, PushedBy}

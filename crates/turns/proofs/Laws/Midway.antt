@@ -19,12 +19,13 @@ use Rattle.reference.specs.Plan.{asItIs, asTheyAre}
 use Rattle.ends.specs.Ends.{skipping}
 use Rattle.planned.specs.Layout.{meaning, settled, stack}
 use Rattle.planned.specs.List.{alternativesIn, elementsIn, optionsIn, Laid, HasTop, HasRoom, Located, Movable, InHand, InList}
-use Rattle.planned.specs.Moves.{Took, Settled, Brought, IsDrained, Grown}
+use Rattle.planned.specs.Moves.{Took, Settled, IsDrained, Grown}
+use Rattle.splices.specs.Moves.{Brought}
 use Rattle.planned.specs.Laws.Room.{hand-movable}
 use Rattle.planned.specs.Laws.Counts.{elementsAll, optionsAll, count-elements, count-options}
 use Rattle.planned.specs.declared.list.Listed.{Listed}
 use Rattle.planned.specs.declared.list.Sizes.{Sizes}
-use Rattle.planned.specs.declared.splice.Size.{Size}
+use Rattle.splices.specs.declared.splice.Size.{Size}
 use Rattle.turns.specs.Turns.{Task, IsSettled, Substituting}
 use Rattle.turns.specs.Midway.{Ready, pending, With, Midway, Holding, HasNext, pendingCount, TakenFrom, SettledIn}
 use Rattle.turns.specs.Midway.{StackTaken, PutSettled, Shut, opened}

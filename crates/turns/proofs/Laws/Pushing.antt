@@ -13,11 +13,12 @@ use Rattle.reference.specs.Substitute.{Planned, Decided, decided, require, dang
 use Rattle.reference.specs.Substitute.{spliceSatellite, decideEach, spliceAlternative}
 use Rattle.planned.specs.Layout.{meaning}
 use Rattle.planned.specs.List.{Laid, HasRoom, Located, ListedIn, CallAt}
-use Rattle.planned.specs.Moves.{Pushed, Grown, PushedSplit, PushedSplice, SplicedTo, Spliceable}
-use Rattle.planned.specs.Splice.{HandIn}
+use Rattle.planned.specs.Moves.{Pushed, Grown, PushedSplit}
+use Rattle.splices.specs.Moves.{PushedSplice, SplicedTo, Spliceable}
+use Rattle.splices.specs.Splice.{HandIn}
 use Rattle.planned.specs.declared.list.Listed.{Listed}
 use Rattle.planned.specs.declared.list.Sizes.{Sizes}
-use Rattle.planned.specs.declared.splice.Size.{Size}
+use Rattle.splices.specs.declared.splice.Size.{Size}
 use Rattle.steps.specs.Step.{stepBy, GoesTo, SplitSize, Goable, PushedBy}
 
 -- What goes is the split.

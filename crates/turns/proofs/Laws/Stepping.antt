@@ -15,7 +15,7 @@ use Rattle.planned.specs.List.{Laid, Located, Movable, InHand, SameList, Listed
 use Rattle.planned.specs.Laws.Same.{same-located, same-meaning, same-listed, same-ends}
 use Rattle.planned.specs.Laws.Items.{call-at}
 use Rattle.planned.specs.declared.list.Listed.{Listed}
-use Rattle.planned.specs.declared.splice.Size.{Size}
+use Rattle.splices.specs.declared.splice.Size.{Size}
 use Rattle.turns.specs.Turns.{Task, Replaced}
 use Rattle.steps.specs.Decide.{DeclinedBy, SmallSize}
 use Rattle.steps.specs.Step.{stepBy, DecidedAt, Goable, RuleNamed, RuleUnreferring, CallIn}

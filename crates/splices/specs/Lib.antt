@@ -1,0 +1,4 @@
+pub mod Places
+pub mod Options
+pub mod Moves
+pub mod Splice
