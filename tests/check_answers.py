@@ -17,11 +17,12 @@ answer has one, but every refusal, sheets joined and left, each line that a leng
 reading of left corners (14).
 
 None is left out: the exit status is 1 where an answer disagrees, and where the checker cannot compute
-one within its limits.
+one within its limits. Standard error tells how far it is.
 """
 import argparse
 import re
 import sys
+import time
 from pathlib import Path
 from queue import Empty, SimpleQueue
 from threading import Thread
@@ -34,6 +35,7 @@ from answers.stored import gather, read_file
 __all__ = ['Room', 'all_asked', 'check', 'copy_definitions', 'differing', 'gather', 'read_file']
 
 WORK = 25000   # of a batch: about the bytes of its sheets
+BEAT = 10      # seconds between two lines that tell how far it is
 
 
 def all_asked(paths, pattern=''):
@@ -61,7 +63,21 @@ def batches(asked):
     return made
 
 
-def work(room, waiting, wrong, large, first):
+class Progress:
+    """Tells how many are computed, now and then."""
+
+    def __init__(self, total, file):
+        self.total, self.file, self.began, self.told, self.lengths = total, file, time.monotonic(), 0, []
+
+    def add(self, batch):
+        self.lengths.append(len(batch))
+        took = time.monotonic() - self.began
+        if took - self.told >= BEAT:
+            self.told = took
+            print(f'answers: {sum(self.lengths)} of {self.total} computed ({took:.0f} s)', file=self.file, flush=True)
+
+
+def work(room, waiting, wrong, large, first, progress):
     """Takes batches until there are none, or until something disagrees and one is enough."""
     while not (first and wrong):
         try:
@@ -71,18 +87,19 @@ def work(room, waiting, wrong, large, first):
         bad, stopped = room.run(batch)
         wrong.update(bad)
         large.update({name: why for name, why in stopped.items() if name not in bad})
+        progress.add(batch)
 
 
 def check(asked, crates, place, processes=1, first=False):
     """What disagrees and what could not be computed of these, by name, with the definitions in `crates`."""
     wrong, large, waiting = {}, {}, SimpleQueue()
-    made = batches(asked)
+    made, progress = batches(asked), Progress(len(asked), sys.stderr)
     for batch in made:
         waiting.put(batch)
     rooms = [Room(place / '0', crates)]
     rooms[0].prepare()
     rooms += [rooms[0].beside(place / str(at)) for at in range(1, min(processes, len(made)))]
-    threads = [Thread(target=work, args=(room, waiting, wrong, large, first)) for room in rooms]
+    threads = [Thread(target=work, args=(room, waiting, wrong, large, first, progress)) for room in rooms]
     for thread in threads:
         thread.start()
     for thread in threads:

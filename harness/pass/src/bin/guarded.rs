@@ -12,6 +12,8 @@ use pass::run::sheet;
 use reader::options::{Options, options_or};
 
 const COUNT: u64 = 2_000;
+/// Generated sheets between two lines that tell how far it is.
+const PART: u64 = 1_000;
 
 fn asked(options: &Options) -> Result<String, String> {
     let mut yard = Yard::default();
@@ -26,6 +28,9 @@ fn asked(options: &Options) -> Result<String, String> {
     for index in 0..options.count {
         let name = format!("sheet {index} of seed {}", options.seed);
         ask(name, &sheet(options.seed, index))?;
+        if (index + 1) % PART == 0 {
+            println!("generated sheets asked about {}", index + 1);
+        }
     }
     Ok(format!(
         "nothing beside what is lent was touched: {turn} sheets, {} calls of both entries",
