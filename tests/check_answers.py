@@ -14,7 +14,8 @@ Where a folder is given, `outcome` is computed too, for the calls in answers/cal
 numbers and every byte of the three buffers, which are not zero at entry, and are as long as they
 must be, longer, or a byte short. A call takes a second, for the length of its buffers; so not every
 answer has one, but every refusal, sheets joined and left, each line that a length draws, and either
-reading of left corners (14).
+reading of left corners (14). With --outcome calls alone are computed, two for each answer: with buffers
+longer than they must be, and with one of them a byte short.
 
 None is left out: the exit status is 1 where an answer disagrees, and where the checker cannot compute
 one within its limits. Standard error tells how far it is.
@@ -27,7 +28,7 @@ from pathlib import Path
 from queue import Empty, SimpleQueue
 from threading import Thread
 
-from answers.calls import Call, calls
+from answers.calls import Call, calls, calls_of_each
 from answers.definitions import copy_definitions
 from answers.room import Room
 from answers.stored import gather, read_file
@@ -38,10 +39,12 @@ WORK = 25000   # of a batch: about the bytes of its sheets
 BEAT = 10      # seconds between two lines that tell how far it is
 
 
-def all_asked(paths, pattern=''):
-    """The answers in files and folders, and where there is a folder the calls, whose names fit."""
+def all_asked(paths, pattern='', outcome=False):
+    """The answers in files and folders, and where there is a folder the calls, whose names fit; or the calls of each answer."""
     asked = gather(paths)
-    if any(Path(path).is_dir() for path in paths):
+    if outcome:
+        asked = list(calls_of_each(asked))
+    elif any(Path(path).is_dir() for path in paths):
         asked += calls(asked)
     return [one for one in asked if re.search(pattern, one.name)]
 
@@ -124,6 +127,7 @@ def arguments():
     parser.add_argument('answers', nargs='+')
     parser.add_argument('--crates', default='crates', type=Path, help='the folder of crates')
     parser.add_argument('--room', default='target/answers', type=Path, help='the scratch folder')
+    parser.add_argument('--outcome', action='store_true', help='compute `outcome`, twice for each answer')
     parser.add_argument('--names', default='', help='take only answers and calls whose names fit this pattern')
     parser.add_argument('--processes', default=2, type=int, help='checkers at a time')
     parser.add_argument('--first', action='store_true', help='end soon after something disagrees')
@@ -132,7 +136,7 @@ def arguments():
 
 def main():
     given = arguments()
-    asked = all_asked(given.answers, given.names)
+    asked = all_asked(given.answers, given.names, given.outcome)
     if not asked:
         sys.exit('there are no such answers')
     wrong, large = check(asked, given.crates.resolve(), given.room.resolve(), given.processes, given.first)

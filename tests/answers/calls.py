@@ -98,8 +98,20 @@ def comes_back(stored):
     return back
 
 
+def short_at(index):
+    """One of the three buffers a byte short."""
+    return tuple(-1 if at == index else 0 for at in range(3))
+
+
+def calls_of_each(stored):
+    """Two calls for each answer: with buffers longer than needed, and with one of them a byte short."""
+    for at, one in enumerate(stored):
+        yield Call(one.name, one, (1, 2, 3))
+        yield Call(f'{one.name}, a buffer short', one, short_at(at % 3))
+
+
 def calls(stored):
-    """All calls, with the sheets of these answers."""
+    """All calls that the gate computes, with the sheets of these answers."""
     by_name = {one.name: one for one in stored}
     by_size = sorted(stored, key=lambda one: len(one.sheet))
     made = [Call(what, by_name[name], longer) for what, name, longer in OF_ANSWERS]
