@@ -8,6 +8,7 @@ Writes below harness/target alone.
 """
 
 import os
+import re
 import shutil
 import subprocess
 import sys
@@ -28,12 +29,19 @@ def parse(text):
         yield name, old, new.strip("\n")
 
 
+def without_tests(manifest):
+    """What tests alone need is not copied."""
+    return re.sub(r"^\[dev-dependencies\]\n(?:[^\[\n].*\n|\n)*", "", manifest, flags=re.M)
+
+
 def copy_harness():
     work = OUT / "work"
     shutil.rmtree(work, ignore_errors=True)
     work.mkdir(parents=True)
     for member in MEMBERS:
         shutil.copytree(HERE / member, work / member)
+        own = work / member / "Cargo.toml"
+        own.write_text(without_tests(own.read_text()))
     manifest = (HERE / "Cargo.toml").read_text().splitlines()
     members = "members = [" + ", ".join(f'"{member}"' for member in MEMBERS) + "]"
     lines = [members if line.startswith("members") else line for line in manifest]
