@@ -90,8 +90,8 @@ module _ {lim : Limits} {past : Bool} {s : Sheet} {result trail : List ℕ} {cal
       }
 
 -- The plan may be applied.
-unfoldable pub advancing-applicable : {limits : R.Limits} {past : Bool} {result trail work : List ℕ} {calls corners : List (List ℕ)} {st : State} {p : Plan}
-    → (x : Advancing limits past result trail work calls corners st p)
+unfoldable pub advancing-applicable : {limits : R.Limits} {past : Bool} {result trail work : List ℕ}
+    {calls corners : List (List ℕ)} {st : State} {p : Plan} → (x : Advancing limits past result trail work calls corners st p)
     → Applicable result work (st .end) (st .to) (st .rules) p
 advancing-applicable {limits} {past} x =
     record {
@@ -105,10 +105,12 @@ advancing-applicable {limits} {past} x =
       hubStays = midway-next limits (reading past) (x .sheet) (x .midst .midway) (x .found) .hubStays;
     }
 
-pub advancing-entries : {limits : R.Limits} {past : Bool} {result trail work : List ℕ} {calls corners : List (List ℕ)} {st : State} {p : Plan}
-    → Advancing limits past result trail work calls corners st p → st .entries ≤ mostEntries
+pub advancing-entries : {limits : R.Limits} {past : Bool} {result trail work : List ℕ}
+    {calls corners : List (List ℕ)} {st : State} {p : Plan} → Advancing limits past result trail work calls corners st p
+    → st .entries ≤ mostEntries
 advancing-entries x = let e = x .midst .entries in let l = so-far (x .midst) .entries in omega arith
 
-pub advancing-rules : {limits : R.Limits} {past : Bool} {result trail work : List ℕ} {calls corners : List (List ℕ)} {st : State} {p : Plan}
-    → Advancing limits past result trail work calls corners st p → st .rules .n ≤ ruleLimit
+pub advancing-rules : {limits : R.Limits} {past : Bool} {result trail work : List ℕ}
+    {calls corners : List (List ℕ)} {st : State} {p : Plan} → Advancing limits past result trail work calls corners st p
+    → st .rules .n ≤ ruleLimit
 advancing-rules x = let e = x .midst .rows .count in let l = so-far (x .midst) .rules in omega arith

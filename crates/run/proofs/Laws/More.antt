@@ -20,8 +20,10 @@ use Rattle.grammar.specs.Laws.Stands.{stands-append, stands-length, stands-with
 use Rattle.reference.specs.Substitute as R
 use Rattle.reference.specs.Numbers.{entryWords}
 use Rattle.reference.specs.Apply.{Entry, freshEach, applyAlternative, applyPlan}
-use Rattle.reference.specs.Run.{Stage, stopped, sheetWith, refusalOf, entriesOf, stepsOf, encodeEntry, answerRun, eliminateMutualLeftRecursion}
-use Rattle.laws.specs.Running.Midway.{Midway, SoFar, NextPlan, stageFrom, midway-so-far, midway-next, midway-more, midway-refused, steps-fit}
+use Rattle.reference.specs.Run.{Stage, stopped, sheetWith, refusalOf, entriesOf, stepsOf, encodeEntry, answerRun}
+use Rattle.reference.specs.Run.{eliminateMutualLeftRecursion}
+use Rattle.laws.specs.Running.Midway.{Midway, SoFar, NextPlan, stageFrom, midway-so-far, midway-next}
+use Rattle.laws.specs.Running.Midway.{midway-more, midway-refused, steps-fit}
 use Rattle.laws.specs.Running.Stages.{entries-last, steps-last}
 use Rattle.words.specs.Room.{Room}
 use Rattle.writing.specs.Wrote.{Wrote}
@@ -41,7 +43,8 @@ use Rattle.run.specs.declared.turn.Turn.{Turn}
 use Rattle.run.specs.Ended.{Front, AnswerIs}
 use Rattle.run.specs.Midst.{Midst}
 use Rattle.run.specs.Turn.{behindPlan, endedWith, OneMore, TurnedTo, UpToDate, Advancing, AdvancedOf}
-use Rattle.run.proofs.Laws.Known.{so-far, midst-ended, now-valid, midst-short, midst-known, advancing-applicable}
+use Rattle.run.proofs.Laws.Known.{so-far, midst-ended, now-valid, midst-short, midst-known}
+use Rattle.run.proofs.Laws.Known.{advancing-applicable, advancing-entries, advancing-rules}
 use Rattle.run.proofs.Laws.Over.{stopped-answer}
 
 -- Words that are as they were stand where they stood.
@@ -203,7 +206,8 @@ module _ {limits : R.Limits} {past : Bool} {result trail work : List ℕ} {calls
           let t : Stands (words trail′) n₁ new n₀ n₁ =
           subst (λ k. Stands (words trail′) n₁ new n₀ k) i (wrote-stands (done .told) n₁ (omega arith)) in
           let o : Stands (words trail′) n₁ (each encodeEntry (entriesOf (m .stages))) 0 n₀ =
-          stands-kept (words trail) (words trail′) n₁ n₀ (λ j h. wrote-same (done .told) j h) (stands-within n₁ (omega arith) (f .stands)) in
+          stands-kept (words trail) (words trail′) n₁ n₀ (λ j h. wrote-same (done .told) j h)
+          (stands-within n₁ (omega arith) (f .stands)) in
           record {
             stands =
                 subst (λ l. Stands (words trail′) n₁ l 0 n₁)
@@ -271,3 +275,16 @@ module _ {limits : R.Limits} {past : Bool} {result trail work : List ℕ} {calls
             subst (λ n. TurnedTo limits past (x .sheet) result′ trail′ calls′ corners′ st (record { more = true; number = 0; st = n }))
             (sym (u .is)) (turned-more x o z refl (u .renews));
       }
+
+-- Of a plan that is applied.
+pub ruleset advances = (
+  advancing-applicable,
+  advancing-entries,
+  advancing-rules,
+  left-room,
+  plans-small,
+  steps-small,
+  renewable,
+  advanced-refused,
+  advanced-more,
+)

@@ -1,39 +1,35 @@
 -- `run::turn::advance` meets its contract.
-use mathlib.Core.Path.{refl}
 use borrow.Author.Needs.{needs}
-use native.Mathlib.Omega.{arith}
-use Rattle.run.proofs.Laws.Known.{advancing-applicable, advancing-entries, advancing-rules}
-use Rattle.run.proofs.Laws.More.{left-room, plans-small, steps-small, renewable, advanced-refused, advanced-more}
+use Rattle.run.proofs.Laws.More.{advances}
 use Rattle.run.proofs.turn.advance.Statement.{statement}
 use Rattle.run.proofs.turn.advance.Tie as tie
+
+-- Places whose facts lie too far back for the search: the test of the number, the plan applied, and the call.
+abbrev judged : tie.After-bring-up-arg4 → tie.After-struct-known
+judged c = c .before .before .before .before .before
+
+abbrev called : tie.After-struct-known → tie.After-apply
+called c = c .before .before .before .before .before .before .before
+
+abbrev entry : tie.After-struct-known → tie.Start
+entry c = called c .before .before .before .before .before .before .before .before .before
 
 pub advance-spec : {M : Type 1} → statement M
 advance-spec =
     tie.close
     (tie.spec
+    (λ c κs. search (needs, advances))
+    (λ c. search needs)
+    (λ c. search needs)
+    (λ c. search needs)
+    (λ c. let asked = entry (c .before) .pre in (search (needs, advances), search needs))
     (λ c κs.
-    let asked = c .before .before .before .before .before .before .before .before .pre in
-    ((asked .0 .0, advancing-entries (asked .1 .1), asked .0 .2), advancing-applicable (asked .1 .1)))
-    (λ c. search needs)
-    (λ c. search needs)
-    (λ c. search needs)
-    (λ c.
-    let asked = c .before .before .before .before .before .before .before .before .before .before .before .before .before .before .before .before .before .pre in
-    let applied = c .before .before .before .before .before .before .before .before .apply .ensures in
-    (advanced-refused (applied .0) (search needs), (applied .1, asked .1 .0)))
-    (λ c κs.
-    let asked = c .before .before .before .before .before .before .before .before .before .before .before .before .before .before .before .before .before .before .before .before .before .pre in
-    let x = asked .1 .1 in
-    let applied = c .before .before .before .before .before .before .before .before .before .before .before .before .apply .ensures in
-    let z = c .before .before .before .before .if1 .left in (
-      (left-room x (applied .0) z, omega (arith, applied .1 .2, asked .0 .0 .forWork), advancing-rules x),
-      (asked .1 .0, ((plans-small x (applied .0) z, steps-small x (applied .0) z (asked .0 .1 .floor)), renewable x (applied .0) z refl)),
+    let asked = entry (judged c) .pre in
+    let applied = called (judged c) .apply .ensures in (
+      (search (needs, advances), search needs, search (needs, advances)),
+      (search needs, ((search (needs, advances), search (needs, advances)), search (needs, advances))),
     ))
-    (λ c. c .before .before .before .before .before .before .before .before .before .before .before .before .before .before .before .apply .ensures .1 .0)
+    (λ c. let applied = called (judged (c .before .before .before)) .apply .ensures in search needs)
     (λ c. search needs)
     (λ c. search needs)
-    (λ c.
-    let applied = c .before .before .before .before .before .before .before .before .before .before .before .before .before .before .before .apply .ensures in
-    let z = c .before .before .before .before .before .before .before .if1 .left in
-    let known = c .before .before .bring-up .ensures in
-    (advanced-more (applied .0) z (known .0), ((applied .1 .0, applied .1 .1, search needs), known .1))))
+    (λ c. let applied = called (judged (c .before .before .before)) .apply .ensures in (search (needs, advances), search needs)))
