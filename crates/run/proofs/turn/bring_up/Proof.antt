@@ -11,6 +11,8 @@ bring-up-spec =
     (λ c. search needs)
     (λ c. search needs)
     (λ c. search needs)
-    (λ c κs. let asked = c .before .before .before .before .before .before .before .before .before .before .before .before .before .before .pre in ((asked .0 .0, asked .0 .1), (asked .1 .0, asked .1 .1 .1)))
+    (λ c κs.
+    let asked = c .before .before .before .before .before .before .before .before .before .before .before .before .before .before .pre in
+    search needs)
     (λ c. search needs)
     (λ c. search needs))
