@@ -16,7 +16,7 @@ use Rattle.run.specs.declared.state.State.{State}
 use Rattle.run.specs.declared.turn.Turn.{Turn}
 use Rattle.run.specs.Midst.{Going}
 use Rattle.run.specs.Turn.{Advancing, AdvancedOf, TurnedOf}
-use Rattle.run.proofs.Laws.Known.{found-none, found-large, found-planned}
+use Rattle.run.proofs.Laws.Known.{midst-room, midst-small, midst-known, found-none, found-large, found-planned}
 use Rattle.run.proofs.Laws.Over.{turned-none, turned-large}
 
 module _ {lim : Limits} {past : Bool} {result trail : List ℕ} {calls corners : List (List ℕ)} {st : State} {bs : List ℕ} {r : Found}
@@ -40,3 +40,5 @@ module _ {lim : Limits} {past : Bool} {result trail : List ℕ} {calls corners :
         → TurnedOf (limitsOf lim) past result trail calls corners st result′ trail′ calls′ corners′ t
     unfolding found-planned
     turn-planned a = record { is = λ s m. a .is (found-planned m o e i) }
+
+pub ruleset turnings = (midst-room, midst-small, midst-known, turn-none, turn-large, turn-planned)
