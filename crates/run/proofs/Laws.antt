@@ -3,4 +3,5 @@ pub mod Known
 pub mod Over
 pub mod More
 pub mod Start
+pub mod Loop
 pub mod Turned

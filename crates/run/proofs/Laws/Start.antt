@@ -49,7 +49,8 @@ module _ {result : List ℕ} {end to : ℕ} {rules : Rules} {counters : Counters
   begun-standing = held-standing (x .held) (x .isValid) (x .rows)
 
   module _ (limits : R.Limits) {past : Bool} {calls corners : List (List ℕ)} {marks : Marks} {kept : List ℕ}
-      (f : FactsFound (words result) end rules past calls corners marks) (k : KeptOf (words result) end to rules kept) (trail : List ℕ) where
+      (f : FactsFound (words result) end rules past calls corners marks) (k : KeptOf (words result) end to rules kept)
+      (trail : List ℕ) where
     started : Midst limits past (x .sheet) result trail calls corners (atStart rules marks kept counters end to)
     unfolding begun-standing held-standing entriesOf stepsOf total
     started =
@@ -68,6 +69,8 @@ module _ {result : List ℕ} {end to : ℕ} {rules : Rules} {counters : Counters
           steps = refl;
         }
 
+pub ruleset begins = (begun-room, begun-kept, begun-standing)
+
 module _ {limits : R.Limits} {past : Bool} {result : List ℕ} {end to : ℕ} {rules : Rules} {counters : Counters} where
   pub onward-start : {calls corners : List (List ℕ)} {marks : Marks} {kept : List ℕ} (trail : List ℕ)
       → FactsFound (words result) end rules past calls corners marks → KeptOf (words result) end to rules kept
@@ -78,7 +81,17 @@ module _ {limits : R.Limits} {past : Bool} {result : List ℕ} {end to : ℕ} {r
   pub onward-begin : {calls corners : List (List ℕ)} {marks : Marks} {kept : List ℕ} {recorded : ℕ} (trail : List ℕ) → recorded ≡ 0
       → FactsFound (words result) end rules past calls corners marks → KeptOf (words result) end to rules kept
       → Onward limits past result end to rules counters result trail calls corners
-      (record { rules = rules; marks = marks; kept = kept; counters = counters; end = end; to = to; entries = recorded; plans = 0; steps = 0 })
+      (record {
+        rules = rules;
+        marks = marks;
+        kept = kept;
+        counters = counters;
+        end = end;
+        to = to;
+        entries = recorded;
+        plans = 0;
+        steps = 0;
+      })
   onward-begin {calls} {corners} {marks} {kept} trail e f k =
       subst (λ n. Onward limits past result end to rules counters result trail calls corners
       (record { rules = rules; marks = marks; kept = kept; counters = counters; end = end; to = to; entries = n; plans = 0; steps = 0 }))
@@ -107,5 +120,6 @@ module _ {limits : R.Limits} {past : Bool} {result : List ℕ} {end to : ℕ} {r
       pub onward-short : Begun result end to rules counters → r .st .to + trailerWords ≤ mostWords
       onward-short y = t .is (y .sheet) (o .is y) .short .words
 
-      pub onward-over : Begun result end to rules counters → r .more ≡ false → RunOf limits past result end to rules counters result₂ trail₂ (endedWith (r .number) (r .st))
+      pub onward-over : Begun result end to rules counters → r .more ≡ false
+          → RunOf limits past result end to rules counters result₂ trail₂ (endedWith (r .number) (r .st))
       onward-over y e = record { short = t .is (y .sheet) (o .is y) .short; is = λ x. t .is (x .sheet) (o .is x) .over e }
