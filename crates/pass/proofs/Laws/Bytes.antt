@@ -55,7 +55,8 @@ front-filled {bs} {after} {ws} {n} {at} buffer h f e z l =
 pub none-filled : {bs after : List ℕ} {at : ℕ} (buffer : List ℕ) → at ≡ 0 → ClearedFrom bs after at → length bs ≡ length buffer
     → after ≡ filled [] buffer
 unfolding filled
-none-filled {bs} {after} {at} buffer e z l = let m : length bs - 0 ≡ length buffer - 0 = omega arith in z .is ∙ rw e (ap (λ k. replicate k 0) m)
+none-filled {bs} {after} {at} buffer e z l =
+    let m : length bs - 0 ≡ length buffer - 0 = omega arith in z .is ∙ rw e (ap (λ k. replicate k 0) m)
 
 -- The bytes from a place on are zeros now.
 pub rest-cleared : {xs ys : List ℕ} {at : ℕ} → at ≤ length xs → ys ≡ replicate (length (midOf at (length xs - at) xs)) 0

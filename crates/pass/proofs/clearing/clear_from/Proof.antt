@@ -13,4 +13,4 @@ clear-from-spec =
     (λ c. search needs)
     (λ c κs. search needs)
     (λ c. search needs)
-    (λ c. rest-cleared (c .before .before .before .before .before .pre) (c .before .before .clear .ensures)))
+    (λ c. search (needs, rest-cleared)))
