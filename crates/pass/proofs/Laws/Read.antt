@@ -21,7 +21,7 @@ use Rattle.grammar.specs.Laws.Parse.{left-true, right-true}
 use Rattle.grammar.specs.Laws.Stands.{stands-none}
 use Rattle.grammar.specs.Laws.Codec.{accepted-valid, is-encoding-words}
 use Rattle.reference.specs.Substitute.{standard}
-use Rattle.reference.specs.Run.{ended, answer, refusal, answerRun, answerReading, answerTo, eliminateMutualLeftRecursion, entriesOf, stepsOf}
+use Rattle.reference.specs.Run.{ended, answer, refusal, answerRun, answerReading, answerTo, eliminateMutualLeftRecursion}
 use Rattle.laws.specs.Proved.OtherUnits.{other-answer}
 use Rattle.writing.specs.Wrote.{Wrote}
 use Rattle.writing.specs.Laws.Wrote.{wrote-stands}
@@ -30,10 +30,13 @@ use Rattle.writing.specs.declared.counters.Counters.{Counters}
 use Rattle.records.specs.Rules.{RowsOf}
 use Rattle.records.specs.declared.rules.Rules.{Rules}
 use Rattle.analysis.specs.Survey as survey
+use Rattle.sheet.specs.Answer as reader
 use Rattle.sheet.specs.Answer.{answerOf, partsOf, ReadAs, RowsIn}
 use Rattle.sheet.specs.declared.answer.Reading.{Reading}
 use Rattle.sheet.specs.declared.answer.Parts.{Parts}
 use Rattle.sheet.specs.declared.answer.Answer.the-variants.{Refused, Sheet}
+use Rattle.sheet.proofs.Laws.Lent.{lent-all}
+use Rattle.apply.specs.Applied.{Buffers}
 use Rattle.apply.specs.Held.{Held}
 use Rattle.apply.specs.Laws.Held.{encode-long}
 use Rattle.run.specs.Ended.{Front, AnswerIs, Short}
@@ -185,11 +188,17 @@ module _ (past : Bool) (bs : List ℕ) (long : isLength (length bs) ≡ true) {r
             }
 
 -- The same of what the reader hands over.
-module _ {bs : List ℕ} {rules : Rules} {p : Parts} (s : WasSheet bs rules p) (long : isLength (length bs) ≡ true)
-    {result result′ : List ℕ} {n : ℕ} (count : n ≡ length bs / 4) (room : resultBytes ≤ length result)
+module _ {bs : List ℕ} {rules : Rules} {p : Parts} (s : WasSheet bs rules p) {result trail work : List ℕ}
+    (l : Lent bs result trail work) {result′ : List ℕ} {n : ℕ} (count : n ≡ length bs / 4)
     (w : Wrote result result′ 0 (take n (drop 0 (words bs)))) where
-  pub sheet-other : (past : Bool) (trail : List ℕ) → (p .kind ≡ parser → ⊥)
-      → Answered past bs result′ trail (record { number = 0; plans = 0; steps = 0; words = n; entries = 0 })
+  abbrev long : isLength (length bs) ≡ true
+  long = l .long
+
+  abbrev room : resultBytes ≤ length result
+  room = l .buffers .forResult
+
+  pub sheet-other : (past : Bool) (trail′ : List ℕ) → (p .kind ≡ parser → ⊥)
+      → Answered past bs result′ trail′ (record { number = 0; plans = 0; steps = 0; words = n; entries = 0 })
   sheet-other past = answered-other past bs long (s .found) (s .partsAre) count room w
 
   module _ (are : AreBytes bs) (kind : p .kind ≡ parser) {end to : ℕ} {counters : Counters} (ends : end ≡ p .preserved)
@@ -210,5 +219,47 @@ pub lent-most : {bs result trail work : List ℕ} → Lent bs result trail work 
 lent-most {bs} l =
     leb-true (length bs) mostBytes (left-true (leb (length bs) mostBytes) _ (right-true (leb leastBytes (length bs)) _ (l .long)))
 
+-- The sheet has room in the result.
+pub lent-room : {bs result trail work : List ℕ} {n : ℕ} → Lent bs result trail work → n ≡ length bs / 4 → 4 * (0 + n) ≤ length result
+lent-room l e = let m = lent-most l in let r = l .buffers .forResult in omega arith
+
+-- The work area serves the reader.
+pub lent-reader : {bs result trail work : List ℕ} → Lent bs result trail work → reader.Lent bs work
+lent-reader {bs} {result} {trail} {work} l = lent-all bs work (l .long) (l .buffers .forWork)
+
+pub was-read : {bs : List ℕ} {r : Reading} {p : Parts} → ReadAs (readWords (words bs)) r → r .answer ≡ Sheet p → WasSheet bs (r .rules) p
+was-read {bs} {r} a e = record { reading = r; found = a; rulesAre = refl; partsAre = e }
+
+-- The buffers stay long enough behind the reader, and behind the copy.
+pub lent-read : {bs result trail work work′ : List ℕ} → Lent bs result trail work → length work′ ≡ length work → Lent bs result trail work′
+lent-read l e =
+    let b = l .buffers in
+    record { long = l .long; buffers = record { forResult = b .forResult; forTrail = b .forTrail; forWork = omega arith } }
+
+pub lent-copied : {bs result trail work result′ xs : List ℕ} {at : ℕ} → Lent bs result trail work → Wrote result result′ at xs
+    → Buffers result′ trail work
+lent-copied l w =
+    let b = l .buffers in
+    let e = w .long in
+    record { forResult = omega arith; forTrail = b .forTrail; forWork = b .forWork }
+
+pub read-refused : {past : Bool} {bs result trail work result′ trail′ : List ℕ} {r : Reading} {n : ℕ} → Lent bs result trail work
+    → ReadAs (readWords (words bs)) r → r .answer ≡ Refused n
+    → Answered past bs result′ trail′ (record { number = n; plans = 0; steps = 0; words = 0; entries = 0 })
+read-refused {past} {bs} {result} {trail} {work} {result′} {trail′} l a e = answered-refused past bs (l .long) a result′ trail′ e
+
 pub standard-small : {limits : Limits} → IsStandard limits → Small limits
 standard-small i = record { floor = let e = ap (λ l. l .budgetFloor) (i .is) in omega arith }
+
+pub ruleset readings = (
+  lent-room,
+  lent-reader,
+  was-read,
+  lent-read,
+  lent-copied,
+  read-refused,
+  sheet-other,
+  sheet-begun,
+  sheet-run,
+  standard-small,
+)
