@@ -2,11 +2,11 @@
 use Prim.Native.Nat.{ℕ, zero, suc, _+_, _-_, _*_, _≤_, _<_}
 use mathlib.Core.Path.{_≡_, refl, sym, ap, ap₂, _∙_, subst}
 use mathlib.Core.List.{List, [], _∷_, _++_}
-use mathlib.Core.Bool.{Bool, true, false, _&&_}
+use mathlib.Core.Bool.{Bool, true, false, not, _&&_}
 use native.Mathlib.Omega.{arith}
 use lib.ListN.{length, take, replicate}
 use lib.Dec.{leb}
-use borrow.Author.Tests.{leb-true, le-leb, lt-leb}
+use borrow.Author.Tests.{leb-true, le-leb, not-true, not-false}
 use Rattle.grammar.specs.Numbers.{badLength, shortBuffer, resultBytes, trailBytes, workBytes}
 use Rattle.grammar.specs.Corners.{Corners}
 use Rattle.grammar.specs.Lists.{member}
@@ -29,7 +29,8 @@ use Rattle.apply.specs.Applied.{Buffers}
 use Rattle.pass.specs.declared.answer.Answer.{Answer}
 use Rattle.pass.specs.declared.answer.Answer.the-variants.{Refused, Joined}
 use Rattle.grammar.specs.Laws.Parse.{left-true, right-true}
-use Rattle.pass.specs.Handed.{outcomeOf, Handed, ClearedFrom, lentBy}
+use Rattle.analysis.specs.Survey.{reading}
+use Rattle.pass.specs.Handed.{outcomeOf, Handed, ClearedFrom, lentBy, Lent, Answered}
 use Rattle.pass.proofs.Laws.Bytes.{front-filled, none-filled}
 
 -- No refusal has the number 0.
@@ -57,14 +58,19 @@ module _ (c : Corners) (bs result trail work : List ℕ) (are : AreBytes bs) whe
       }
 
   -- Refusals 1 and 2 touch nothing.
-  pub handed-length : isLength (length bs) ≡ false → Handed c bs result trail work (Refused badLength) result trail work
+  pub handed-length : {r : Bool} → r ≡ isLength (length bs) → not r ≡ true
+      → Handed c bs result trail work (Refused badLength) result trail work
   unfolding outcome untouched
-  handed-length e = handed (Refused badLength) result trail work (rw (e, outcome) refl)
+  handed-length i n = let e = sym i ∙ not-true _ n in handed (Refused badLength) result trail work (rw (e, outcome) refl)
 
-  pub handed-short : isLength (length bs) ≡ true → areLent result trail work ≡ false
+  pub handed-short : {r q : Bool} → r ≡ isLength (length bs) → not r ≡ false
+      → q ≡ lentBy (length result) (length trail) (length work) → not q ≡ true
       → Handed c bs result trail work (Refused shortBuffer) result trail work
-  unfolding outcome untouched
-  handed-short e f = handed (Refused shortBuffer) result trail work (rw (e, f, outcome) refl)
+  unfolding outcome untouched areLent
+  handed-short i n j m =
+      let e = sym i ∙ not-false _ n in
+      let f : areLent result trail work ≡ false = sym j ∙ not-true _ m in
+      handed (Refused shortBuffer) result trail work (rw (e, f, outcome) refl)
 
   module _ (long : isLength (length bs) ≡ true) (lent : areLent result trail work ≡ true) where
     delivers : asked ≡ delivered result trail work (answerTo standard c bs)
@@ -113,10 +119,6 @@ module _ (c : Corners) (bs result trail work : List ℕ) (are : AreBytes bs) whe
                 rw (e, d .plansAre, d .stepsAre, u, v, w, f, g, delivered) refl
 
 -- The buffers, by their lengths.
-pub lent-by : (result trail work : List ℕ) → lentBy (length result) (length trail) (length work) ≡ areLent result trail work
-unfolding areLent
-lent-by result trail work = refl
-
 pub buffers-lent : {result trail work : List ℕ} → Buffers result trail work → areLent result trail work ≡ true
 unfolding areLent
 buffers-lent {result} {trail} {work} b =
@@ -126,13 +128,37 @@ buffers-lent {result} {trail} {work} b =
       le-leb workBytes (length work) (b .forWork),
     ) refl
 
-pub lent-buffers : {result trail work : List ℕ} → areLent result trail work ≡ true → Buffers result trail work
-unfolding areLent
-lent-buffers {result} {trail} {work} e =
+pub lent-tested : {bs result trail work : List ℕ} {r q : Bool} → r ≡ isLength (length bs) → not r ≡ false
+    → q ≡ lentBy (length result) (length trail) (length work) → not q ≡ false → Lent bs result trail work
+lent-tested {bs} {result} {trail} {work} i n j m =
+    let e = sym j ∙ not-false _ m in
     let a = left-true (leb resultBytes (length result)) _ e in
     let f = right-true (leb resultBytes (length result)) _ e in
     record {
-      forResult = leb-true _ _ a;
-      forTrail = leb-true _ _ (left-true (leb trailBytes (length trail)) _ f);
-      forWork = leb-true _ _ (right-true (leb trailBytes (length trail)) _ f);
+      long = sym i ∙ not-false _ n;
+      buffers =
+          record {
+            forResult = leb-true _ _ a;
+            forTrail = leb-true _ _ (left-true (leb trailBytes (length trail)) _ f);
+            forWork = leb-true _ _ (right-true (leb trailBytes (length trail)) _ f);
+          };
     }
+
+-- The returns behind the run: its answer, and the buffers wiped behind it.
+module _ {past : Bool} {bs result trail work result₁ trail₁ work₁ result′ trail′ work′ : List ℕ} {r : Ended} (are : AreBytes bs)
+    (l : Lent bs result trail work) (a : Answered past bs result₁ trail₁ r)
+    (i : length result₁ ≡ length result) (j : length trail₁ ≡ length trail) (k : length work₁ ≡ length work) where
+  pub hand-refused : (r .number ≡ 0 → ⊥) → ClearedFrom result₁ result′ 0 → ClearedFrom trail₁ trail′ 0 → ClearedFrom work₁ work′ 0
+      → Handed (reading past) bs result trail work (Refused (r .number)) result′ trail′ work′
+  hand-refused h x y z =
+      handed-refused (reading past) bs result trail work are (l .long) (buffers-lent (l .buffers)) (a .is) i j k x y z h refl refl
+
+  pub hand-joined : r .number ≡ 0 → AreBytes result₁ → AreBytes trail₁ → ClearedFrom result₁ result′ (4 * r .words)
+      → ClearedFrom trail₁ trail′ (16 * r .entries) → ClearedFrom work₁ work′ 0
+      → Handed (reading past) bs result trail work
+      (Joined (record { plans = r .plans; steps = r .steps; result = 4 * r .words; trail = 16 * r .entries })) result′ trail′ work′
+  hand-joined h f g x y z =
+      handed-joined (reading past) bs result trail work are (l .long) (buffers-lent (l .buffers)) (a .is) i j k x y z f g h refl
+      (omega arith)
+
+pub ruleset outcomes = (handed-length, handed-short, lent-tested, hand-refused, hand-joined)

@@ -1,8 +1,6 @@
 -- `pass::entry::call` meets its contract.
-use mathlib.Core.Path.{sym, _∙_}
 use borrow.Author.Needs.{needs}
-use borrow.Author.Tests.{not-true, not-false}
-use Rattle.pass.proofs.Laws.Outcome.{handed-length, handed-short, lent-by, lent-buffers}
+use Rattle.pass.proofs.Laws.Outcome.{outcomes, lent-tested}
 use Rattle.pass.proofs.entry.call.Statement.{statement}
 use Rattle.pass.proofs.entry.call.Tie as tie
 
@@ -12,18 +10,13 @@ call-spec =
     (tie.spec
     (λ c κs. search needs)
     (λ c κs. search needs)
-    (λ c.
-    let long = sym (c .before .is-length .ensures) ∙ not-true _ (c .if1 .taken) in
-    handed-length _ _ _ _ _ (c .before .before .first-byte .ensures) long)
+    (λ c. search (needs, outcomes))
     (λ c κs. search needs)
-    (λ c.
-    let long = sym (c .before .before .before .is-length .ensures) ∙ not-false _ (c .before .before .if1 .left) in
-    let short = sym (lent-by _ _ _) ∙ sym (c .before .are-lent .ensures) ∙ not-true _ (c .if2 .taken) in
-    handed-short _ _ _ _ _ (c .before .before .before .before .first-byte .ensures) long short)
+    (λ c. search (needs, outcomes))
     (λ c κs.
-    let long = sym (c .before .before .before .before .before .before .is-length .ensures) ∙ not-false _ (c .before .before .before .before .before .if1 .left) in
-    let lent = sym (lent-by _ _ _) ∙ sym (c .before .before .before .before .are-lent .ensures) ∙ not-false _ (c .before .before .before .if2 .left) in
-    (record { long = long; buffers = lent-buffers lent }, c .before .before .before .before .before .before .before .first-byte .ensures))
+    let tested = c .before .before .before in
+    let long = tested .before .before in
+    (lent-tested (long .before .is-length .ensures) (long .if1 .left) (tested .before .are-lent .ensures) (tested .if2 .left), search needs))
     (λ c. search needs)
     (λ c. search needs)
     (λ c. search needs)
