@@ -17,11 +17,11 @@ abbrev μ-loop : tie.MeasureT-loop
 μ-loop result₀ trail₀ work₀ end to limits past room recorded calls₀ corners₀ st₀ result trail work calls corners st =
     suc (st₀ .rules .n) - st .plans
 
--- The two places whose facts lie too far back for the search.
-abbrev looped : tie.After-struct-known Inv-loop μ-loop → tie.At-loop Inv-loop μ-loop
-looped c = c .before .before .before .before .before .before .before .before .before .before .before .before .before .before
+-- Places whose facts lie too far back for the search once a turn is taken: where it began, and what was found out before the loop.
+abbrev looped : tie.After-struct-known2 Inv-loop μ-loop → tie.At-loop Inv-loop μ-loop
+looped c = c .before .before .before .before .before .before .before .before .before .before .before .before .before .before .before .before
 
-abbrev ground : tie.After-struct-known Inv-loop μ-loop → tie.After-find-out Inv-loop μ-loop
+abbrev ground : tie.After-struct-known2 Inv-loop μ-loop → tie.After-find-out Inv-loop μ-loop
 ground c = looped c .before .before .before .before .before
 
 pub run-unit-spec : {M : Type 1} → statement M
@@ -33,16 +33,16 @@ run-unit-spec =
     (λ c κs. search (needs, begins))
     (λ c. (search (needs, loops), search needs, search needs, search needs))
     (λ c κs. ((search needs, search needs, search needs, search needs), (search needs, search needs)))
-    (λ c. let inv = looped (c .before .before) .loop .inv in search (needs, loops))
-    (λ c. let inv = looped (c .before .before) .loop .inv in search needs)
-    (λ c. let inv = looped (c .before .before) .loop .inv in search needs)
+    (λ c. let inv = looped c .loop .inv in search (needs, loops))
+    (λ c. let inv = looped c .loop .inv in search needs)
+    (λ c. let inv = looped c .loop .inv in search needs)
     (λ c.
-    let inv = looped (c .before .before) .loop .inv in
-    let lent = ground (c .before .before) .find-out .kept .1 .1 .1 .1 .1 .1 .1 .0 in
+    let inv = looped c .loop .inv in
+    let lent = ground c .find-out .kept .1 .1 .1 .1 .1 .1 .1 .0 in
     search needs)
     (λ c.
-    let inv = looped (c .before .before) .loop .inv in
-    let lent = ground (c .before .before) .find-out .kept .1 .1 .1 .1 .1 .1 .1 .0 in
+    let inv = looped c .loop .inv in
+    let lent = ground c .find-out .kept .1 .1 .1 .1 .1 .1 .1 .0 in
     (search (needs, loops), search needs))
     (λ c. search (needs, loops))
-    (λ c. let inv = looped (c .before) .loop .inv in (search (needs, loops), search needs, search needs, search needs)))
+    (λ c. (search (needs, loops), search needs, search needs, search needs)))
