@@ -128,9 +128,9 @@ buffers-lent {result} {trail} {work} b =
       le-leb workBytes (length work) (b .forWork),
     ) refl
 
-pub lent-tested : {bs result trail work : List ℕ} {r q : Bool} → r ≡ isLength (length bs) → not r ≡ false
+pub call-lent : {bs result trail work : List ℕ} {r q : Bool} → r ≡ isLength (length bs) → not r ≡ false
     → q ≡ lentBy (length result) (length trail) (length work) → not q ≡ false → Lent bs result trail work
-lent-tested {bs} {result} {trail} {work} i n j m =
+call-lent {bs} {result} {trail} {work} i n j m =
     let e = sym j ∙ not-false _ m in
     let a = left-true (leb resultBytes (length result)) _ e in
     let f = right-true (leb resultBytes (length result)) _ e in
@@ -161,4 +161,4 @@ module _ {past : Bool} {bs result trail work result₁ trail₁ work₁ result�
       handed-joined (reading past) bs result trail work are (l .long) (buffers-lent (l .buffers)) (a .is) i j k x y z f g h refl
       (omega arith)
 
-pub ruleset outcomes = (handed-length, handed-short, lent-tested, hand-refused, hand-joined)
+pub ruleset outcomes = (handed-length, handed-short, call-lent, hand-refused, hand-joined)

@@ -1,6 +1,6 @@
 -- `pass::entry::call` meets its contract.
 use borrow.Author.Needs.{needs}
-use Rattle.pass.proofs.Laws.Outcome.{outcomes, lent-tested}
+use Rattle.pass.proofs.Laws.Outcome.{outcomes, call-lent}
 use Rattle.pass.proofs.entry.call.Statement.{statement}
 use Rattle.pass.proofs.entry.call.Tie as tie
 
@@ -16,7 +16,7 @@ call-spec =
     (λ c κs.
     let tested = c .before .before .before in
     let long = tested .before .before in
-    (lent-tested (long .before .is-length .ensures) (long .if1 .left) (tested .before .are-lent .ensures) (tested .if2 .left), search needs))
+    (call-lent (long .before .is-length .ensures) (long .if1 .left) (tested .before .are-lent .ensures) (tested .if2 .left), search needs))
     (λ c. search needs)
     (λ c. search needs)
     (λ c. search needs)
