@@ -29,8 +29,7 @@ use Rattle.apply.specs.Applied.{Buffers}
 use Rattle.pass.specs.declared.answer.Answer.{Answer}
 use Rattle.pass.specs.declared.answer.Answer.the-variants.{Refused, Joined}
 use Rattle.grammar.specs.Laws.Parse.{left-true, right-true}
-use Rattle.analysis.specs.Survey.{reading}
-use Rattle.pass.specs.Handed.{outcomeOf, Handed, ClearedFrom, lentBy, Lent, Answered}
+use Rattle.pass.specs.Handed.{outcomeOf, Handed, ClearedFrom, lentBy, Lent}
 use Rattle.pass.proofs.Laws.Bytes.{front-filled, none-filled}
 
 -- No refusal has the number 0.
@@ -44,6 +43,32 @@ unfolding member
 refused-positive {bs = bs} {n = n} (byReader e) z =
     let m = refuses-only bs n e in let k : false ≡ true = rw z at m in absurd (let u : _≡_ {A = ℕ} 0 1 = cc in omega arith)
 refused-positive (byRun r k e s x) z = stops-positive x z
+
+-- The buffers, by their lengths.
+pub buffers-lent : {result trail work : List ℕ} → Buffers result trail work → areLent result trail work ≡ true
+unfolding areLent
+buffers-lent {result} {trail} {work} b =
+    rw (
+      le-leb resultBytes (length result) (b .forResult),
+      le-leb trailBytes (length trail) (b .forTrail),
+      le-leb workBytes (length work) (b .forWork),
+    ) refl
+
+pub call-lent : {bs result trail work : List ℕ} {r q : Bool} → r ≡ isLength (length bs) → not r ≡ false
+    → q ≡ lentBy (length result) (length trail) (length work) → not q ≡ false → Lent bs result trail work
+call-lent {bs} {result} {trail} {work} i n j m =
+    let e = sym j ∙ not-false _ m in
+    let a = left-true (leb resultBytes (length result)) _ e in
+    let f = right-true (leb resultBytes (length result)) _ e in
+    record {
+      long = sym i ∙ not-false _ n;
+      buffers =
+          record {
+            forResult = leb-true _ _ a;
+            forTrail = leb-true _ _ (left-true (leb trailBytes (length trail)) _ f);
+            forWork = leb-true _ _ (right-true (leb trailBytes (length trail)) _ f);
+          };
+    }
 
 module _ (c : Corners) (bs result trail work : List ℕ) (are : AreBytes bs) where
   abbrev asked : Outcome
@@ -72,36 +97,37 @@ module _ (c : Corners) (bs result trail work : List ℕ) (are : AreBytes bs) whe
       let f : areLent result trail work ≡ false = sym j ∙ not-true _ m in
       handed (Refused shortBuffer) result trail work (rw (e, f, outcome) refl)
 
-  module _ (long : isLength (length bs) ≡ true) (lent : areLent result trail work ≡ true) where
+  module _ (l : Lent bs result trail work) where
     delivers : asked ≡ delivered result trail work (answerTo standard c bs)
     unfolding outcome
-    delivers = rw (long, lent, outcome) refl
+    delivers = rw (l .long, buffers-lent (l .buffers), outcome) refl
 
-    module _ {result₁ trail₁ work₁ result′ trail′ work′ : List ℕ} {r : Ended} {at to : ℕ}
+    module _ {result₁ trail₁ work₁ result′ trail′ work′ : List ℕ} {r : Ended}
         (a : AnswerIs result₁ trail₁ r (answerTo standard c bs))
         (sameResult : length result₁ ≡ length result) (sameTrail : length trail₁ ≡ length trail) (sameWork : length work₁ ≡ length work)
-        (x : ClearedFrom result₁ result′ at) (y : ClearedFrom trail₁ trail′ to) (z : ClearedFrom work₁ work′ 0) where
-      pub handed-refused : (r .number ≡ 0 → ⊥) → at ≡ 0 → to ≡ 0
+        (z : ClearedFrom work₁ work′ 0) where
+      pub handed-refused : (r .number ≡ 0 → ⊥) → ClearedFrom result₁ result′ 0 → ClearedFrom trail₁ trail′ 0
           → Handed c bs result trail work (Refused (r .number)) result′ trail′ work′
       unfolding delivered
-      handed-refused h i j = handed (Refused (r .number)) result′ trail′ work′ (go (answerTo standard c bs) refl ∙ sym delivers)
+      handed-refused h x y = handed (Refused (r .number)) result′ trail′ work′ (go (answerTo standard c bs) refl ∙ sym delivers)
         where
           go : (o : R.Answer) → answerTo standard c bs ≡ o
               → outcomeOf (Refused (r .number)) result′ trail′ work′ ≡ delivered result trail work (answerTo standard c bs)
           go (refusal n) e =
               let k = a .refused n e in
-              let u = none-filled result i x sameResult in
-              let v = none-filled trail j y sameTrail in
+              let u = none-filled result refl x sameResult in
+              let v = none-filled trail refl y sameTrail in
               let w = none-filled work refl z sameWork in
               rw (e, k, u, v, w, delivered) refl
           go (answer p s ws ts) e = absurd (h (a .delivered p s ws ts e .number))
 
       module _ (known₁ : AreBytes result₁) (known₂ : AreBytes trail₁) where
-        pub handed-joined : r .number ≡ 0 → at ≡ 4 * r .words → to ≡ 4 * (entryWords * r .entries)
+        pub handed-joined : {at to : ℕ} → r .number ≡ 0 → ClearedFrom result₁ result′ at → ClearedFrom trail₁ trail′ to
+            → at ≡ 4 * r .words → to ≡ 16 * r .entries
             → Handed c bs result trail work (Joined (record { plans = r .plans; steps = r .steps; result = at; trail = to }))
             result′ trail′ work′
         unfolding delivered
-        handed-joined h i j = handed _ result′ trail′ work′ (go (answerTo standard c bs) refl ∙ sym delivers)
+        handed-joined {at} {to} h x y i j = handed _ result′ trail′ work′ (go (answerTo standard c bs) refl ∙ sym delivers)
           where
             go : (o : R.Answer) → answerTo standard c bs ≡ o
                 → outcomeOf (Joined (record { plans = r .plans; steps = r .steps; result = at; trail = to })) result′ trail′ work′
@@ -110,7 +136,8 @@ module _ (c : Corners) (bs result trail work : List ℕ) (are : AreBytes bs) whe
             go (answer p s ws ts) e =
                 let d = a .delivered p s ws ts e in
                 let u = front-filled result known₁ (d .sheet) i x sameResult in
-                let v = front-filled trail known₂ (d .entries) j y sameTrail in
+                let q : to ≡ 4 * (entryWords * r .entries) = omega (arith, j) in
+                let v = front-filled trail known₂ (d .entries) q y sameTrail in
                 let w = none-filled work refl z sameWork in
                 let m = stands-length (d .sheet .stands) in
                 let n = stands-length (d .entries .stands) in
@@ -118,47 +145,4 @@ module _ (c : Corners) (bs result trail work : List ℕ) (are : AreBytes bs) whe
                 let g : to ≡ 4 * length ts = omega arith in
                 rw (e, d .plansAre, d .stepsAre, u, v, w, f, g, delivered) refl
 
--- The buffers, by their lengths.
-pub buffers-lent : {result trail work : List ℕ} → Buffers result trail work → areLent result trail work ≡ true
-unfolding areLent
-buffers-lent {result} {trail} {work} b =
-    rw (
-      le-leb resultBytes (length result) (b .forResult),
-      le-leb trailBytes (length trail) (b .forTrail),
-      le-leb workBytes (length work) (b .forWork),
-    ) refl
-
-pub call-lent : {bs result trail work : List ℕ} {r q : Bool} → r ≡ isLength (length bs) → not r ≡ false
-    → q ≡ lentBy (length result) (length trail) (length work) → not q ≡ false → Lent bs result trail work
-call-lent {bs} {result} {trail} {work} i n j m =
-    let e = sym j ∙ not-false _ m in
-    let a = left-true (leb resultBytes (length result)) _ e in
-    let f = right-true (leb resultBytes (length result)) _ e in
-    record {
-      long = sym i ∙ not-false _ n;
-      buffers =
-          record {
-            forResult = leb-true _ _ a;
-            forTrail = leb-true _ _ (left-true (leb trailBytes (length trail)) _ f);
-            forWork = leb-true _ _ (right-true (leb trailBytes (length trail)) _ f);
-          };
-    }
-
--- The returns behind the run: its answer, and the buffers wiped behind it.
-module _ {past : Bool} {bs result trail work result₁ trail₁ work₁ result′ trail′ work′ : List ℕ} {r : Ended} (are : AreBytes bs)
-    (l : Lent bs result trail work) (a : Answered past bs result₁ trail₁ r)
-    (i : length result₁ ≡ length result) (j : length trail₁ ≡ length trail) (k : length work₁ ≡ length work) where
-  pub hand-refused : (r .number ≡ 0 → ⊥) → ClearedFrom result₁ result′ 0 → ClearedFrom trail₁ trail′ 0 → ClearedFrom work₁ work′ 0
-      → Handed (reading past) bs result trail work (Refused (r .number)) result′ trail′ work′
-  hand-refused h x y z =
-      handed-refused (reading past) bs result trail work are (l .long) (buffers-lent (l .buffers)) (a .is) i j k x y z h refl refl
-
-  pub hand-joined : r .number ≡ 0 → AreBytes result₁ → AreBytes trail₁ → ClearedFrom result₁ result′ (4 * r .words)
-      → ClearedFrom trail₁ trail′ (16 * r .entries) → ClearedFrom work₁ work′ 0
-      → Handed (reading past) bs result trail work
-      (Joined (record { plans = r .plans; steps = r .steps; result = 4 * r .words; trail = 16 * r .entries })) result′ trail′ work′
-  hand-joined h f g x y z =
-      handed-joined (reading past) bs result trail work are (l .long) (buffers-lent (l .buffers)) (a .is) i j k x y z f g h refl
-      (omega arith)
-
-pub ruleset outcomes = (handed-length, handed-short, call-lent, hand-refused, hand-joined)
+pub ruleset outcomes = (handed-length, handed-short, call-lent, handed-refused, handed-joined)

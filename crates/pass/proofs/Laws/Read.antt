@@ -243,11 +243,6 @@ lent-copied l w =
     let e = w .long in
     record { forResult = omega arith; forTrail = b .forTrail; forWork = b .forWork }
 
-pub read-refused : {past : Bool} {bs result trail work result′ trail′ : List ℕ} {r : Reading} {n : ℕ} → Lent bs result trail work
-    → ReadAs (readWords (words bs)) r → r .answer ≡ Refused n
-    → Answered past bs result′ trail′ (record { number = n; plans = 0; steps = 0; words = 0; entries = 0 })
-read-refused {past} {bs} {result} {trail} {work} {result′} {trail′} l a e = answered-refused past bs (l .long) a result′ trail′ e
-
 pub standard-small : {limits : Limits} → IsStandard limits → Small limits
 standard-small i = record { floor = let e = ap (λ l. l .budgetFloor) (i .is) in omega arith }
 
@@ -257,7 +252,7 @@ pub ruleset readings = (
   was-read,
   lent-read,
   lent-copied,
-  read-refused,
+  answered-refused,
   sheet-other,
   sheet-begun,
   sheet-run,
