@@ -15,9 +15,10 @@ numbers and every byte of the three buffers, which are not zero at entry, and ar
 must be, longer, or a byte short. A call takes a second, for the length of its buffers; so not every
 answer has one, but every refusal, sheets joined and left, each line that a length draws, and either
 reading of left corners (14). With --outcome calls alone are computed, two for each answer: with buffers
-longer than they must be, and with one of them a byte short.
+longer than they must be, and with one of them a byte short; of a sheet of over calls.MOST bytes the
+second alone.
 
-None is left out: the exit status is 1 where an answer disagrees, and where the checker cannot compute
+No other is left out: the exit status is 1 where an answer disagrees, and where the checker cannot compute
 one within its limits. Standard error tells how far it is.
 """
 import argparse
