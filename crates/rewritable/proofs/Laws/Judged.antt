@@ -6,7 +6,7 @@ use mathlib.Core.Option.{Option, none, some}
 use mathlib.Core.Bool.{Bool, true, false, _&&_, _||_, not, and-false, or-false, false≢true, true≢false}
 use lib.ListN.{getD, drop, replicate}
 use lib.Dec.{eqb}
-use borrow.Author.Tests.{eqb-true, eq-eqb, ne-eqb, lt-ltb}
+use borrow.Author.Tests.{eqb-true, eq-eqb, ne-eqb, lt-ltb, not-true, not-false}
 use Rattle.grammar.specs.Tree.{Call, epsilon, action, predicate, call, token, terminal, Element, leaf, block, Block}
 use Rattle.grammar.specs.Lists.{all, any, member, meet}
 use Rattle.grammar.specs.Laws.Parse.{either}
@@ -32,19 +32,21 @@ abbrev someIf : Bool → Call → Option Call
 someIf b c = elim b [ true ↦ some c | false ↦ none ]
 
 -- The hub's name tells what its id tells.
-module _ {g : Grammar} {ids : List ℕ} {v : View} (w : Agrees g ids v) {hub m : ℕ} (low : hub < v .n)
-    (name : m ≡ getD (v .names) hub 0) where
+module _ {g : Grammar} {ids : List ℕ} {v : View} (w : Agrees g ids v) {hub : ℕ} (low : hub < v .n) where
   abbrev id : ℕ
   id = getD ids hub 0
+
+  abbrev m : ℕ
+  m = getD (v .names) hub 0
 
   -- A name is the hub's exactly if its rule is the hub.
   named : (a : ℕ) → eqb a m ≡ elim (target g a) [ none ↦ false | some t ↦ eqb t id ]
   unfolding isNamed holds member
-  named a = eqb-swap a m ∙ ap (λ x. eqb x a) name ∙ both ∙ go (target g a)
+  named a = eqb-swap a m ∙ both ∙ go (target g a)
     where
-      both : eqb (getD (v .names) hub 0) a ≡ member id (elim (target g a) [ none ↦ [] | some t ↦ t ∷ [] ])
+      both : eqb m a ≡ member id (elim (target g a) [ none ↦ [] | some t ↦ t ∷ [] ])
       both =
-          ap (λ b. b && eqb (getD (v .names) hub 0) a) (sym (lt-ltb hub (v .n) low))
+          ap (λ b. b && eqb m a) (sym (lt-ltb hub (v .n) low))
           ∙ w .calls a hub
           ∙ ap (λ b. b && member id (elim (target g a) [ none ↦ [] | some t ↦ t ∷ [] ])) (lt-ltb hub (v .n) low)
 
@@ -95,9 +97,9 @@ module _ (v : View) (hub d : ℕ) (es : List (Element (Block d))) (w : Agreeing 
   abbrev fit : Bool
   fit = isFit (reading (v .past)) (w .grammar) cycle (getD (w .ids) hub 0) d es
 
-module _ (v : View) {hub m : ℕ} (low : hub < v .n) (name : m ≡ getD (v .names) hub 0) (d : ℕ) (es : List (Element (Block d)))
-    {may : Bool} (first : may ≡ mayBeRewritten m es) where
-  pub verdict-no : (members : List ℕ) → may ≡ false
+module _ (v : View) {hub : ℕ} (low : hub < v .n) (d : ℕ) (es : List (Element (Block d)))
+    {may : Bool} (first : may ≡ mayBeRewritten (getD (v .names) hub 0) es) where
+  pub verdict-no : (members : List ℕ) → not may ≡ true
       → VerdictOf v members hub d es (record { fit = false; primary = false; recursive = false; calls = replicate 2 0 })
   unfolding isFit
   verdict-no members n =
@@ -105,24 +107,25 @@ module _ (v : View) {hub m : ℕ} (low : hub < v .n) (name : m ≡ getD (v .name
         by = λ w cycle r.
             record {
               fit = sym (ap (λ b. b && (primary v hub d es w cycle || recursive v hub d es w cycle))
-                  (sym (same-may (w .agrees) low name es) ∙ sym first ∙ n));
+                  (sym (same-may (w .agrees) low es) ∙ sym first ∙ not-true _ n));
               primary = λ t. absurd (false≢true t);
               recursive = λ t. absurd (false≢true t);
               calls = λ t. absurd (false≢true t);
             };
       }
 
-  module _ (yes : may ≡ true) {x : Walk} (walked : WalkOf v d es x) {begins : Bool} (second : begins ≡ startsWithCall m es) where
+  module _ (yes : not may ≡ false) {x : Walk} (walked : WalkOf v d es x) {begins : Bool}
+      (second : begins ≡ startsWithCall (getD (v .names) hub 0) es) where
     module _ (w : Agreeing v) (cycle : List ℕ) where
       -- What is left of the test.
       fits : fit v hub d es w cycle ≡ (primary v hub d es w cycle || recursive v hub d es w cycle)
       unfolding isFit
       fits =
           ap (λ b. b && (primary v hub d es w cycle || recursive v hub d es w cycle))
-          (sym (same-may (w .agrees) low name es) ∙ sym first ∙ yes)
+          (sym (same-may (w .agrees) low es) ∙ sym first ∙ not-false _ yes)
 
       starts : startsWithHubCall (w .grammar) (getD (w .ids) hub 0) es ≡ begins
-      starts = sym (same-starts (w .agrees) low name es) ∙ sym second
+      starts = sym (same-starts (w .agrees) low es) ∙ sym second
 
     -- It begins with the hub's call: what is behind it decides.
     pub verdict-recursive : (members : List ℕ) → begins ≡ true

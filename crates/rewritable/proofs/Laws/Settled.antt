@@ -2,8 +2,9 @@
 use Prim.Native.Nat.{ℕ, _-_, _<_, _≤_}
 use mathlib.Core.Path.{_≡_, refl, sym, ap, ap₂, _∙_, subst}
 use mathlib.Core.List.{List, [], _∷_}
-use mathlib.Core.Bool.{Bool, true, false, _&&_, _||_, or-false, or-assoc, false≢true}
+use mathlib.Core.Bool.{Bool, true, false, not, _&&_, _||_, or-false, or-assoc, false≢true}
 use native.Mathlib.Omega.{arith}
+use borrow.Author.Tests.{not-true, not-false}
 use lib.ListN.{length, getD, replicate}
 use Rattle.grammar.specs.Lists.{each, all, any}
 use Rattle.grammar.specs.Corners.{Corners}
@@ -142,16 +143,20 @@ module _ (v : View) (members : List ℕ) (hub : ℕ) (ws : List ℕ) (end d : �
       judge-listed = n .listed ws end d (g .listed)
 
       module _ {r : Verdict} (y : VerdictOf v members hub d (meaning ws end d bs x .elements) r) where
-        pub judge-stop : r .fit ≡ false → JudgedOf v members hub d (settled ws end d bs l) (record { fit = false; calls = row })
-        judge-stop e = record { by = λ w cycle m. left-stop _ _ _ _ _ _ _ _ (g .by w cycle m) (n .first ws end d) (y .by w cycle m) row e }
+        pub judge-stop : not (r .fit) ≡ true → JudgedOf v members hub d (settled ws end d bs l) (record { fit = false; calls = row })
+        judge-stop e =
+            record {
+              by = λ w cycle m.
+                  left-stop _ _ _ _ _ _ _ _ (g .by w cycle m) (n .first ws end d) (y .by w cycle m) row (not-true _ e);
+            }
 
-        pub judge-more : r .fit ≡ true → {more : List ℕ} → Union row (r .calls) more
+        pub judge-more : not (r .fit) ≡ false → {more : List ℕ} → Union row (r .calls) more
             → Judging next (primary || r .primary) (recursive || r .recursive) more
         judge-more t u =
             record {
               on = n .on;
               listed = g .listed;
-              by = λ w cycle m. left-more _ _ _ _ _ _ _ _ (g .by w cycle m) (n .first ws end d) (y .by w cycle m) t u;
+              by = λ w cycle m. left-more _ _ _ _ _ _ _ _ (g .by w cycle m) (n .first ws end d) (y .by w cycle m) (not-false _ t) u;
             }
 
 -- Reading one brings the end nearer.

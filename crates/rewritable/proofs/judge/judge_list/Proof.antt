@@ -1,10 +1,9 @@
 -- `rewritable::judge::judge_list` meets its contract: the alternatives left decide with what was found.
 use borrow.Author.Needs.{needs}
-use borrow.Author.Tests.{not-true, not-false}
 use Prim.Native.Nat.{_-_}
 use Rattle.grammar.specs.Words.{words}
 use Rattle.analysis.specs.Survey.{viewOf}
-use Rattle.rewritable.proofs.Laws.Settled.{Judging, judge-listed, judge-stop, judge-more, judge-falls, judging}
+use Rattle.rewritable.proofs.Laws.Settled.{Judging, judging}
 use Rattle.rewritable.proofs.judge.judge_list.Statement.{statement}
 use Rattle.rewritable.proofs.judge.judge_list.Tie as tie
 
@@ -24,27 +23,9 @@ judge-list-spec =
     (λ c κs. search (needs, judging))
     (λ c. search (needs, judging))
     (λ c κs. search (needs, judging))
-    (λ c κs.
-    let read = c .before in
-    let asked = read .before .before .before .before .before .before .before .before .before .before .pre in (
-      asked .0,
-      (
-        asked .1 .0,
-        (
-          read .read-settled .ensures .located,
-          judge-listed _ _ _ _ _ _ _ _ (read .before .before .before .before .loop .inv) (read .read-settled .ensures),
-        ),
-      ),
-    ))
-    (λ c.
-    let read = c .before .before .before .before in
-    judge-stop _ _ _ _ _ _ _ _ (read .before .before .before .before .loop .inv) (read .read-settled .ensures)
-    (c .before .before .judge-alternative .ensures) (not-true _ (c .if2 .taken)))
+    (λ c κs. (search needs, (search needs, (search needs, search (needs, judging)))))
+    (λ c. search (needs, judging))
     (λ c κs. search (needs, judging))
-    (λ c. judge-falls (c .before .before .before .before .before .before .before .before .before .read-settled .ensures))
-    (λ c.
-    let read = c .before .before .before .before .before .before .before .before .before in
-    judge-more _ _ _ _ _ _ _ _ (read .before .before .before .before .loop .inv) (read .read-settled .ensures)
-    (c .before .before .before .before .before .before .before .judge-alternative .ensures)
-    (not-false _ (c .before .before .before .before .before .if2 .left)) (c .before .before .before .union .ensures))
+    (λ c. search (needs, judging))
+    (λ c. search (needs, judging))
     (λ c. search (needs, judging)))

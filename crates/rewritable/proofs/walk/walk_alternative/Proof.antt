@@ -1,8 +1,12 @@
 -- `rewritable::walk::walk_alternative` meets its contract.
 use borrow.Author.Needs.{needs}
-use Rattle.rewritable.proofs.Laws.Walks.{whole-some, wholes}
+use Rattle.rewritable.proofs.Laws.Walks.{wholes}
 use Rattle.rewritable.proofs.walk.walk_alternative.Statement.{statement}
 use Rattle.rewritable.proofs.walk.walk_alternative.Tie as tie
+
+-- Where the call began lies too far back for the search once both walks are done.
+abbrev entry : tie.After-t4 → tie.Start
+entry c = c .before .before .before .before .before .before .before .before .before .before .before .before .before
 
 pub walk-alternative-spec : {M : Type 1} → statement M
 walk-alternative-spec =
@@ -18,8 +22,4 @@ walk-alternative-spec =
     (λ c. search needs)
     (λ c. search needs)
     (λ c. search needs)
-    (λ c.
-    let first = c .before .before .before .before .before .before in
-    whole-some _ _ _ _ _ _ (first .before .before .before .before .before .before .before .pre .1 .1 .1)
-    (first .item .ensures) _ _ _ _ _ _ (c .before .before .before .before .walk-item .ensures)
-    (c .before .walk-rest .ensures)))
+    (λ c. let asked = entry c .pre in search (needs, wholes)))
