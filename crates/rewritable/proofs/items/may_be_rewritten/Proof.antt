@@ -12,6 +12,10 @@ Inv-loop s end depth name work x silent₀ i₀ silent i = Testing (words s) end
 abbrev μ-loop : tie.MeasureT-loop
 μ-loop s end depth name work x silent₀ i₀ silent i = x .ne - i
 
+-- Where the turn began.
+abbrev turn : tie.After-is-silent Inv-loop μ-loop → tie.At-loop Inv-loop μ-loop
+turn c = c .before .before .before .before .before .before
+
 pub may-be-rewritten-spec : {M : Type 1} → statement M
 may-be-rewritten-spec =
     tie.close
@@ -25,6 +29,5 @@ may-be-rewritten-spec =
     (λ c κs. search (needs, testing))
     (λ c. search (needs, testing))
     (λ c. search (needs, testing))
-    (λ c. test-more _ _ _ _ _ _ (c .before .before .before .before .before .before .loop .inv) (c .before .before .before .item .ensures)
-    (c .before .before .gives-arguments .ensures) (c .before .if2 .left) (c .is-silent .ensures))
+    (λ c. let inv = turn c .loop .inv in search (test-more _ _ _ _ _ _ inv))
     (λ c. search (needs, testing)))

@@ -28,10 +28,8 @@ walk-rest-spec =
     (λ c κs. search (needs, resting))
     (λ c. search (needs, resting))
     (λ c. search (needs, resting))
-    (λ c. (
-      search needs,
-      rest-more _ _ _ _ _ _ _ _ (c .before .before .before .before .before .before .before .loop .inv .1)
-          (c .before .before .before .before .item .ensures) (c .before .before .walk-item .ensures),
-    ))
+    (λ c.
+    let inv = c .before .before .before .before .before .before .before .loop .inv .1 in
+    (search needs, search (rest-more _ _ _ _ _ _ _ _ inv)))
     (λ c. search (needs, resting))
     (λ c. search (needs, resting)))
