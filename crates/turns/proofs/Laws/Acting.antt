@@ -51,6 +51,8 @@ pub stepped-place : {ws : List ℕ} {end : ℕ} {before after : List ℕ} {st : 
     → SteppedTo ws end before after st x index at optional limits r → at ≡ place → SteppedTo ws end before after st x index place optional limits r
 stepped-place s e = rw (← e) s
 
+pub ruleset calling = (called-of, stepped-place)
+
 pub stuck-spent : {st : State} → st .budget ≡ 0 → StuckAt st (Declined 4)
 stuck-spent e = record { spent = λ z. refl; blocked = λ h. absurd (h e) }
 

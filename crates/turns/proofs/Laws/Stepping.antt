@@ -100,11 +100,12 @@ module _ {ws : List ℕ} {end : ℕ} {bs : List ℕ} {x : Listed} {index name at
       go : Called ws end bs x index name at optional → optional ≡ true → CallIn (meaning ws end innerDepth bs x .elements) index
       go (called a f n u i) = i
 
-module _ {ws : List ℕ} {end : ℕ} {before mid : List ℕ} {st : State} {h : Listed} {index at : ℕ} {optional : Bool} (limits : Limits) {k : Decision}
+module _ {ws : List ℕ} {end : ℕ} {before mid : List ℕ} {st : State} {h : Listed} {index at : ℕ} {optional : Bool} {k : Decision}
     (d : DecidedAt ws end innerDepth at before mid h index optional k) where
   -- It is declined.
-  pub stepped-declined : {n : ℕ} → k ≡ D.Declined n → (st .budget ≡ 0 → ⊥) → SteppedTo ws end before mid st h index at optional limits (Declined n)
-  stepped-declined {n} e left =
+  pub stepped-declined : (limits : Limits) {n : ℕ} → k ≡ D.Declined n → (st .budget ≡ 0 → ⊥)
+      → SteppedTo ws end before mid st h index at optional limits (Declined n)
+  stepped-declined limits {n} e left =
       let f = rw e at d in
       record {
         ready = λ next x. absurd (let y : _≡_ {A = ℕ} 0 1 = cc in omega arith);
@@ -140,9 +141,9 @@ module _ {ws : List ℕ} {end : ℕ} {before mid : List ℕ} {st : State} {h : L
           }
 
     -- It was decided, and is done.
-    pub stepped-on : {after : List ℕ} {r : Turn} → SteppedTo ws end mid after st h index at optional limits r
+    pub stepped-on : (limits : Limits) {after : List ℕ} {r : Turn} → SteppedTo ws end mid after st h index at optional limits r
         → SteppedTo ws end before after st h index at optional limits r
-    stepped-on v =
+    stepped-on limits v =
         let same = same-meaning (d .list) (opened w .located) ws end innerDepth in
         record {
           ready = v .ready;
@@ -208,4 +209,4 @@ module _ {ws : List ℕ} {end : ℕ} {bs : List ℕ} {st : State} {x : Listed} (
   pub with-movable : Movable (st .l) x
   with-movable = opened w .movable
 
-pub ruleset held = (stepped-spent, held-shut, held-located, held-called, stepped-held, with-laid, with-located, with-movable)
+pub ruleset held = (stepped-spent, held-index, held-shut, held-located, held-called, stepped-held, with-laid, with-located, with-movable)

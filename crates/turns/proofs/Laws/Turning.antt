@@ -54,3 +54,5 @@ module _ {ws : List ℕ} {end : ℕ} {before mid : List ℕ} {st : State} {t : T
           let s = k .sameBudget in
           let f = k .fewer (opened r) in
           omega arith
+
+pub ruleset turning = (taken-shut, turned)

@@ -1,8 +1,15 @@
 -- `turns::turn::advance` meets its contract.
 use borrow.Author.Needs.{needs}
-use Rattle.turns.proofs.Laws.Advance.{advance-on, advancing}
+use Rattle.turns.proofs.Laws.Advance.{advancing}
 use Rattle.turns.proofs.turn.advance.Statement.{statement}
 use Rattle.turns.proofs.turn.advance.Tie as tie
+
+-- Places too far back for the search once the push is made: where it was, and the call.
+abbrev pushing : tie.After-slice-known2 → tie.After-push-arg
+pushing c = c .before .before .before
+
+abbrev entry : tie.After-push-arg → tie.Start
+entry c = c .before .before .before .before .before .before .before .before .before .before
 
 pub advance-spec : {M : Type 1} → statement M
 advance-spec =
@@ -12,13 +19,9 @@ advance-spec =
     (λ c. search needs)
     (λ c κs. search (needs, advancing))
     (λ c κs. search (needs, advancing))
-    (λ c κs. (
-      (search needs, search needs, c .before .before .before .before .before .before .before .before .before .before .pre .1 .1 .1 .0 .0, c .before .before .before .before .before .before .before .before .before .before .pre .1 .1 .1 .0 .1),
-      ((search (needs, advancing), search (needs, advancing), search (needs, advancing)), search needs),
-    ))
+    (λ c κs.
+    let asked = entry c .pre in
+    (search needs, ((search (needs, advancing), search (needs, advancing), search (needs, advancing)), search needs)))
     (λ c. search (needs, advancing))
-    (λ c.
-    let r = c .before .before .before .before .before .before .before .before .before .before .before .before .before .pre in
-    advance-on _ _ (r .1 .0 .0) (r .1 .1 .1 .1) (search needs) (r .1 .1 .0 .0) (r .1 .1 .1 .0 .1) (search needs) (r .0 .2)
-    (c .before .before .before .before .before .is-within .ensures) (search needs))
+    (λ c. let asked = entry (pushing c) .pre in search (needs, advancing))
     (λ c. search (needs, advancing)))

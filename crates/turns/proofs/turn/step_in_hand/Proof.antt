@@ -1,27 +1,34 @@
 -- `turns::turn::step_in_hand` meets its contract.
 use borrow.Author.Needs.{needs}
-use Rattle.turns.proofs.Laws.Stepping.{with-decide, called-found, called-room, called-named, called-unreferring, decided-goable, stepping}
+use Rattle.turns.proofs.Laws.Stepping.{decided-goable, stepping}
 use Rattle.turns.proofs.Laws.Advance.{steps-low}
 use Rattle.turns.proofs.turn.step_in_hand.Statement.{statement}
 use Rattle.turns.proofs.turn.step_in_hand.Tie as tie
+
+-- Places too far back for the search once the step is decided: where that was, and the call.
+abbrev deciding : tie.After-advance-arg → tie.After-decide
+deciding c = c .before .before .before .before .before .before
+
+abbrev entry : tie.After-advance-arg → tie.Start
+entry c = deciding c .before .before .before .before
 
 pub step-in-hand-spec : {M : Type 1} → statement M
 step-in-hand-spec =
     tie.close
     (tie.spec
-    (λ c κs.
-    let r = c .before .before .before .pre in (
-      (r .0 .0, r .0 .1, r .1 .0 .2, r .1 .0 .1, r .0 .4),
-      (with-decide (r .1 .0 .0), ((called-found (r .1 .1), called-room (r .1 .1), called-named (r .1 .1)), called-unreferring (r .1 .1))),
-    ))
+    (λ c κs. (search needs, (search (needs, stepping), (search (needs, stepping), search (needs, stepping)))))
     (λ c. search (needs, stepping))
     (λ c. search (needs, stepping))
     (λ c κs.
-    let r = c .before .before .before .before .before .before .before .before .before .before .pre in (
-      (r .0 .0, r .0 .1, r .0 .2, search (needs, stepping)),
+    let asked = entry c .pre in
+    let decided = deciding c .decide .ensures in (
+      search (needs, stepping),
       (
-        (r .0 .3, steps-low (r .1 .0 .0)),
-        ((search (needs, stepping), r .1 .0 .1, r .0 .4), ((called-room (r .1 .1), called-found (r .1 .1)), decided-goable (c .before .before .before .before .before .before .before .before .before .before .args .limits) (c .before .before .before .before .before .before .decide .ensures) (r .1 .0 .0) (search needs) (r .1 .1) (r .0 .4))),
+        search (needs, steps-low),
+        (
+          search (needs, stepping),
+          (search (needs, stepping), decided-goable decided (asked .1 .0 .0) (search needs) (asked .1 .1) (asked .0 .4)),
+        ),
       ),
     ))
     (λ c. search (needs, stepping))
