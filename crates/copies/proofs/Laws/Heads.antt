@@ -130,16 +130,16 @@ head-long {kind = kind} h h′ c v f =
     let counted = v .counted ∙ ap length (sym f) in
     ap length (head-words-of h′ c kind) ∙ omega arith
 
-pub head-copied : {bs : List ℕ} {end at payload : ℕ} {plain : Bool} {out out′ t t₁ t₂ : List ℕ} {p p₁ p₂ p′ : Pen} {k o id lid : ℕ}
+pub head-copied : {bs : List ℕ} {end at payload : ℕ} {plain : Bool} {out out′ t t₁ t₂ : List ℕ} {p p₁ p₂ : Pen} {k o id lid : ℕ}
     → Room bs end → payload ≤ end → HeadRoom (words bs) at payload out t p → k ≡ packedIf plain (getD (words bs) (at + 2) 0)
     → o ≡ getD (words bs) at 0
     → Gave elementSort (p .counters .element) blockBoundary o t t₁ p id p₁
     → LabelGiven (words bs) (at + 3) t₁ t₂ p₁ lid p₂
     → Wrote out out′ (p .to)
     (id ∷ getD (words bs) (at + 1) 0 ∷ k ∷ lid ∷ take (payload - (at + 4)) (drop (at + 4) (words bs)))
-    → p′ .to ≡ p .to + (payload - at) → p′ .trail ≡ p₂ .trail → countersOf (p′ .counters) ≡ countersOf (p₂ .counters)
-    → HeadCopied (words bs) end at payload plain out out′ t t₂ p p′
-head-copied {bs} {end} {at} {payload} {plain} {out} {out′} {t} {t₁} {t₂} {p} {p₁} {p₂} {p′} {k} {o} {id} {lid} r i room pk own g l w x y z =
+    → HeadCopied (words bs) end at payload plain out out′ t t₂ p
+    (record { to = p .to + (payload - at); trail = p₂ .trail; counters = p₂ .counters })
+head-copied {bs} {end} {at} {payload} {plain} {out} {out′} {t} {t₁} {t₂} {p} {p₁} {p₂} {k} {o} {id} {lid} r i room pk own g l w =
     record {
       is = λ h kind low v. go h kind low v (headIf plain h) (head-id plain h) (head-carried plain h) (head-label plain h)
           (head-options plain h) (head-packed plain h kind low);
@@ -148,7 +148,8 @@ head-copied {bs} {end} {at} {payload} {plain} {out} {out′} {t} {t₁} {t₂} {
     go : (h : ElementHead) (kind : ℕ) → kind < kindEnd → HeadWords (words bs) end at h kind payload → (h′ : ElementHead)
         → h′ .id ≡ h .id → h′ .carried ≡ h .carried → h′ .label ≡ h .label → h′ .options ≡ h .options
         → packedIf plain (kind + kindEnd * h .quantifier) ≡ kind + kindEnd * h′ .quantifier
-        → Drew (λ g. encodeHead g kind) (renumberHead h′ (countersOf (p .counters))) out out′ t t₂ p p′
+        → Drew (λ g. encodeHead g kind) (renumberHead h′ (countersOf (p .counters))) out out′ t t₂ p
+        (record { to = p .to + (payload - at); trail = p₂ .trail; counters = p₂ .counters })
     go h kind low v h′ a b e f q =
         let c = countersOf (p .counters) in
         let n : at + 3 + 1 ≡ at + 4 = omega arith in
@@ -164,7 +165,7 @@ head-copied {bs} {end} {at} {payload} {plain} {out} {out′} {t} {t₁} {t₂} {
         let ws : id ∷ getD (words bs) (at + 1) 0 ∷ k ∷ lid ∷ take (payload - (at + 4)) (drop (at + 4) (words bs))
         ≡ encodeHead (renumberHead h′ c .node) kind = cc in
         let long = head-long h h′ c v f in
-        rw (head-entries-of h′ c, head-counters-of h′ c) (told-wrote ts (rw ws at w) (x ∙ ap (λ m. p .to + m) (sym long)) y z)
+        rw (head-entries-of h′ c, head-counters-of h′ c) (told-wrote ts (rw ws at w) (ap (λ m. p .to + m) (sym long)) refl refl)
 
 -- Room for the label's entry behind the element's own.
 pub label-room : {ws : List ℕ} {at payload : ℕ} {out t t₁ : List ℕ} {p p₁ : Pen} {n reason o id : ℕ} → HeadRoom ws at payload out t p
