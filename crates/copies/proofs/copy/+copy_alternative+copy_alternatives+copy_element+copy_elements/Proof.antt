@@ -3,11 +3,11 @@ use borrow.Author.Needs.{needs}
 use native.Mathlib.Omega.{arith}
 use Prim.Native.Nat.{ℕ, _<_, _+_, _*_}
 use Rattle.grammar.specs.Words.{words}
-use Rattle.grammar.specs.Laws.Found.{rooms, inner, block-depth, block-falls, block-room}
-use Rattle.copies.specs.Laws.Grown.{growth, grows-element, grows-block}
+use Rattle.grammar.specs.Laws.Found.{rooms, inner}
+use Rattle.copies.specs.Laws.Grown.{growth}
 use Rattle.copies.proofs.Laws.Copying.{ElementsCopying, AlternativesCopying, copying, copying-fits}
 use Rattle.copies.proofs.Laws.Elements.{elementary, leaf-room, alternatives-fit, element-block}
-use Rattle.copies.proofs.Laws.Alternatives.{alternating, elements-fit, alternative-copied}
+use Rattle.copies.proofs.Laws.Alternatives.{alternating, alternative-copied}
 use borrow.Fn.Kinds.{In}
 use borrow.Fn.PlainCycle.{Measures, is, falls, and}
 use Rattle.copies.proofs.copy.copy_alternative.Reads as copy-alternative
@@ -119,6 +119,37 @@ copy-elements-Inv-loop s end depth n at out₀ trail₀ i₀ p₀ w₀ out trail
 abbrev copy-elements-μ-loop : copy-elements-lts.MeasureT-loop
 copy-elements-μ-loop s end depth n at out₀ trail₀ i₀ p₀ w₀ out trail i p w = i
 
+abbrev element-claims : ℕ → copy-element-lts.Claims
+element-claims t = (
+  element-head-reads.Asked,
+  element-head-reads.Learnt,
+  copy-head-reads.Asked,
+  copy-head-reads.Learnt,
+  word-reads.Asked,
+  word-reads.Learnt,
+  copy-count-reads.Asked,
+  copy-count-reads.Learnt,
+  copy-alternatives-below t,
+  copy-alternatives.Post,
+  leaf-end-reads.Asked,
+  leaf-end-reads.Learnt,
+  copy-leaf-reads.Asked,
+  copy-leaf-reads.Learnt,
+)
+
+-- Places too far back for the search once an element's head is copied: where that was, where it was read, and the call.
+abbrev headed : (t : ℕ) → copy-element-lts.After-slice-known4 (element-claims t) (copy-element-at t) copy-element.Post
+    → copy-element-lts.After-copy-head (element-claims t) (copy-element-at t) copy-element.Post
+headed t c = c .before .before .before .before
+
+abbrev opened : (t : ℕ) → copy-element-lts.After-slice-known4 (element-claims t) (copy-element-at t) copy-element.Post
+    → copy-element-lts.After-element-head (element-claims t) (copy-element-at t) copy-element.Post
+opened t c = headed t c .before .before .before
+
+abbrev entry : (t : ℕ) → copy-element-lts.After-slice-known4 (element-claims t) (copy-element-at t) copy-element.Post
+    → copy-element-lts.Start (element-claims t) (copy-element-at t) copy-element.Post
+entry t c = opened t c .before .before .before .before
+
 pub +copy-alternative+copy-alternatives+copy-element+copy-elements-spec :
     {M : Type 1} → statement M
 +copy-alternative+copy-alternatives+copy-element+copy-elements-spec =
@@ -139,15 +170,7 @@ pub +copy-alternative+copy-alternatives+copy-element+copy-elements-spec :
     copy-alternative.Post
     (λ c κs. search (needs, rooms, inner, alternating))
     (λ c κs. search (needs, rooms, inner, alternating))
-    (λ c κs.
-    let headed = c .before .before .before .before .before .before in
-    let opened = headed .before .before .before in
-    let start = opened .before .before .before .before in
-    let pre = start .pre .1 in
-    let head = opened .alternative-head .ensures in (
-      omega arith,
-      ((pre .0, head .within), elements-fit (start .args .depth) (pre .0) head (headed .copy-alternative-head .ensures) (pre .1)),
-    ))
+    (λ c κs. (omega arith, (search needs, search (needs, alternating))))
     (λ c. search (needs, rooms, inner, alternating))
     (λ c. search (needs, rooms, inner, alternating))
     (λ c.
@@ -175,104 +198,39 @@ pub +copy-alternative+copy-alternatives+copy-element+copy-elements-spec :
     (λ c. search (needs, copying))
     (λ c. search (needs, copying))
     (λ c. search (needs, copying)))
-    (λ t. copy-element-lts.spec (
-      element-head-reads.Asked,
-      element-head-reads.Learnt,
-      copy-head-reads.Asked,
-      copy-head-reads.Learnt,
-      word-reads.Asked,
-      word-reads.Learnt,
-      copy-count-reads.Asked,
-      copy-count-reads.Learnt,
-      copy-alternatives-below t,
-      copy-alternatives.Post,
-      leaf-end-reads.Asked,
-      leaf-end-reads.Learnt,
-      copy-leaf-reads.Asked,
-      copy-leaf-reads.Learnt,
-    )
+    (λ t. copy-element-lts.spec
+    (element-claims t)
     (copy-element-at t)
     copy-element.Post
     (λ c κs. search (needs, rooms, inner, elementary))
     (λ c κs. search (needs, rooms, inner, elementary))
     (λ c κs. search (needs, rooms, inner, elementary))
     (λ c κs. search (needs, rooms, inner, elementary))
-    (λ c.
-    let chosen = c .before .before .before .before .before in
-    let opened = chosen .before .before .before .before .before .before .before .before in
-    let start = opened .before .before .before .before in
-    let deep = block-depth (opened .element-head .ensures) (chosen .if1 .taken) (start .args .depth) (start .pre .1 .1 .found) in
-    omega arith)
-    (λ c.
-    let opened = c .before .before .before .before .before .before .before .before .before .before .before .before .before in
-    let start = opened .before .before .before .before in
-    let head = opened .element-head .ensures in
-    let room = start .pre .1 .0 in
-    omega arith)
+    (λ c. let asked = entry t (c .before .before .before .before .before .before) .pre .1 in search (needs, inner))
+    (λ c. let asked = entry t (c .before .before .before .before .before .before) .pre .1 in search needs)
     (λ c κs.
-    let counted = c .before .before .before .before in
-    let read = counted .before .before in
-    let chosen = read .before in
-    let headed = chosen .before .before .before .before .before in
-    let opened = headed .before .before .before in
-    let start = opened .before .before .before .before in
-    let pre = start .pre in
-    let head = opened .element-head .ensures in
-    let six = chosen .if1 .taken in
-    let depth = start .args .depth in (
-      block-falls head six depth (pre .1 .1 .found) (pre .0),
-      (
-        (pre .1 .0, block-room head six depth (pre .1 .1 .found)),
-        alternatives-fit
-            (start .args .plain)
-            head
-            six
-            (headed .copy-head .ensures)
-            (read .word .ensures)
-            (counted .copy-count .ensures)
-            depth
-            (pre .1 .1),
-      ),
-    ))
+    let chosen = c .before .before .before .before .before .before .before in
+    let asked = entry t (chosen .before) .pre in
+    let head = opened t (chosen .before) .element-head .ensures in
+    let copied = headed t (chosen .before) .copy-head .ensures in
+    (search (needs, inner), (search (needs, inner), search (alternatives-fit _ head (chosen .if1 .taken) copied))))
     (λ c. search (needs, rooms, inner, elementary))
     (λ c. search (needs, rooms, inner, elementary))
     (λ c.
-    let copied = c .before .before .before .before in
-    let counted = copied .before .before .before .before .before in
+    let counted = c .before .before .before .before .before .before .before .before .before in
     let read = counted .before .before in
     let chosen = read .before in
-    let headed = chosen .before .before .before .before .before in
-    let opened = headed .before .before .before in
-    let start = opened .before .before .before .before in
-    element-block
-    (start .args .plain)
-    (opened .element-head .ensures)
-    (chosen .if1 .taken)
-    (headed .copy-head .ensures)
-    (read .word .ensures)
-    (counted .copy-count .ensures)
-    (start .args .depth)
-    (copied .copy-alternatives .ensures))
+    let head = opened t (chosen .before) .element-head .ensures in
+    let copied = headed t (chosen .before) .copy-head .ensures in
+    search (element-block _ head (chosen .if1 .taken) copied (read .word .ensures) (counted .copy-count .ensures)))
     (λ c κs. search (needs, rooms, inner, elementary))
     (λ c κs.
     let ended = c .before .before in
     let chosen = ended .before in
-    let headed = chosen .before .before .before .before .before in
-    let opened = headed .before .before .before in
-    let start = opened .before .before .before .before in
-    let pre = start .pre .1 in
-    let there = ended .leaf-end .ensures in (
-      pre .0,
-      there .within,
-      leaf-room
-          (start .args .depth)
-          (start .args .plain)
-          (opened .element-head .ensures)
-          (headed .copy-head .ensures)
-          (chosen .if1 .left)
-          there
-          (pre .1),
-    ))
+    let asked = entry t (chosen .before) .pre in
+    let head = opened t (chosen .before) .element-head .ensures in
+    let copied = headed t (chosen .before) .copy-head .ensures in
+    (search needs, search needs, leaf-room _ _ head copied (chosen .if1 .left) (ended .leaf-end .ensures) (asked .1 .1)))
     (λ c. search (needs, rooms, inner, elementary))
     (λ c. search (needs, rooms, inner, elementary))
     (λ c. search (needs, rooms, inner, elementary)))
@@ -283,13 +241,7 @@ pub +copy-alternative+copy-alternatives+copy-element+copy-elements-spec :
     copy-elements-Inv-loop
     copy-elements-μ-loop
     (λ c. search (needs, copying))
-    (λ c κs.
-    let tested = c .before .before in
-    let looped = tested .before in
-    let start = looped .before .before .before .before in (
-      omega arith,
-      (search needs, copying-fits (looped .loop .inv) (grows-element _ (grows-block (start .args .depth))) (tested .loop-test .taken)),
-    ))
+    (λ c κs. (omega arith, (search needs, copying-fits (c .before .before .before .loop .inv) (search growth) (search needs))))
     (λ c. search (needs, copying))
     (λ c. search (needs, copying))
     (λ c. search (needs, copying))
