@@ -174,16 +174,11 @@ pub +copy-alternative+copy-alternatives+copy-element+copy-elements-spec :
     (λ c. search (needs, rooms, inner, alternating))
     (λ c. search (needs, rooms, inner, alternating))
     (λ c.
-    let copied = c .before .before .before .before in
-    let headed = copied .before .before .before .before .before .before .before in
+    let headed = c .before .before .before .before .before .before .before .before .before .before .before in
     let opened = headed .before .before .before in
     let start = opened .before .before .before .before in
-    alternative-copied
-    (start .args .depth)
-    (start .pre .1 .0)
-    (opened .alternative-head .ensures)
-    (headed .copy-alternative-head .ensures)
-    (copied .copy-elements .ensures)))
+    let copied = headed .copy-alternative-head .ensures in
+    search (alternative-copied (start .args .depth) (start .pre .1 .0) (opened .alternative-head .ensures) copied)))
     (λ t. copy-alternatives-lts.spec
     (copy-alternative-below t, copy-alternative.Post)
     (copy-alternatives-at t)
