@@ -20,7 +20,7 @@ use Rattle.hub.specs.Grounds.{rulesOf}
 use Rattle.records.specs.Rules.{placesFrom}
 use Rattle.records.proofs.Laws.Rules.{row-long}
 use Rattle.planned.specs.Layout.{meaning}
-use Rattle.planned.specs.List.{Laid, HasRoom, Located, Movable, ListedIn}
+use Rattle.planned.specs.List.{HasRoom}
 use Rattle.planned.specs.declared.list.Listed.{Listed}
 use Rattle.turns.specs.Turns.{Replaced}
 use Rattle.steps.specs.Corner.{CornerAt}
@@ -37,18 +37,21 @@ use Rattle.turns.specs.declared.state.State.{State}
 use Rattle.turns.specs.declared.turn.Turn.{Turn}
 use Rattle.turns.specs.declared.turn.Turn.the-variants.{On, Declined, Overfull}
 use Rattle.turns.proofs.Laws.Turns.{substitute-spent, substitute-declined}
+use Rattle.turns.proofs.Laws.Midway.{with-laid, with-located, with-listed, with-movable}
 use Rattle.turns.proofs.Laws.Ground.{names-told}
 use Rattle.turns.proofs.Laws.Advance.{midway-same}
 use Rattle.turns.proofs.Laws.Replaced.{settled-corner, blocked-corner, optional-corner, satellite-corner, call-in, target-among}
 use Rattle.turns.proofs.Laws.Replaced.{target-found, target-room, target-spans, target-named, target-unreferring}
 
 -- The member's name and place are looked up.
-pub called-of : {ws : List ℕ} {end : ℕ} {bs names places : List ℕ} {x : Listed} {p : Place} {optional : Bool} → CalledAt ws end bs names places x p optional
-    → {name at : ℕ} → name ≡ getD names (p .target) 0 → at ≡ getD places (p .target) 0 → Called ws end bs x (p .index) name at optional
+pub called-of : {ws : List ℕ} {end : ℕ} {bs names places : List ℕ} {x : Listed} {p : Place} {optional : Bool}
+    → CalledAt ws end bs names places x p optional → {name at : ℕ} → name ≡ getD names (p .target) 0 → at ≡ getD places (p .target) 0
+    → Called ws end bs x (p .index) name at optional
 called-of c e f = rw (e, f) (c .is)
 
-pub stepped-place : {ws : List ℕ} {end : ℕ} {before after : List ℕ} {st : State} {x : Listed} {index at place : ℕ} {optional : Bool} {limits : Limits} {r : Turn}
-    → SteppedTo ws end before after st x index at optional limits r → at ≡ place → SteppedTo ws end before after st x index place optional limits r
+pub stepped-place : {ws : List ℕ} {end : ℕ} {before after : List ℕ} {st : State} {x : Listed} {index at place : ℕ}
+    {optional : Bool} {limits : Limits} {r : Turn} → SteppedTo ws end before after st x index at optional limits r → at ≡ place
+    → SteppedTo ws end before after st x index place optional limits r
 stepped-place s e = rw (← e) s
 
 pub ruleset calling = (called-of, stepped-place)
@@ -62,18 +65,6 @@ stuck-blocked h = record { spent = λ z. absurd (h z); blocked = λ z. refl }
 pub ruleset stucks = (stuck-spent, stuck-blocked)
 
 module _ {ws : List ℕ} {end : ℕ} {bs : List ℕ} {st : State} {x : Listed} (w : Shut (With ws end bs st x)) where
-  pub taken-located : Located bs x
-  taken-located = opened w .located
-
-  pub taken-listed : ListedIn ws end innerDepth bs x
-  taken-listed = opened w .listed
-
-  pub taken-laid : Laid bs (st .l)
-  taken-laid = opened w .ready .laid
-
-  pub taken-movable : Movable (st .l) x
-  taken-movable = opened w .movable
-
   pub taken-room : HasRoom (st .l) 1 (x .ne) (x .no)
   taken-room =
       let r = opened w .ready in
@@ -103,7 +94,10 @@ module _ {ws : List ℕ} {end : ℕ} {names places : List ℕ} {c : Cycle} (b : 
       let n = ground-told .few in
       let s = opened b .standing .rows in
       let p = ap length (sym (opened b .placed) ∙ s .rows .places) in
-      let r = row-long (placesFrom 0 (s .found .trees)) (let m = places-length 0 (s .found .trees) in let k = s .found .count in let j = s .few in omega arith) in
+      let m = places-length 0 (s .found .trees) in
+      let k = s .found .count in
+      let j = s .few in
+      let r = row-long (placesFrom 0 (s .found .trees)) (omega arith) in
       (omega arith, omega arith)
 
   module _ {bs : List ℕ} {x : Listed} {k : Corner} (o : CornerAt names c ws end innerDepth bs x k) {p : Place} where
@@ -117,7 +111,8 @@ module _ {ws : List ℕ} {end : ℕ} {names places : List ℕ} {c : Cycle} (b : 
           names = z .0;
           places = z .1;
           is =
-              called (target-room (opened b) (i .rule) refl) (target-found (opened b) (i .rule) refl) (target-named (opened b) (i .rule) refl refl)
+              called (target-room (opened b) (i .rule) refl) (target-found (opened b) (i .rule) refl)
+              (target-named (opened b) (i .rule) refl refl)
               (λ f. absurd (let y : _≡_ {A = ℕ} 0 1 = cc in omega arith)) (λ f. call-in (opened b) q);
         }
 
@@ -131,7 +126,8 @@ module _ {ws : List ℕ} {end : ℕ} {names places : List ℕ} {c : Cycle} (b : 
           names = z .0;
           places = z .1;
           is =
-              called (target-room (opened b) (i .rule) refl) (target-found (opened b) (i .rule) refl) (target-named (opened b) (i .rule) refl refl)
+              called (target-room (opened b) (i .rule) refl) (target-found (opened b) (i .rule) refl)
+              (target-named (opened b) (i .rule) refl refl)
               (λ f. target-unreferring (opened b) (i .rule) refl (i .member) (q .within .1))
               (λ f. absurd (let y : _≡_ {A = ℕ} 0 1 = cc in omega arith));
         }
@@ -184,7 +180,11 @@ module _ {ws : List ℕ} {end : ℕ} {names places : List ℕ} {c : Cycle} (limi
                 ready = λ next f. absurd (never f);
                 less = λ next f. absurd (never f);
                 is = λ b most start w h.
-                    record { clause = blockedCorner; number = refl; is = substitute-declined (h .run) (blocked-corner b (limitsOf limits) q) v .is };
+                    record {
+                      clause = blockedCorner;
+                      number = refl;
+                      is = substitute-declined (h .run) (blocked-corner b (limitsOf limits) q) v .is;
+                    };
                 long = refl;
               }
 
@@ -217,4 +217,18 @@ module _ {ws : List ℕ} {end : ℕ} {names places : List ℕ} {c : Cycle} (limi
         let q = rw e at o in
         stepped (q .within .0 .rule) λ b a. rw z (satellite-corner b (limitsOf limits) a q)
 
-pub ruleset acting = (taken-located, taken-listed, taken-laid, taken-movable, taken-room, ground-told, ground-few, optional-called, satellite-called, act-settled, act-stuck, act-optional, act-satellite)
+pub ruleset acting = (
+  with-located,
+  with-listed,
+  with-laid,
+  with-movable,
+  taken-room,
+  ground-told,
+  ground-few,
+  optional-called,
+  satellite-called,
+  act-settled,
+  act-stuck,
+  act-optional,
+  act-satellite,
+)

@@ -22,7 +22,7 @@ use Rattle.grammar.specs.Laws.Complete.{alternative-complete, block-complete}
 use Rattle.reference.specs.Substitute.{Planned, decided, overfull, isWithin}
 use Rattle.reference.specs.Plan.{asItIs, asTheyAre}
 use Rattle.planned.specs.Layout.{meaning, settled, stack}
-use Rattle.planned.specs.List.{alternativesIn, elementsIn, optionsIn, Laid, HasRoom, InHand}
+use Rattle.planned.specs.List.{alternativesIn, elementsIn, optionsIn, HasRoom, InHand}
 use Rattle.planned.specs.Moves.{Pushed, Grown}
 use Rattle.splices.specs.Splice.{HandIn}
 use Rattle.planned.specs.Laws.Counts.{elementsAll, optionsAll, elements-all, options-all, alternatives-in, elements-in, options-in}
@@ -41,7 +41,7 @@ use Rattle.turns.specs.declared.state.State.{State}
 use Rattle.turns.specs.declared.turn.Turn.{Turn}
 use Rattle.turns.specs.declared.turn.Turn.the-variants.{On, Declined, Overfull}
 use Rattle.turns.proofs.Laws.Turns.{substitute-over, substitute-more}
-use Rattle.turns.proofs.Laws.Midway.{retold}
+use Rattle.turns.proofs.Laws.Midway.{retold, with-laid}
 
 -- The alternatives that stand at a place are the same, whoever found them.
 same-trees : {ws : List ℕ} {end : ℕ} (as′ bs′ : List Alternative) {at : ℕ} (p q : ℕ)
@@ -54,26 +54,32 @@ same-trees (a ∷ as′) [] p q s t e = absurd (omega arith)
 same-trees {ws} {end} (a ∷ as′) (b ∷ bs′) {at} p q s t e =
     let f = first-spans s in
     let g = first-spans t in
-    let complete = alternative-complete ws end (blockAt ws end innerDepth) (encodeBlock innerDepth) (okBlock innerDepth) (block-complete ws end innerDepth) in
+    let complete =
+    alternative-complete ws end (blockAt ws end innerDepth) (encodeBlock innerDepth) (okBlock innerDepth)
+    (block-complete ws end innerDepth) in
     let x : got a (f .0) ≡ got b (g .0) = sym (complete at a (f .0) (f .1)) ∙ complete at b (g .0) (g .1) in
     let y : a ≡ b = cc in
     let z : f .0 ≡ g .0 = cc in
-    let u : Spans ws end (each (encodeAlternative (encodeBlock innerDepth))) (all (okAlternative (okBlock innerDepth))) (f .0) bs′ q = rw z (g .2) in
+    let u : Spans ws end (each (encodeAlternative (encodeBlock innerDepth))) (all (okAlternative (okBlock innerDepth))) (f .0) bs′ q =
+    rw z (g .2) in
     ap₂ _∷_ y (same-trees as′ bs′ p q (f .2) u (omega arith))
 
-same-remaining : {ws : List ℕ} {end : ℕ} {bs : List ℕ} {st : State} (y z : Ready ws end bs st 0 0 0) → y .remaining .trees ≡ z .remaining .trees
+same-remaining : {ws : List ℕ} {end : ℕ} {bs : List ℕ} {st : State} (y z : Ready ws end bs st 0 0 0)
+    → y .remaining .trees ≡ z .remaining .trees
 same-remaining y z =
-    same-trees (y .remaining .trees) (z .remaining .trees) (y .remaining .next) (z .remaining .next) (y .remaining .spans) (z .remaining .spans)
-    (y .remaining .count ∙ sym (z .remaining .count))
+    same-trees (y .remaining .trees) (z .remaining .trees) (y .remaining .next) (z .remaining .next)
+    (y .remaining .spans) (z .remaining .spans) (y .remaining .count ∙ sym (z .remaining .count))
 
 -- So it does not matter who found them.
 pub midway-same : {ws : List ℕ} {end : ℕ} {bs : List ℕ} {st : State} {t : Task innerDepth} {most : ℕ} {start : List (Planned innerDepth)}
-    {y : Ready ws end bs st 0 0 0} → Midway ws end bs st t most start y → (z : Ready ws end bs st 0 0 0) → Midway ws end bs st t most start z
+    {y : Ready ws end bs st 0 0 0} → Midway ws end bs st t most start y → (z : Ready ws end bs st 0 0 0)
+    → Midway ws end bs st t most start z
 midway-same {ws} {end} {bs} {st} {y = y} m z =
     record { run = retold refl (ap (λ ts. stack ws end innerDepth bs (st .l) ++ asTheyAre ts) (same-remaining y z)) (m .run) }
 
 -- How large the list is with ps in the place of x.
-module _ {ws : List ℕ} {end : ℕ} {bs : List ℕ} (limits : Limits) (st : State) {h : Listed} (w : With ws end bs st h) {z r : Size} (a : SizeAfter (st .all) h z r) where
+module _ {ws : List ℕ} {end : ℕ} {bs : List ℕ} (limits : Limits) (st : State) {h : Listed} (w : With ws end bs st h)
+    {z r : Size} (a : SizeAfter (st .all) h z r) where
   module _ {m : _} (g : GoesTo innerDepth m z) where
     abbrev whole : List (Planned innerDepth)
     whole = settled ws end innerDepth bs (st .l) ++ (g .ps ++ pending ws end bs st (w .ready))
@@ -146,22 +152,26 @@ module _ {ws : List ℕ} {end : ℕ} {bs : List ℕ} (limits : Limits) (st : Sta
       record { alternatives = omega arith; elements = omega arith; options = omega arith }
 
 -- The definition's step is what was decided.
-goes-now : {ws : List ℕ} {end at : ℕ} {bs : List ℕ} {h : Listed} {index : ℕ} {optional : Bool} {z : Size} (t : Task innerDepth) {rule : Rule} {q : ℕ}
-    → (k : Goable ws end innerDepth at bs h index optional z) → (s : RuleSpans ws end bodyDepth at rule q)
+goes-now : {ws : List ℕ} {end at : ℕ} {bs : List ℕ} {h : Listed} {index : ℕ} {optional : Bool} {z : Size}
+    (t : Task innerDepth) {rule : Rule} {q : ℕ} → (k : Goable ws end innerDepth at bs h index optional z)
+    → (s : RuleSpans ws end bodyDepth at rule q)
     → Replaced t (meaning ws end innerDepth bs h) (stepBy innerDepth (meaning ws end innerDepth bs h) index rule optional)
     → Replaced t (meaning ws end innerDepth bs h) (decided (k .goes rule q s .ps))
 goes-now t {rule} {q} k s r = record { is = r .is ∙ ap some (k .goes rule q s .is) }
 
-module _ {ws : List ℕ} {end : ℕ} {before : List ℕ} (limits : Limits) (st : State) {h : Listed} {index at : ℕ} {optional : Bool} {z more : Size}
-    (left : st .budget ≡ 0 → ⊥) (k : Goable ws end innerDepth at before h index optional z) (a : SizeAfter (st .all) h z more) where
-  pub advance-over : {b : Bool} → b ≡ withinLimits limits more → b ≡ false → SteppedTo ws end before before st h index at optional limits Overfull
+module _ {ws : List ℕ} {end : ℕ} {before : List ℕ} (limits : Limits) (st : State) {h : Listed} {index at : ℕ} {optional : Bool}
+    {z more : Size} (left : st .budget ≡ 0 → ⊥) (k : Goable ws end innerDepth at before h index optional z)
+    (a : SizeAfter (st .all) h z more) where
+  pub advance-over : {b : Bool} → b ≡ withinLimits limits more → b ≡ false
+      → SteppedTo ws end before before st h index at optional limits Overfull
   advance-over e f =
       record {
         ready = λ next x. absurd (let y : _≡_ {A = ℕ} 0 1 = cc in omega arith);
         spent = λ next x. absurd (let y : _≡_ {A = ℕ} 0 1 = cc in omega arith);
         is = λ t budget start l w o rule q s r.
             substitute-over (o .run) (goes-now t k s r) left
-            (ap (λ m. isWithin innerDepth m (whole limits st w a (k .goes rule q s))) l ∙ within-is limits st w a (k .goes rule q s) ∙ sym e ∙ f) .is;
+            (ap (λ m. isWithin innerDepth m (whole limits st w a (k .goes rule q s))) l
+            ∙ within-is limits st w a (k .goes rule q s) ∙ sym e ∙ f) .is;
         long = refl;
       }
 
@@ -220,7 +230,8 @@ module _ {ws : List ℕ} {end : ℕ} {before : List ℕ} (limits : Limits) (st :
           spent = λ n x. let y : next ≡ n = cc in rw (← y) (omega arith);
           is = λ t budget start m v o rule q s r y.
               let within : isWithin innerDepth (t .limits) (whole limits st v a (k .goes rule q s)) ≡ true =
-              ap (λ j. isWithin innerDepth j (whole limits st v a (k .goes rule q s))) m ∙ within-is limits st v a (k .goes rule q s) ∙ sym e ∙ f in
+              ap (λ j. isWithin innerDepth j (whole limits st v a (k .goes rule q s))) m
+              ∙ within-is limits st v a (k .goes rule q s) ∙ sym e ∙ f in
               let g = pushed rule q s in
               let trees : v .ready .remaining .trees ≡ y .remaining .trees =
               same-trees (v .ready .remaining .trees) (y .remaining .trees) (v .ready .remaining .next) (y .remaining .next)
@@ -228,7 +239,8 @@ module _ {ws : List ℕ} {end : ℕ} {before : List ℕ} (limits : Limits) (st :
               record {
                 run =
                     retold (sym (g .settledSame))
-                    (sym (append-assoc (k .goes rule q s .ps) (stack ws end innerDepth before (st .l)) (asTheyAre (v .ready .remaining .trees)))
+                    (sym (append-assoc (k .goes rule q s .ps) (stack ws end innerDepth before (st .l))
+                    (asTheyAre (v .ready .remaining .trees)))
                     ∙ ap₂ (λ i j. i ++ asTheyAre j) (sym (g .stackMore)) trees)
                     (substitute-more (o .run) (goes-now t k s r) left within);
               };
@@ -238,9 +250,6 @@ module _ {ws : List ℕ} {end : ℕ} {before : List ℕ} (limits : Limits) (st :
 module _ {ws : List ℕ} {end : ℕ} {bs : List ℕ} {st : State} {h : Listed} (w : Shut (With ws end bs st h)) where
   pub hand-in : {index : ℕ} → InHand h → index < h .ne → HandIn ws end innerDepth h index bs
   hand-in i l = record { below = l; inHand = i; located = opened w .located; listed = opened w .listed }
-
-  pub with-laid : Laid bs (st .l)
-  with-laid = opened w .ready .laid
 
   pub steps-low : st .steps + st .budget < 2 ^ 64
   steps-low = opened w .ready .counted
@@ -262,8 +271,8 @@ module _ {ws : List ℕ} {end : ℕ} {bs : List ℕ} {st : State} {h : Listed} (
         options = omega arith;
       }
 
-  pub advance-room : (limits : Limits) {z r : Size} → SizeAfter (st .all) h z r → {b : Bool} → b ≡ withinLimits limits r → b ≡ true → LimitsFit limits
-      → HasRoom (st .l) (z .a) (z .e) (z .o)
+  pub advance-room : (limits : Limits) {z r : Size} → SizeAfter (st .all) h z r → {b : Bool} → b ≡ withinLimits limits r → b ≡ true
+      → LimitsFit limits → HasRoom (st .l) (z .a) (z .e) (z .o)
   advance-room limits a e f fit = room-for limits st (opened w) a e f fit
 
 pub ruleset advancing = (hand-in, with-laid, can-replace, advance-room, advance-over, advance-on)

@@ -18,7 +18,7 @@ use Rattle.reference.specs.Substitute.{Planned}
 use Rattle.reference.specs.Plan.{asItIs, asTheyAre}
 use Rattle.ends.specs.Ends.{skipping}
 use Rattle.planned.specs.Layout.{meaning, settled, stack}
-use Rattle.planned.specs.List.{alternativesIn, elementsIn, optionsIn, Laid, HasTop, HasRoom, Located, Movable, InHand, InList}
+use Rattle.planned.specs.List.{alternativesIn, elementsIn, optionsIn, Laid, HasTop, HasRoom, Located, Movable, InHand, InList, ListedIn}
 use Rattle.planned.specs.Moves.{Took, Settled, IsDrained, Grown}
 use Rattle.splices.specs.Moves.{Brought}
 use Rattle.planned.specs.Laws.Room.{hand-movable}
@@ -34,9 +34,24 @@ use Rattle.turns.specs.declared.state.Taken.{Taken}
 use Rattle.turns.proofs.Laws.Turns.{settle-one}
 
 -- The same list in other words.
-pub retold : {t : Task innerDepth} {budget : ℕ} {start : List (Planned innerDepth)} {left made : ℕ} {out out′ ps ps′ : List (Planned innerDepth)}
-    → out ≡ out′ → ps ≡ ps′ → Substituting t budget start left made out ps → Substituting t budget start left made out′ ps′
+pub retold : {t : Task innerDepth} {budget : ℕ} {start : List (Planned innerDepth)} {left made : ℕ}
+    {out out′ ps ps′ : List (Planned innerDepth)} → out ≡ out′ → ps ≡ ps′
+    → Substituting t budget start left made out ps → Substituting t budget start left made out′ ps′
 retold e f s = rw (← e, ← f) s
+
+-- What is known of an alternative that was taken, part by part.
+module _ {ws : List ℕ} {end : ℕ} {bs : List ℕ} {st : State} {x : Listed} (w : Shut (With ws end bs st x)) where
+  pub with-laid : Laid bs (st .l)
+  with-laid = opened w .ready .laid
+
+  pub with-located : Located bs x
+  with-located = opened w .located
+
+  pub with-listed : ListedIn ws end innerDepth bs x
+  with-listed = opened w .listed
+
+  pub with-movable : Movable (st .l) x
+  with-movable = opened w .movable
 
 abbrev withList : State → Sizes → State
 withList st l = record { l = l; left = st .left; at = st .at; all = st .all; budget = st .budget; steps = st .steps }

@@ -11,7 +11,7 @@ use Rattle.grammar.specs.Found.{RuleSpans, FoundRule}
 use Rattle.reference.specs.Substitute.{declined, clauseNumber, budget}
 use Rattle.reference.specs.Plan.{asTheyAre}
 use Rattle.planned.specs.Layout.{meaning, settled, stack}
-use Rattle.planned.specs.List.{Laid, Located, Movable, InHand, SameList, ListedIn}
+use Rattle.planned.specs.List.{Located, SameList}
 use Rattle.planned.specs.Laws.Same.{same-located, same-meaning, same-listed, same-ends}
 use Rattle.planned.specs.Laws.Items.{call-at}
 use Rattle.planned.specs.declared.list.Listed.{Listed}
@@ -28,7 +28,7 @@ use Rattle.turns.specs.declared.state.State.{State}
 use Rattle.turns.specs.declared.turn.Turn.{Turn}
 use Rattle.turns.specs.declared.turn.Turn.the-variants.{On, Declined, Overfull}
 use Rattle.turns.proofs.Laws.Turns.{substitute-spent, substitute-declined}
-use Rattle.turns.proofs.Laws.Midway.{retold}
+use Rattle.turns.proofs.Laws.Midway.{retold, with-laid, with-located, with-listed, with-movable}
 
 -- What stands in the list is the same while names are marked.
 module _ {ws : List ℕ} {end : ℕ} {before after : List ℕ} {st : State} {h : Listed} (s : SameList before after) where
@@ -69,7 +69,8 @@ module _ {ws : List ℕ} {end : ℕ} {before after : List ℕ} {st : State} {h :
       }
 
 -- The call of a rule.
-module _ {ws : List ℕ} {end : ℕ} {bs : List ℕ} {x : Listed} {index name at : ℕ} {optional : Bool} (c : Called ws end bs x index name at optional) where
+module _ {ws : List ℕ} {end : ℕ} {bs : List ℕ} {x : Listed} {index name at : ℕ} {optional : Bool}
+    (c : Called ws end bs x index name at optional) where
   pub called-room : at + 4 ≤ end
   called-room = go c
     where
@@ -128,7 +129,8 @@ module _ {ws : List ℕ} {end : ℕ} {before mid : List ℕ} {st : State} {h : L
       pub decided-small : SmallSize z
       decided-small = d .small z e
 
-      pub decided-goable : {name : ℕ} → Called ws end before h index name at optional → index < h .ne → Goable ws end innerDepth at mid h index optional z
+      pub decided-goable : {name : ℕ} → Called ws end before h index name at optional → index < h .ne
+          → Goable ws end innerDepth at mid h index optional z
       decided-goable c l =
           let same = same-meaning (d .list) (opened w .located) ws end innerDepth in
           let f = rw e at d in
@@ -153,14 +155,12 @@ module _ {ws : List ℕ} {end : ℕ} {before mid : List ℕ} {st : State} {h : L
           long = v .long ∙ d .list .long;
         }
 
-pub with-decide : {ws : List ℕ} {end : ℕ} {bs : List ℕ} {st : State} {h : Listed} → Shut (With ws end bs st h) → ListedIn ws end innerDepth bs h
-with-decide w = opened w .listed
-
-pub ruleset stepping = (called-room, called-found, called-named, called-unreferring, stepped-declined, decided-with, decided-small, decided-goable, stepped-on, with-decide)
+pub ruleset stepping =
+    (called-room, called-found, called-named, called-unreferring, stepped-declined, decided-with, decided-small, stepped-on, with-listed)
 
 -- The step beyond the budget.
-pub stepped-spent : (ws : List ℕ) (end : ℕ) (bs : List ℕ) (st : State) (x : Listed) (index at : ℕ) (optional : Bool) (limits : Limits) → st .budget ≡ 0
-    → SteppedTo ws end bs bs st x index at optional limits (Declined 4)
+pub stepped-spent : (ws : List ℕ) (end : ℕ) (bs : List ℕ) (st : State) (x : Listed) (index at : ℕ) (optional : Bool) (limits : Limits)
+    → st .budget ≡ 0 → SteppedTo ws end bs bs st x index at optional limits (Declined 4)
 unfolding clauseNumber
 stepped-spent ws end bs st x index at optional limits z =
     record {
@@ -181,13 +181,14 @@ module _ {ws : List ℕ} {end : ℕ} {before mid : List ℕ} {st : State} {x h :
   pub held-located : Shut (With ws end before st x) → Located mid h
   held-located w = k .is ws end .with (opened w) .located
 
-  pub held-called : {index name at : ℕ} (optional : Bool) → Called ws end before x index name at optional → Called ws end mid h index name at optional
+  pub held-called : {index name at : ℕ} (optional : Bool) → Called ws end before x index name at optional
+      → Called ws end mid h index name at optional
   held-called {index} {name} {at} optional c =
       called (called-room c) (called-found c) (called-named c) (called-unreferring c) λ o.
       subst (λ p. CallIn (p .elements) index) (sym (k .is ws end .meant)) (called-in c o)
 
-  pub stepped-held : {after : List ℕ} {index at : ℕ} (optional : Bool) (limits : Limits) {r : Turn} → SteppedTo ws end mid after st h index at optional limits r
-      → SteppedTo ws end before after st x index at optional limits r
+  pub stepped-held : {after : List ℕ} {index at : ℕ} (optional : Bool) (limits : Limits) {r : Turn}
+      → SteppedTo ws end mid after st h index at optional limits r → SteppedTo ws end before after st x index at optional limits r
   stepped-held {index = index} optional limits v =
       let j = k .is ws end in
       record {
@@ -199,14 +200,5 @@ module _ {ws : List ℕ} {end : ℕ} {before mid : List ℕ} {st : State} {x h :
         long = v .long ∙ k .long;
       }
 
-module _ {ws : List ℕ} {end : ℕ} {bs : List ℕ} {st : State} {x : Listed} (w : Shut (With ws end bs st x)) where
-  pub with-laid : Laid bs (st .l)
-  with-laid = opened w .ready .laid
-
-  pub with-located : Located bs x
-  with-located = opened w .located
-
-  pub with-movable : Movable (st .l) x
-  with-movable = opened w .movable
-
-pub ruleset held = (stepped-spent, held-index, held-shut, held-located, held-called, stepped-held, with-laid, with-located, with-movable)
+pub ruleset held =
+    (stepped-spent, held-index, held-shut, held-located, held-called, stepped-held, with-laid, with-located, with-movable)

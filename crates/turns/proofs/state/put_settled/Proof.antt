@@ -5,4 +5,9 @@ use Rattle.turns.proofs.state.put_settled.Statement.{statement}
 use Rattle.turns.proofs.state.put_settled.Tie as tie
 
 pub put-settled-spec : {M : Type 1} → statement M
-put-settled-spec = tie.close (tie.spec (λ c κs. search (needs, put-settled)) (λ c. search (needs, put-settled)) (λ c. search (needs, put-settled)))
+put-settled-spec =
+    tie.close
+    (tie.spec
+    (λ c κs. search (needs, put-settled))
+    (λ c. search (needs, put-settled))
+    (λ c. search (needs, put-settled)))

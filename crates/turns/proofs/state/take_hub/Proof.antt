@@ -6,4 +6,10 @@ use Rattle.turns.proofs.state.take_hub.Tie as tie
 
 pub take-hub-spec : {M : Type 1} → statement M
 take-hub-spec =
-    tie.close (tie.spec (λ c κs. search (needs, taking)) (λ c κs. search (needs, taking)) (λ c. search (needs, taking)) (λ c. search (needs, taking)) (λ c. search (needs, taking)))
+    tie.close
+    (tie.spec
+    (λ c κs. search (needs, taking))
+    (λ c κs. search (needs, taking))
+    (λ c. search (needs, taking))
+    (λ c. search (needs, taking))
+    (λ c. search (needs, taking)))

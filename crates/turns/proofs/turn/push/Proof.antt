@@ -7,4 +7,10 @@ use Rattle.turns.proofs.turn.push.Tie as tie
 pub push-spec : {M : Type 1} → statement M
 push-spec =
     tie.close
-    (tie.spec (λ c κs. search (needs, pushing)) (λ c. search (needs, pushing)) (λ c. search (needs, pushing)) (λ c κs. search (needs, pushing)) (λ c. search (needs, pushing)) (λ c. search (needs, pushing)))
+    (tie.spec
+    (λ c κs. search (needs, pushing))
+    (λ c. search (needs, pushing))
+    (λ c. search (needs, pushing))
+    (λ c κs. search (needs, pushing))
+    (λ c. search (needs, pushing))
+    (λ c. search (needs, pushing)))
