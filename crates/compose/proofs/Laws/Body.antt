@@ -36,10 +36,10 @@ module _ {xs b m : List ℕ} {p q : Pen} {l : Sizes} (low : composeAt ≤ p .to)
   pub moved-in : {ws : List ℕ} {end : ℕ} → AllIn ws end innerDepth b l → AllIn ws end innerDepth m l
   moved-in = front-all-in (front-wrote low (h .wrote)) laid
 
-module _ (ws : List ℕ) (end at : ℕ) {b m : List ℕ} {l : Sizes} {n : ℕ} {p inside : Pen} (low : composeAt ≤ p .to) (laid : Laid b l)
-    (count : n ≡ l .outa) (h : Moved (ruleHead ws end at n) b m p inside) where
-  head : (t : List ℕ) → Drawn (ruleHead ws end at (l .outa)) [] (countersOf (p .counters)) b m t t p inside
-  head t =
+module _ {ws : List ℕ} {end at : ℕ} {b m t : List ℕ} {l : Sizes} {n : ℕ} {p inside : Pen} (f : HubFits ws end b l p at t) (laid : Laid b l)
+    (low : composeAt ≤ p .to) (h : Moved (ruleHead ws end at n) b m p inside) (count : n ≡ l .outa) where
+  head : Drawn (ruleHead ws end at (l .outa)) [] (countersOf (p .counters)) b m t t p inside
+  head =
       subst (λ k. Drawn (ruleHead ws end at k) [] (countersOf (p .counters)) b m t t p inside) count
       (drawn-words t (h .wrote) (h .to) (h .trail) (h .counters))
 
@@ -50,42 +50,43 @@ module _ (ws : List ℕ) (end at : ℕ) {b m : List ℕ} {l : Sizes} {n : ℕ} {
       (front-settled (front-wrote low (h .wrote)) laid ws end innerDepth)
       ∙ ap (drawnList ws end innerDepth b l) (h .counters)
 
-  module _ {t : List ℕ} (f : HubFits ws end b l p at t) where
-    behind : Space (bodyWords ws end b l p) (bodyEntries ws end b l p ++ closing (getD ws at 0)) (newBody ws end b l p .counters) m t inside
-    behind = space-behind refl refl (head t) (f .fits)
+  behind : Space (bodyWords ws end b l p) (bodyEntries ws end b l p ++ closing (getD ws at 0)) (newBody ws end b l p .counters) m t inside
+  behind = space-behind refl refl head (f .fits)
 
-    pub body-fits : Fits (each (encodeAlternative (encodeBlock innerDepth)))
-        (drawnList ws end innerDepth m l (countersOf (inside .counters))) m t inside
-    body-fits =
-        subst (λ g. Fits (each (encodeAlternative (encodeBlock innerDepth))) g m t inside) (sym same-body)
-        (space-front [] (closing (getD ws at 0)) (sym (append-nil (bodyWords ws end b l p))) refl
-        (grown-same (newBody ws end b l p .counters)) behind)
+  pub body-fits : Fits (each (encodeAlternative (encodeBlock innerDepth)))
+      (drawnList ws end innerDepth m l (countersOf (inside .counters))) m t inside
+  body-fits =
+      subst (λ g. Fits (each (encodeAlternative (encodeBlock innerDepth))) g m t inside) (sym same-body)
+      (space-front [] (closing (getD ws at 0)) (sym (append-nil (bodyWords ws end b l p))) refl
+      (grown-same (newBody ws end b l p .counters)) behind)
 
-    module _ {a t′ : List ℕ} {q : Pen}
-        (d : Drew (each (encodeAlternative (encodeBlock innerDepth))) (drawnList ws end innerDepth m l (countersOf (inside .counters)))
-        m a t t′ inside q) where
-      drew : Drawn (bodyWords ws end b l p) (bodyEntries ws end b l p) (newBody ws end b l p .counters) m a t t′ inside q
-      drew = subst (λ g. Drew (each (encodeAlternative (encodeBlock innerDepth))) g m a t t′ inside q) same-body d
+  module _ {a t′ : List ℕ} {q : Pen}
+      (d : Drew (each (encodeAlternative (encodeBlock innerDepth))) (drawnList ws end innerDepth m l (countersOf (inside .counters)))
+      m a t t′ inside q) where
+    drew : Drawn (bodyWords ws end b l p) (bodyEntries ws end b l p) (newBody ws end b l p .counters) m a t t′ inside q
+    drew = subst (λ g. Drew (each (encodeAlternative (encodeBlock innerDepth))) g m a t t′ inside q) same-body d
 
-      pub close-room : 4 * (q .trail + 4) ≤ length t′
-      close-room =
-          let e = behind .entries in
-          let n = length-append (bodyEntries ws end b l p) (closing (getD ws at 0)) in
-          let g = drew .trail in
-          let k = drew .told .long in
-          omega arith
+    pub close-room : 4 * (q .trail + 4) ≤ length t′
+    close-room =
+        let e = behind .entries in
+        let n = length-append (bodyEntries ws end b l p) (closing (getD ws at 0)) in
+        let g = drew .trail in
+        let k = drew .told .long in
+        omega arith
 
-      pub hub-drawn : {t″ : List ℕ} {r : Pen} {id : ℕ} → id ≡ getD ws at 0 → Closed id t′ t″ q r → HubDrawn ws end b l p at a t t″ r
-      hub-drawn {t″} {r} {id} e c =
-          record {
-            drawn =
-                drawn-then refl refl (head t)
-                (drawn-then (sym (append-nil (bodyWords ws end b l p))) refl drew
-                (record {
-                  wrote = wrote-nothing a (q .to);
-                  told = subst (λ i. Wrote t′ t″ (q .trail) (closing i)) e (c .told);
-                  to = let z = c .to in omega arith;
-                  trail = c .trail;
-                  counters = c .counters ∙ drew .counters;
-                }));
-          }
+    pub hub-drawn : {t″ : List ℕ} {r : Pen} {id : ℕ} → id ≡ getD ws at 0 → Closed id t′ t″ q r → HubDrawn ws end b l p at a t t″ r
+    hub-drawn {t″} {r} {id} e c =
+        record {
+          drawn =
+              drawn-then refl refl head
+              (drawn-then (sym (append-nil (bodyWords ws end b l p))) refl drew
+              (record {
+                wrote = wrote-nothing a (q .to);
+                told = subst (λ i. Wrote t′ t″ (q .trail) (closing i)) e (c .told);
+                to = let z = c .to in omega arith;
+                trail = c .trail;
+                counters = c .counters ∙ drew .counters;
+              }));
+        }
+
+pub ruleset bodies = (moved-laid, moved-in, body-fits, close-room, hub-drawn)
