@@ -45,8 +45,8 @@ same-rules {ws} {end} s t =
 preserved-length : (bs : List ℕ) (end to : ℕ) → Room bs to → end ≤ to → length (preservedAt (words bs) end to) ≡ to - end
 preserved-length bs end to r h = simp (length-take, length-drop) (let t = r .trailer in omega (arith, length-words bs))
 
-module _ {bs : List ℕ} {end to : ℕ} {rules : Rules} {p : Plan} {work trail : List ℕ} {pen : Pen} (room : Room bs to) (h : end ≤ to)
-    (x : Applies (words bs) end to rules p work trail pen) where
+module _ {bs : List ℕ} {end to : ℕ} {rules : Rules} {p : Plan} {work trail : List ℕ} {pen : Pen}
+    (x : Applies (words bs) end to rules p work trail pen) (room : Room bs to) (h : end ≤ to) where
   sheet-parts : encode (sheetAfter (words bs) end to (after x))
       ≡ encodeRules (after x .node)
       ++ (preservedAt (words bs) end to
@@ -170,7 +170,9 @@ pub composed : {bs : List ℕ} {end to : ℕ} {rules : Rules} {p : Plan} {work t
     (record { pen = last; rules = w .rules; end = w .pen .to - composeAt })
 composed room h start empty g m =
     record {
-      drawn = λ x. made-drawn room h x start empty g m;
-      rows = λ x. made-rows room h x start empty g m;
-      ends = λ x. made-ends room h x start empty g m;
+      drawn = λ x. made-drawn x room h start empty g m;
+      rows = λ x. made-rows x room h start empty g m;
+      ends = λ x. made-ends x room h start empty g m;
     }
+
+pub ruleset composings = (room-front, compose-open, compose-fits, behind-low, behind-long, behind-room, composed)

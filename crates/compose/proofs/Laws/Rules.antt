@@ -4,7 +4,6 @@ use mathlib.Core.Path.{_≡_, refl, sym, ap, _∙_, subst}
 use mathlib.Core.List.{List, [], _∷_, _++_, append-nil}
 use native.Mathlib.Omega.{arith}
 use lib.ListN.{length, getD, length-append}
-use Rattle.grammar.specs.Numbers.{ruleLimit}
 use Rattle.grammar.specs.Tree.{Rule, Block, innerDepth, bodyDepth, withRuleBody}
 use Rattle.grammar.specs.Encode.{encodeAlternative, encodeRule, encodeRules, encodeBlock}
 use Rattle.grammar.specs.Lists.{each}
@@ -18,7 +17,7 @@ use Rattle.planned.specs.Laws.Runs.{run-count}
 use Rattle.planned.specs.declared.list.Sizes.{Sizes}
 use Rattle.records.specs.declared.rules.Rules.{Rules}
 use Rattle.analysis.specs.Facts.{Standing, Among}
-use Rattle.analysis.proofs.Laws.Standing.{rule-of, rule-spans, id-at, name-at}
+use Rattle.analysis.proofs.Laws.Standing.{place-room, rule-of, rule-spans, id-at, name-at}
 use Rattle.plan.specs.declared.plan.Plan.{Plan}
 use Rattle.writing.specs.Taken.{countersOf}
 use Rattle.copies.specs.declared.pen.Pen.{Pen}
@@ -76,18 +75,10 @@ module _ (ws : List ℕ) (end : ℕ) (rules : Rules) (p : Plan) (work trail : Li
         → q .to ≡ a .pen .to + length (encodeRules (newHub ws end rules p work a (x .rule) ∷ []))
     moved s x = rw (hub-encoded s x) (d .drawn .to)
 
-    pub hub-room : p .hub < rules .n → Standing ws end rules → NewHubFits ws end rules p work trail a
-        → a .pen .to + (q .to - a .pen .to) ≤ composeEnd
-    hub-room l s f =
-        let x = rule-of (s .rows) (p .hub) l in
-        let m = moved s x in
-        let w = f .words s x in
-        omega arith
-
-    pub hub-added : a .rules .n < ruleLimit → {id name : ℕ} → id ≡ getD (rules .ids) (p .hub) 0 → name ≡ getD (rules .names) (p .hub) 0
-        → {b : Draft} → RowAdded id name (q .to - a .pen .to) a b
+    pub hub-added : Standing ws end rules → p .hub < rules .n → a .rules .n ≤ p .hub → {id name : ℕ} → id ≡ getD (rules .ids) (p .hub) 0
+        → name ≡ getD (rules .names) (p .hub) 0 → {b : Draft} → RowAdded id name (q .to - a .pen .to) a b
         → NewHubAdded ws end rules p work trail a work′ trail′ (record { rules = b .rules; pen = q })
-    hub-added low {id} {name} i n {b} r =
+    hub-added s₀ l n₀ {id} {name} i n {b} r =
         record {
           is = λ s x.
               let m = moved s x in
@@ -98,15 +89,45 @@ module _ (ws : List ℕ) (end : ℕ) (rules : Rules) (p : Plan) (work trail : Li
                 drawn = rw (hub-encoded s x, hub-id s x) (d .drawn);
                 rows = λ fs g.
                     let f =
-                    row-added (newHub ws end rules p work a (x .rule)) r (i ∙ id-at (s .rows) x) (n ∙ name-at (s .rows) x) z low fs g in
+                    row-added (newHub ws end rules p work a (x .rule)) r (i ∙ id-at (s .rows) x) (n ∙ name-at (s .rows) x) z
+                    (let k = s₀ .rows .few in omega arith) fs g in
                     record { rows = f .rows; to = let t = f .to in let u = r .to in omega arith };
               };
           few = let c = r .rows .count in omega arith;
         }
 
+pub hub-room : {ws : List ℕ} {end : ℕ} {rules : Rules} {p : Plan} {work trail work′ trail′ : List ℕ} {a : Draft} {at : ℕ} {q : Pen}
+    → NewHubFits ws end rules p work trail a → Standing ws end rules → p .hub < rules .n
+    → HubDrawn ws end work (p .l) (a .pen) at work′ trail trail′ q → at ≡ getD (rules .places) (p .hub) 0
+    → a .pen .to + (q .to - a .pen .to) ≤ composeEnd
+hub-room {ws} {end} {rules} {p} {work} {trail} {a = a} {at = at} f s l d e =
+    let x = rule-of (s .rows) (p .hub) l in
+    let m = moved ws end rules p work trail a at e d s x in
+    let w = f .words s x in
+    omega arith
+
+-- The work area is open behind what was added.
+pub front-open : {ws : List ℕ} {end : ℕ} {rules : Rules} {row : List ℕ} {from until : ℕ} {work work′ : List ℕ} {a b : Draft}
+    → RulesAdded ws end rules row from until work work′ a b → Open a work → Standing ws end rules → Open b work′
+front-open f o s =
+    let g = f .is s in
+    record {
+      low = let l = o .low in let t = g .to in omega arith;
+      long = let l = o .long in let t = g .wrote .long in omega arith;
+    }
+
+pub last-open : {ws : List ℕ} {end : ℕ} {rules : Rules} {p : Plan} {work trail work′ trail′ : List ℕ} {a b : Draft}
+    → NewHubAdded ws end rules p work trail a work′ trail′ b → Open a work → Standing ws end rules → p .hub < rules .n → Open b work′
+last-open {p = p} h o s l =
+    let g = h .is s (rule-of (s .rows) (p .hub) l) .drawn in
+    record {
+      low = let l = o .low in let t = g .to in omega arith;
+      long = let l = o .long in let t = g .wrote .long in omega arith;
+    }
+
 -- All: the rules in front of the hub, the hub, and those behind it.
-module _ (ws : List ℕ) (end : ℕ) (rules : Rules) (p : Plan) (work trail : List ℕ) (d : Draft) (inside : p .hub < rules .n)
-    (ready : Open d work) (laid : Laid work (p .l)) (fit : NewRulesFit ws end rules p work trail d) where
+module _ {ws : List ℕ} {end : ℕ} {rules : Rules} {p : Plan} {work trail : List ℕ} {d : Draft}
+    (fit : NewRulesFit ws end rules p work trail d) (inside : p .hub < rules .n) (ready : Open d work) (laid : Laid work (p .l)) where
   abbrev row : List ℕ
   row = p .low ∷ p .high ∷ []
 
@@ -150,13 +171,6 @@ module _ (ws : List ℕ) (end : ℕ) (rules : Rules) (p : Plan) (work trail : Li
       added = f .is s
 
       -- The list is as it was.
-      pub front-open : Open b work₁
-      front-open =
-          record {
-            low = let l = ready .low in let t = added .to in omega arith;
-            long = let l = ready .long in let t = added .wrote .long in omega arith;
-          }
-
       pub behind-laid : Laid work₁ (p .l)
       behind-laid = front-laid (front-wrote (ready .low) (added .wrote)) laid
 
@@ -198,18 +212,6 @@ module _ (ws : List ℕ) (end : ℕ) (rules : Rules) (p : Plan) (work trail : Li
             (g .counters) work₁ work₂ trail trail₂ b c)
             (same-body s) (h .is s x)
 
-      pub last-open : Standing ws end rules → Open c work₂
-      last-open s =
-          let g = drafted s (hub s) .drawn in
-          let o = front-open s in
-          record {
-            low = let l = o .low in let t = g .to in omega arith;
-            long = let l = o .long in let t = g .wrote .long in omega arith;
-          }
-
-      pub last-few : c .rules .n ≤ p .hub + 1
-      last-few = let n = h .few in let m = f .few in omega arith
-
       pub last-fits : RulesFit ws end rules row (p .hub + 1) (rules .n) c
       last-fits =
           record {
@@ -231,3 +233,7 @@ module _ (ws : List ℕ) (end : ℕ) (rules : Rules) (p : Plan) (work trail : Li
                 (drafted-then (sym (append-nil (hubEntries ws end rules p work d))) k
                 (subst (λ m. Drafted (ls s) [] m work₂ work₃ trail₂ trail₂ c e) (k .drawn .counters) (added-drafted trail₂ (l .is s))));
           }
+
+pub ruleset hubs = (place-room, hub-fits, hub-room, hub-added)
+
+pub ruleset fronts = (front-fits, front-open, behind-laid, behind-in, hub-left)
