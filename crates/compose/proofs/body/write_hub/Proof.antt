@@ -19,9 +19,9 @@ write-hub-spec =
     (λ c κs. search needs)
     (λ c κs.
     let asked = entry c .pre in
-    ((search needs, search needs), ((search (needs, bodies), search (needs, bodies)), search (needs, bodies))))
+    ((search needs, search needs), ((search bodies, search bodies), search bodies)))
     (λ c κs. let asked = entry (planned c) .pre in search needs)
-    (λ c κs. let asked = entry (planned (c .before)) .pre in search (needs, bodies))
+    (λ c κs. let asked = entry (planned (c .before)) .pre in search bodies)
     (λ c. search needs)
     (λ c. search needs)
-    (λ c. let asked = entry (planned (c .before .before .before .before)) .pre in search (needs, bodies)))
+    (λ c. let asked = entry (planned (c .before .before .before .before)) .pre in search bodies))

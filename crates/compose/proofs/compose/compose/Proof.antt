@@ -18,13 +18,13 @@ compose-spec =
     (λ c κs. search needs)
     (λ c κs.
     let asked = entry c .pre in (
-      (search (needs, composings), search needs, search needs),
-      ((search (needs, composings), search needs), ((search needs, search needs), search (needs, composings))),
+      (search composings, search needs, search needs),
+      ((search composings, search needs), ((search needs, search needs), search composings)),
     ))
     (λ c κs.
     let asked = entry (ruled c .before) .pre in
-    ((search needs, search needs, search (needs, composings), search (needs, composings)), search (needs, composings)))
-    (λ c. let asked = entry (ruled (c .before .before .before .before) .before) .pre in search (needs, composings))
+    ((search needs, search needs, search composings, search composings), search composings))
+    (λ c. let asked = entry (ruled (c .before .before .before .before) .before) .pre in search composings)
     (λ c. search needs)
     (λ c. search needs)
-    (λ c. let asked = entry (ruled (c .before .before .before .before) .before) .pre in search (needs, composings)))
+    (λ c. let asked = entry (ruled (c .before .before .before .before) .before) .pre in search composings))

@@ -18,16 +18,16 @@ add-hub-spec =
     (λ c. search needs)
     (λ c. search needs)
     (λ c κs. search needs)
-    (λ c κs. search (needs, hubs))
+    (λ c κs. search hubs)
     (λ c. search needs)
     (λ c. search needs)
     (λ c. search needs)
     (λ c. search needs)
     (λ c. search needs)
-    (λ c κs. let asked = entry c .pre in (search needs, search needs, search (needs, hubs)))
+    (λ c κs. let asked = entry c .pre in (search needs, search needs, search hubs))
     (λ c. search needs)
     (λ c. search needs)
     (λ c.
     let asked = entry (c .before .before) .pre in
     let place = placed (c .before .before) .index .ensures in
-    search (needs, hubs)))
+    search hubs))

@@ -22,12 +22,12 @@ compose-rules-spec =
     (λ c. search needs)
     (λ c κs.
     let asked = entry c .pre in
-    ((search needs, search needs, search needs, search needs), (search needs, search needs, search (needs, fronts))))
+    ((search needs, search needs, search needs, search needs), (search needs, search needs, search fronts)))
     (λ c κs.
     let asked = entry (copied c .before) .pre in
     let front = copied c .copy-rules .ensures in (
       search needs,
-      ((search (needs, fronts), search needs), ((search (needs, fronts), search (needs, fronts)), search (needs, fronts))),
+      ((search fronts, search needs), ((search fronts, search fronts), search fronts)),
     ))
     (λ c. let asked = entry (copied (added c .before) .before) .pre in search needs)
     (λ c κs.
