@@ -7,6 +7,8 @@ use native.Mathlib.Omega.{arith}
 use lib.ListN.{length, getD, take, drop}
 use lib.Dec.{leb}
 use borrow.Author.Tests.{leb-true}
+use mir.Syntax.{w64}
+use mir.Val.{Fits}
 use Rattle.grammar.specs.Numbers.{mostWords, trailerWords, counterPastEnd, resultTooLong, resultBytes, trailBytes, workBytes, ruleLimit}
 use Rattle.grammar.specs.Tree.{Rule, Sheet, innerDepth}
 use Rattle.grammar.specs.Words.{words}
@@ -24,16 +26,21 @@ use Rattle.writing.specs.declared.counters.Counters.{Counters}
 use Rattle.words.specs.Room.{Room}
 use Rattle.records.specs.declared.rules.Rules.{Rules}
 use Rattle.analysis.specs.Facts.{Standing}
+use Rattle.planned.specs.Layout.{settled}
 use Rattle.planned.specs.List.{Laid, AllIn}
 use Rattle.heads.specs.Front.{composeAt}
 use Rattle.copies.specs.declared.pen.Pen.{Pen}
 use Rattle.plan.specs.declared.plan.Plan.{Plan}
 use Rattle.compose.specs.Compose.{Applies, ComposedAs, kindAt, preservedAt, sheetAfter, after}
 use Rattle.compose.specs.declared.compose.Composed.{Composed}
+use Rattle.sizes.specs.Sized.{Measured}
+use Rattle.sizes.specs.declared.sums.Measure.{Measure}
 use Rattle.apply.specs.Held.{Held}
+use Rattle.apply.specs.Judged.{Judged}
 use Rattle.apply.specs.Laws.Held.{encode-long, held-kind, held-preserved, held-standing}
 use Rattle.apply.specs.Applied.{Applicable, afterOf, Done, AppliedOf, WordsAfter, EntriesAfter, RefusedBy}
 use Rattle.apply.specs.declared.apply.Applied.{Applied}
+use Rattle.apply.proofs.Laws.Sizes.{refused-by}
 
 entries-long : (es : List Entry) → length (each encodeEntry es) ≡ entryWords * length es
 unfolding encodeEntry
@@ -115,7 +122,8 @@ module _ {result work : List ℕ} {end to : ℕ} {rules : Rules} {p : Plan} (x :
             held =
                 record {
                   stands =
-                      subst (λ j. Stands (words result′) j (encode new) 0 j) s (wrote-stands wrote-new (0 + length (encode new)) (omega arith));
+                      subst (λ j. Stands (words result′) j (encode new) 0 j) s
+                      (wrote-stands wrote-new (0 + length (encode new)) (omega arith));
                   ends = e;
                   upTo = ap (λ j. k .end + j) t;
                   room = omega arith;
@@ -127,13 +135,8 @@ module _ {result work : List ℕ} {end to : ℕ} {rules : Rules} {p : Plan} (x :
             room = let f = fine .entries in omega arith;
           }
 
--- The three returns.
 module _ {result work : List ℕ} {end to : ℕ} {rules : Rules} {p : Plan} {c : Counters} {recorded r : ℕ}
     (f : RefusedBy result work end to rules p c recorded r) where
-  pub applied-refused : (r ≡ 0 → ⊥) → {result′ trail trail′ : List ℕ} {a : Applied} → a .number ≡ r
-      → AppliedOf result work end to rules c p recorded result′ trail trail′ a
-  applied-refused h e = record { is = λ x. record { number = e ∙ f .is x; done = λ z. absurd (h (sym e ∙ z)) } }
-
   module _ (z : r ≡ 0) where
     fine-by : (x : Applicable result work end to rules p) → Good (x .sheet .kind) (x .sheet .preserved) (afterOf x c) recorded
     fine-by x = good (x .sheet .kind) (x .sheet .preserved) (afterOf x c) recorded (sym (f .is x) ∙ z)
@@ -142,19 +145,16 @@ module _ {result work : List ℕ} {end to : ℕ} {rules : Rules} {p : Plan} {c :
         → Applies (words result) end to rules p work trail (record { to = composeAt; trail = entryWords * recorded; counters = c })
     applies-by x = applies x c recorded (fine-by x)
 
-    pub words-few : {n : ℕ} → Applicable result work end to rules p → WordsAfter result work end to rules p n → n ≤ mostWords
-    words-few x w = let e = w .is x c in let m = fine-by x .words in omega arith
-
-    pub composed-few : {work′ trail trail′ : List ℕ} {k : Composed} → Applicable result work end to rules p → trailBytes ≤ length trail
+    pub composed-fits : {work′ trail trail′ : List ℕ} {k : Composed}
         → ComposedAs (words result) end to rules p work work′ trail trail′
         (record { to = composeAt; trail = entryWords * recorded; counters = c }) k
-        → k .end ≤ mostWords
+        → Applicable result work end to rules p → trailBytes ≤ length trail → to ≤ mostWords → Fits w64 (k .end + (to - end))
     unfolding applies held-standing
-    composed-few x l w =
+    composed-fits w x l b =
         let e : _ ≡ length (encodeRules (afterOf x c .node)) = w .ends (applies x c recorded (fine-by x) l) in
         let q = encode-long (sheetWith (x .sheet .kind) (x .sheet .preserved) (afterOf x c)) in
         let m = fine-by x .words in
-        omega arith
+        record { fits = omega arith }
 
     pub applied-done : {work′ trail trail′ result′ : List ℕ} {k : Composed} {n es : ℕ} → trailBytes ≤ length trail → workBytes ≤ length work
         → resultBytes ≤ length result
@@ -173,10 +173,28 @@ module _ {result work : List ℕ} {end to : ℕ} {rules : Rules} {p : Plan} {c :
               };
         }
 
-pub applicable-room : {result work : List ℕ} {end to : ℕ} {rules : Rules} {p : Plan} → Applicable result work end to rules p → Room result to
+-- By what was judged.
+module _ {result work : List ℕ} {end to : ℕ} {rules : Rules} {p : Plan} {m : Measure} {c : Counters} {n room recorded r : ℕ}
+    (j : Judged (countersOf c) m n room recorded r) (a : WordsAfter result work end to rules p n)
+    (w : Measured innerDepth (settled (words result) end innerDepth work (p .l)) m) (e : room ≡ mostWords) where
+  pub judged-refused : (r ≡ 0 → ⊥) → {result′ trail trail′ : List ℕ} {b : Applied} → b .number ≡ r
+      → AppliedOf result work end to rules c p recorded result′ trail trail′ b
+  judged-refused h i =
+      let f = refused-by w a e j in
+      record { is = λ x. record { number = i ∙ f .is x; done = λ z. absurd (h (sym i ∙ z)) } }
+
+  module _ (z : r ≡ 0) where
+    pub judged-none : RefusedBy result work end to rules p c recorded 0
+    judged-none = record { is = λ x. sym z ∙ refused-by w a e j .is x }
+
+    pub judged-few : Applicable result work end to rules p → n ≤ mostWords
+    judged-few x = let i = a .is x c in let l = fine-by (refused-by w a e j) z x .words in omega arith
+
+pub applicable-room : {result work : List ℕ} {end to : ℕ} {rules : Rules} {p : Plan} → Applicable result work end to rules p
+    → Room result to
 applicable-room x = let r = x .held .room in let s = x .short in record { trailer = omega arith; low = omega arith }
 
-pub ruleset applyings = (applied-refused, applies-by, words-few, composed-few, applied-done)
+pub ruleset applyings = (applies-by, composed-fits, applied-done)
 
 -- What is known where a plan may be applied.
 module _ {result work : List ℕ} {end to : ℕ} {rules : Rules} {p : Plan} (x : Applicable result work end to rules p) where

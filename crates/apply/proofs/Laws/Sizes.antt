@@ -130,13 +130,7 @@ pub refused-by : {result work : List ℕ} {end to : ℕ} {rules : Rules} {p : Pl
     → room ≡ mostWords → Judged (countersOf c) m n room recorded r → RefusedBy result work end to rules p c recorded r
 refused-by {c = c} w a e j = record { is = λ x. refusal-is w x c (a .is x c) e j }
 
-pub refused-none : {result work : List ℕ} {end to : ℕ} {rules : Rules} {p : Plan} {c : Counters} {recorded r : ℕ}
-    → RefusedBy result work end to rules p c recorded r → r ≡ 0 → RefusedBy result work end to rules p c recorded 0
-refused-none f e = record { is = λ x. sym e ∙ f .is x }
-
 pub entries-after : {result work : List ℕ} {end to : ℕ} {rules : Rules} {p : Plan} {m : Measure} {recorded i n : ℕ}
     → Measured innerDepth (settled (words result) end innerDepth work (p .l)) m → i ≡ idsIn (tallyOf m) → n ≡ recorded + i + 1
     → EntriesAfter result work end to rules p recorded n
 entries-after w e f = record { is = λ x c. let l = after-entries w x c in omega arith }
-
-pub ruleset measures = (words-after, refused-by, refused-none, entries-after)

@@ -1,10 +1,20 @@
 -- `apply::apply::apply` meets its contract.
 use mathlib.Core.Path.{refl}
 use borrow.Author.Needs.{needs}
-use Rattle.apply.proofs.Laws.Done.{applicables, words-few, applied-refused}
-use Rattle.apply.proofs.Laws.Sizes.{refused-by, refused-none, entries-after}
+use Rattle.apply.proofs.Laws.Done.{applicables, judged-refused, judged-none, judged-few}
+use Rattle.apply.proofs.Laws.Sizes.{entries-after}
 use Rattle.apply.proofs.apply.apply.Statement.{statement}
 use Rattle.apply.proofs.apply.apply.Tie as tie
+
+-- Places whose facts lie too far back for the search: the verdict, the measure, and the call.
+abbrev judged : tie.After-put-arg3 → tie.After-judge
+judged c = c .before .before .before .before .before
+
+abbrev measured : tie.After-judge → tie.After-measure
+measured c = c .before .before .before .before
+
+abbrev entry : tie.After-judge → tie.Start
+entry c = measured c .before .before .before .before .before .before .before
 
 pub apply-spec : {M : Type 1} → statement M
 apply-spec =
@@ -16,20 +26,20 @@ apply-spec =
     (λ c. search needs)
     (λ c. search needs)
     (λ c.
-    let asked = c .before .before .before .before .before .before .before .before .before .before .before .before .pre in
-    let by = refused-by (c .before .before .before .before .before .measure .ensures) (c .before .before .words-after .ensures) (asked .0 .2) (c .before .judge .ensures) in
-    (applied-refused by (search needs) refl, search needs))
+    let asked = entry (c .before) .pre in
+    (search (needs, judged-refused), search needs))
     (λ c κs. search needs)
     (λ c. search needs)
     (λ c. search needs)
     (λ c κs.
-    let asked = c .before .before .before .before .before .before .before .before .before .before .before .before .before .before .before .before .pre in
-    let sized = c .before .before .before .before .before .before .before .before .before .measure .ensures in
-    let words = c .before .before .before .before .before .before .words-after .ensures in
-    let by = refused-by sized words (asked .0 .2) (c .before .before .before .before .before .judge .ensures) in
-    let none = refused-none by (search needs) in (
-      (asked .0 .0, asked .0 .1, words-few none refl (asked .1) words, search applicables, search applicables),
-      ((asked .1, none), (words, entries-after sized (c .before .before .before .ids-in .ensures) refl)),
+    let asked = entry (judged c) .pre in
+    let sizes = measured (judged c) .measure .ensures in
+    let verdict = judged c .judge .ensures in (
+      (search needs, search needs, search (needs, judged-few), search applicables, search applicables),
+      (
+        (search needs, judged-none verdict (search needs) sizes (search needs) (search needs)),
+        (search needs, entries-after sizes (search needs) refl),
+      ),
     ))
     (λ c. search needs)
     (λ c. search needs)

@@ -1,10 +1,15 @@
 -- `apply::apply::put` meets its contract.
-use mathlib.Core.Path.{refl}
 use borrow.Author.Needs.{needs}
-use native.Mathlib.Omega.{arith}
-use Rattle.apply.proofs.Laws.Done.{composed-few, applied-done, applicables, applyings}
+use Rattle.apply.proofs.Laws.Done.{applicables, applyings}
 use Rattle.apply.proofs.apply.put.Statement.{statement}
 use Rattle.apply.proofs.apply.put.Tie as tie
+
+-- Places whose facts lie too far back for the search: the new sheet in the work area, and the call.
+abbrev made : tie.After-struct-known → tie.After-compose
+made c = c .before .before .before .before .before .before .before .before .before .before .before .before
+
+abbrev entry : tie.After-compose → tie.Start
+entry c = c .before .before .before .before .before .before .before
 
 pub put-spec : {M : Type 1} → statement M
 put-spec =
@@ -15,16 +20,13 @@ put-spec =
     (λ c κs. search (needs, applicables, applyings))
     (λ c κs. search needs)
     (λ c.
-    let asked = c .before .before .before .before .before .before .before .before .before .before .before .before .before .before .before .before .before .before .before .pre in
-    let few = composed-few (asked .1 .0 .1) refl (asked .1 .0 .0) (asked .0 .0 .forTrail) (c .before .before .before .before .before .before .before .before .before .before .before .before .compose .ensures) in
-    omega (arith, few, asked .0 .3))
+    let asked = entry (made c) .pre in
+    let sheet = made c .compose .ensures in
+    search (needs, applyings))
     (λ c. search needs)
     (λ c. search needs)
     (λ c. search needs)
     (λ c.
-    let asked = c .before .before .before .before .before .before .before .before .before .before .before .before .before .before .before .before .before .before .before .pre in
-    let lent = asked .0 .0 in (
-      applied-done (asked .1 .0 .1) refl (lent .forTrail) (lent .forWork) (lent .forResult) (c .before .before .before .before .before .before .before .before .before .before .before .before .compose .ensures)
-          (c .before .before .before .before .before .copy-words .ensures) (asked .1 .1 .0) (asked .1 .1 .1),
-      search needs,
-    )))
+    let asked = entry (made c) .pre in
+    let sheet = made c .compose .ensures in
+    (search (needs, applyings), search needs)))

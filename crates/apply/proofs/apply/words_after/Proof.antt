@@ -1,7 +1,7 @@
 -- `apply::apply::words_after` meets its contract.
 use borrow.Author.Needs.{needs}
 use Rattle.apply.proofs.Laws.Done.{applicables}
-use Rattle.apply.proofs.Laws.Sizes.{measures}
+use Rattle.apply.proofs.Laws.Sizes.{words-after}
 use Rattle.apply.proofs.apply.words_after.Statement.{statement}
 use Rattle.apply.proofs.apply.words_after.Tie as tie
 
@@ -19,4 +19,4 @@ words-after-spec =
     (λ c. search (needs, applicables))
     (λ c. search (needs, applicables))
     (λ c. search (needs, applicables))
-    (λ c. search (needs, measures)))
+    (λ c. search (needs, words-after)))
