@@ -6,6 +6,13 @@ use Rattle.plans.proofs.Laws.Told.{first-tellings}
 use Rattle.plans.proofs.first_plan.Statement.{statement}
 use Rattle.plans.proofs.first_plan.Tie as tie
 
+-- Places whose facts lie too far back for the search: the plan, and the sheet that was read.
+abbrev decided : tie.After-row → tie.After-decide-first
+decided c = c .before .before .before .before .before .before .before
+
+abbrev reading : tie.After-decide-first → tie.After-read
+reading c = c .before .before .before .before .before .before .before .before .before .before
+
 pub first-plan-spec : {M : Type 1} → statement M
 first-plan-spec =
     tie.close
@@ -25,7 +32,6 @@ first-plan-spec =
     (λ c. (search (needs, first-tellings), search needs))
     (λ c. search needs)
     (λ c.
-    let tell = c .before .before .before .tell-search .ensures in
-    let first = c .before .before .before .before .before .before .before .decide-first .ensures in
-    let reads = c .before .before .before .before .before .before .before .before .before .before .before .before .before .before .before .before .before .read .ensures .0 in
-    (search (needs, first-tellings, tell .0, tell .1, tell .2, first, reads), search needs)))
+    let first = decided c .decide-first .ensures in
+    let sheet = reading (decided c) .read .ensures .0 in
+    (search first-tellings, search needs)))

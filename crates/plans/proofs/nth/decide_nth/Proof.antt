@@ -4,6 +4,16 @@ use Rattle.plans.proofs.Laws.Nth.{nths}
 use Rattle.plans.proofs.nth.decide_nth.Statement.{statement}
 use Rattle.plans.proofs.nth.decide_nth.Tie as tie
 
+-- Places whose facts lie too far back for the search: the cycles, what was found out, and the call.
+abbrev listed : tie.After-plan-cycle-arg → tie.After-list-cycles
+listed c = c .before .before .before .before .before
+
+abbrev ground : tie.After-list-cycles → tie.After-find-out
+ground c = c .before .before .before .before .before .before .before .before
+
+abbrev entry : tie.After-find-out → tie.Start
+entry c = c .before .before .before .before .before .before
+
 pub decide-nth-spec : {M : Type 1} → statement M
 decide-nth-spec =
     tie.close
@@ -17,15 +27,15 @@ decide-nth-spec =
     (λ c. search needs)
     (λ c κs. search needs)
     (λ c κs.
-    let found = c .before .before .before .before .before .before .before .before .before .before .before .before .before .find-out .ensures in
-    let list = c .before .before .before .before .before .list-cycles .ensures in
-    let pre = c .before .before .before .before .before .before .before .before .before .before .before .before .before .before .before .before .before .before .before .pre in (
-      (pre .0 .0, pre .0 .1, search (needs, pre .0 .2), search nths),
-      (found .1 .1 .0, search (needs, nths, found .0, found .1 .0, pre .0 .1, list, pre .1)),
+    let known = ground (listed c) .find-out .ensures in
+    let cycles = listed c .list-cycles .ensures in
+    let asked = entry (ground (listed c)) .pre in (
+      (search needs, search needs, search needs, search nths),
+      (search needs, search (needs, nths, known .0, known .1 .0, asked .0 .1, cycles, asked .1)),
     ))
     (λ c. search needs)
     (λ c.
-    let found = c .before .before .before .before .before .before .before .before .before .before .before .before .before .before .before .before .find-out .ensures in
-    let list = c .before .before .before .before .before .before .before .before .list-cycles .ensures in
-    let pre = c .before .before .before .before .before .before .before .before .before .before .before .before .before .before .before .before .before .before .before .before .before .before .pre in
-    search (needs, nths, found .0, found .1 .0, pre .0 .1, list)))
+    let known = ground (listed (c .before .before .before)) .find-out .ensures in
+    let cycles = listed (c .before .before .before) .list-cycles .ensures in
+    let asked = entry (ground (listed (c .before .before .before))) .pre in
+    search (needs, nths, known .0, known .1 .0, asked .0 .1, cycles)))
