@@ -20,12 +20,15 @@ abbrev μ-loop : tie.MeasureT-loop
 abbrev start : tie.At-loop Inv-loop μ-loop → tie.Start Inv-loop μ-loop
 start c = c .before .before .before
 
+abbrev looped : tie.After-index Inv-loop μ-loop → tie.At-loop Inv-loop μ-loop
+looped c = c .before .before .before .before .before .before .before
+
 -- The words of a rule that stays.
 within : (c : tie.After-index Inv-loop μ-loop)
     → (c .index .result ≤ c .before .rule-end .result)
-    × (c .before .rule-end .result ≤ start (c .before .before .before .before .before .before .before) .args .end)
+    × (c .before .rule-end .result ≤ start (looped c) .args .end)
 within c =
-    let asked = start (c .before .before .before .before .before .before .before) .pre in
+    let asked = start (looped c) .pre in
     ends-within (asked .0) (search needs) (c .before .rule-end .ensures .is _ refl refl) (c .index .ensures)
 
 loop-again : tie.Need-loop-again Inv-loop μ-loop
