@@ -146,9 +146,8 @@ fn differs(got: &Outcome, wanted: &Outcome) -> Option<String> {
     ];
     parts.iter().find_map(|(name, got, wanted)| {
         let at = (0..got.len().max(wanted.len())).find(|at| got.get(*at) != wanted.get(*at))?;
-        let [got, wanted] = [got.get(at), wanted.get(at)];
-        Some(format!(
-            "{name} byte {at} is {got:?}, and should be {wanted:?}"
-        ))
+        let byte = |bytes: &[u8]| bytes.get(at).map_or("absent".to_owned(), u8::to_string);
+        let (got, wanted) = (byte(got), byte(wanted));
+        Some(format!("{name} byte {at} is {got}, and should be {wanted}"))
     })
 }

@@ -4,7 +4,7 @@ mod common;
 
 use std::sync::atomic::AtomicBool;
 
-use common::{answering, bytes, leaving};
+use common::{Change, answering, bytes, leaving};
 use oracle::ask;
 use pass::changes::{Renaming, carried_in, carry};
 use pass::law_run::{Broken, Counts, LawRun, side_by_side};
@@ -189,20 +189,27 @@ fn owned_by_the_carried_number(bytes: &[u8]) -> Outcome {
     outcome
 }
 
+/// What is told of a pass that leaves what no outcome is.
+fn left_wrong(change: &Change) -> String {
+    let entry = answering(0, change);
+    let mut run = LawRun::new([&entry, &entry]);
+    let broken = run.seeds(3, 0..600, &AtomicBool::new(false));
+    let told = broken.expect_err("a wrong pass").first.what;
+    assert!(told.starts_with("one call"), "{told}");
+    told
+}
+
 #[test]
-fn buffers_are_looked_at_in_each_call() {
+fn every_call_must_leave_an_outcome() {
     for (what, area) in [("result", 0), ("trail", 1), ("work area", 2)] {
-        let wrong = move |_: &mut [u32; 5], lent: &mut pass::compare::Buffers| {
-            *lent[area].last_mut().expect("a byte") = 1;
-        };
-        let entry = answering(0, &wrong);
-        let mut run = LawRun::new([&entry, &entry]);
-        let broken = run.seeds(3, 0..600, &AtomicBool::new(false));
-        let told = broken.expect_err("a wrong pass").first.what;
-        assert!(
-            told.starts_with("one call") && told.contains(what),
-            "{told}"
-        );
+        let told = left_wrong(&move |_, lent| *lent[area].last_mut().expect("a byte") = 1);
+        assert!(told.contains(what), "{told}");
+    }
+    let told = left_wrong(&|numbers, _| numbers[2] += u32::from(numbers[0] != 0));
+    assert!(told.contains("those of no refusal"), "{told}");
+    for length in [3, 4] {
+        let told = left_wrong(&move |numbers, _| numbers[length] = numbers[length].max(1 << 20));
+        assert!(told.contains("numbers"), "{told}");
     }
 }
 
