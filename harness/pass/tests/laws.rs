@@ -10,6 +10,7 @@ use pass::changes::{Renaming, carried_in, carry};
 use pass::law_run::{Broken, Counts, LawRun, side_by_side};
 use pass::laws::{Breach, carried, original, own_result, renamed};
 use pass::outcome::{Outcome, judged};
+use pass::program::{Fault, hex};
 use sheets::codec::{bytes_of, encode, tree, words_of};
 use sheets::parse::{parse, sheet};
 use sheets::tree::{Kind, Label, Sheet};
@@ -211,6 +212,18 @@ fn every_call_must_leave_an_outcome() {
         let told = left_wrong(&move |numbers, _| numbers[length] = numbers[length].max(1 << 20));
         assert!(told.contains("numbers"), "{told}");
     }
+}
+
+/// Both sheets are printed, and the law in the last line.
+#[test]
+fn a_breach_is_told_with_both_sheets() {
+    let broken = run(|bytes| with_result(bytes, |_, after| drop(after.rules.pop())));
+    let broken = broken.expect_err("a wrong pass");
+    let both = [&broken.first.sheet, &broken.second].map(|own| hex(own));
+    let Fault { lines, last } = broken.into();
+    assert!(both.iter().all(|own| lines.contains(own)), "{lines}");
+    assert!(last.starts_with("difference: sheet "), "{last}");
+    assert!(last.contains("of seed 3: own result: "), "{last}");
 }
 
 /// Whether the original keeps the law of renaming with such a renaming of a grammar.
