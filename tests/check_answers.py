@@ -14,7 +14,8 @@ Where a folder is given, `outcome` is computed too, for the calls in answers/cal
 numbers and every byte of the three buffers, which are not zero at entry, and are as long as they
 must be, longer, or a byte short. A call takes a second, for the length of its buffers; so not every
 answer has one, but every refusal, sheets joined and left, each line that a length draws, and either
-reading of left corners (14). With --outcome calls alone are computed, two for each answer: with buffers
+reading of left corners (14). Runs are compared too (18, answers/laws.py): the definition has nothing to do on a result of the
+original, and the starred grammars have the same answer with other names and with other carried numbers. With --outcome calls alone are computed, two for each answer: with buffers
 longer than they must be, and with one of them a byte short; of a sheet of over calls.MOST bytes the
 second alone.
 
@@ -31,6 +32,7 @@ from threading import Thread
 
 from answers.calls import Call, calls, calls_of_each
 from answers.definitions import copy_definitions
+from answers.laws import compared
 from answers.room import Room
 from answers.stored import gather, read_file
 
@@ -46,7 +48,7 @@ def all_asked(paths, pattern='', outcome=False):
     if outcome:
         asked = list(calls_of_each(asked))
     elif any(Path(path).is_dir() for path in paths):
-        asked += calls(asked)
+        asked += calls(asked) + compared(asked)
     return [one for one in asked if re.search(pattern, one.name)]
 
 

@@ -59,8 +59,8 @@ class Named:
 
 
 def short(name):
-    """An answer is named without its file, a call with the word `outcome`."""
-    return name if name.startswith('outcome: ') else name.partition(': ')[2]
+    """An answer is named without its file; a call, and a run that is compared, with the word in front."""
+    return name.partition(': ')[2] if name.partition(': ')[0].endswith('.txt') else name
 
 
 class Lane:

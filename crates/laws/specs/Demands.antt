@@ -1,5 +1,5 @@
--- What is promised of the definition: properties, numbered 1 to 14, and two sheets on which more cannot be had; Theorems says
--- of what each property holds. The proof is in Proved.
+-- What is promised of the definition: properties, numbered 1 to 17, two sheets on which more cannot be had, and one whose words tell
+-- what other names and carried numbers are; Theorems says of what each property holds. The proof is in Proved.
 pub mod Numbers
 pub mod Analysis
 pub mod Shape
@@ -17,5 +17,8 @@ pub mod Answers
 pub mod Refusals
 pub mod Table
 pub mod Kept
+pub mod Marks
+pub mod WordSorts
+pub mod Sameness
 pub mod Examples
 pub mod Theorems

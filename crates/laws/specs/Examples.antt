@@ -1,7 +1,9 @@
--- Two sheets that Demands names, and what the run makes of them.
+-- Three sheets that Demands names, and what the run makes of two of them.
+use Prim.Native.Nat.{ℕ}
 use mathlib.Core.List.{List, [], _∷_}
-use Rattle.grammar.specs.Numbers.{once, optionalGreedy}
-use Rattle.grammar.specs.Tree.{token, terminal, Element, Block, innerDepth, Rule, Sheet}
+use Rattle.grammar.specs.Numbers.{once, optionalGreedy, attribute, nonLocal}
+use Rattle.grammar.specs.Tree.{unlabelled, labelled, ElementHead, action, predicate, call, token, terminal, Element, leaf, block, Block}
+use Rattle.grammar.specs.Tree.{innerDepth, Rule, Sheet}
 use Rattle.reference.specs.Written.{element, callTo, alternative, rule, counted, unit}
 
 -- e: a | INT; a: e PLUS | NAME? e MINUS; where e is 1, a 2, INT 3, PLUS 4, NAME 5, MINUS 6.
@@ -46,3 +48,43 @@ returned =
     (element 21 optionalGreedy terminal ∷ []) ∷ [])
     ∷ rule 2 2 (alternative 12 (element 22 once (callTo 1) ∷ element 23 once (callTo 2) ∷ []) ∷ [])
     ∷ []
+
+-- An element without label and options.
+abbrev bare : (id carried quantifier : ℕ) → ElementHead
+bare i c q = record { id = i; carried = c; quantifier = q; label = unlabelled; options = [] }
+
+abbrev labelledHead : ElementHead
+labelledHead =
+    record { id = 3; carried = 24; quantifier = optionalGreedy; label = labelled 4 15; options = record { name = 16; value = 32 } ∷ [] }
+
+-- e: ~21 # <o=31> {$i}~22 &{$j::k}~23 x=a[33]?<p=32>~24 INT~25 .~26 (~28 <q=34> NAME~29)~27; n: -; where n is 10, e 11, and o, i, j, x,
+-- p, a, INT, q, NAME are 12 to 20: a name at each place where one can stand. No other word is from 10 to 29.
+abbrev pub everySort : Sheet
+everySort =
+    unit (record { alternative = 7; element = 8; label = 5; action = 2; predicate = 2 }) (2 ∷ [])
+    (record {
+      id = 1;
+      name = 11;
+      flags = 2;
+      body = record {
+        id = 5;
+        carried = 21;
+        flag = 1;
+        options = record { name = 12; value = 31 } ∷ [];
+        elements = leaf (bare 1 22 once) (action (record { id = 1; references = record { kind = attribute; name = 13 } ∷ [] }))
+            ∷ leaf (bare 2 23 once) (predicate (record { id = 1; references = record { kind = nonLocal; name = 14 } ∷ [] }))
+            ∷ leaf labelledHead (call (record { name = 17; arguments = 33 }))
+            ∷ leaf (bare 4 25 once) (token 18)
+            ∷ leaf (bare 5 26 once) terminal
+            ∷ block (bare 6 27 once) (record {
+              id = 6;
+              carried = 28;
+              flag = 0;
+              options = record { name = 19; value = 34 } ∷ [];
+              elements = leaf (bare 7 29 once) (token 20) ∷ [];
+            } ∷ [])
+            ∷ [];
+      } ∷ [];
+    }
+    ∷ rule 2 10 []
+    ∷ [])

@@ -8,3 +8,4 @@ pub mod BothReadings
 pub mod Validity
 pub mod Provenance
 pub mod Proved
+pub mod Sameness

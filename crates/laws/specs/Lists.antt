@@ -2,4 +2,5 @@
 pub mod Count
 pub mod Every
 pub mod Lookup
+pub mod Mapped
 pub mod Few

@@ -14,6 +14,18 @@ const NAMES: [&str; 3] = ["result", "trail", "work area"];
 const GUARD: usize = 64;
 const UNSET: u32 = 0xdead_beef;
 static ZEROS: [u8; 1 << 18] = [0; 1 << 18];
+/// Junk that begins again where it ends.
+static MIXED: [u8; 768] = mixed();
+
+const fn mixed() -> [u8; 768] {
+    let mut bytes = [0; 768];
+    let mut at = 0;
+    while at < bytes.len() {
+        bytes[at] = (at * 29 / 3) as u8 | 1;
+        at += 1;
+    }
+    bytes
+}
 
 /// Result, trail and work area.
 pub type Buffers<'a> = [&'a mut [u8]; 3];
@@ -114,6 +126,36 @@ impl Lent {
         call: Call,
     ) -> Result<(), String> {
         let expected = promised(outcome, call.lengths);
+        let numbers = self.called(pass, sheet, call);
+        numbers.same("numbers", &expected.numbers, u32::to_string)?;
+        self.beside(call)?;
+        left(&expected, call.parts(&self.areas), call.parts(&self.before))
+    }
+
+    /// The outcome that the pass leaves, whatever it is, or what is left otherwise than any outcome is.
+    pub fn asked(&mut self, pass: Pass, sheet: &[u8], call: Call) -> Result<Outcome, String> {
+        let numbers = self.called(pass, sheet, call);
+        let own = numbers.lent;
+        numbers.same("numbers", &own, u32::to_string)?;
+        self.beside(call)?;
+        if own[0] != 0 && own[1..] != [0; 4] {
+            return Err(format!("numbers {own:?} are those of no refusal"));
+        }
+        let after = call.parts(&self.areas);
+        let front = |at: usize| after[at].get(..own[3 + at] as usize);
+        let (Some(result), Some(trail)) = (front(0), front(1)) else {
+            return Err(format!("numbers {own:?} are of more than is lent"));
+        };
+        let outcome = Outcome {
+            numbers: own,
+            result: result.to_vec(),
+            trail: trail.to_vec(),
+        };
+        left(&outcome, after, call.parts(&self.before)).map(|()| outcome)
+    }
+
+    /// The numbers that the pass answers with.
+    fn called(&mut self, pass: Pass, sheet: &[u8], call: Call) -> Guarded<[u32; 5]> {
         self.prepare(sheet, call);
         let mut numbers = Guarded::around([UNSET; 5]);
         let [result, trail, work] = &mut self.areas;
@@ -123,9 +165,7 @@ impl Lent {
             &mut work[call.part(2)],
         ];
         pass(&self.sheet[call.starts[0]..], lent, &mut numbers.lent);
-        numbers.same("numbers", &expected.numbers, u32::to_string)?;
-        self.beside(call)?;
-        left(&expected, call.parts(&self.areas), call.parts(&self.before))
+        numbers
     }
 
     fn prepare(&mut self, sheet: &[u8], call: Call) {
@@ -140,9 +180,9 @@ impl Lent {
             }
             match call.junk {
                 Junk::All(byte) => area.fill(byte),
-                Junk::Mixed => (0..)
-                    .zip(area.iter_mut())
-                    .for_each(|(at, byte)| *byte = (at * 29usize / 3) as u8 | 1),
+                Junk::Mixed => area
+                    .chunks_mut(MIXED.len())
+                    .for_each(|part| part.copy_from_slice(&MIXED[..part.len()])),
                 Junk::Left => {}
             }
             self.before[at].clone_from(area);

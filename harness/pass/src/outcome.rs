@@ -35,6 +35,15 @@ impl Outcome {
         }
     }
 
+    /// Of a sheet with which there is nothing to do.
+    pub fn still(sheet: &[u8]) -> Outcome {
+        Outcome {
+            numbers: [0, 0, 0, sheet.len() as u32, 0],
+            result: sheet.to_vec(),
+            trail: Vec::new(),
+        }
+    }
+
     pub fn number(&self) -> u32 {
         self.numbers[0]
     }

@@ -1,5 +1,6 @@
 //! A run: which sheets are compared, and what is lent for each.
 
+use std::iter::{Skip, StepBy};
 use std::ops::Range;
 use std::sync::atomic::{AtomicBool, Ordering};
 
@@ -50,6 +51,24 @@ pub fn sheet(seed: u64, index: u64) -> Vec<u8> {
     }
 }
 
+/// Asks about the sheets of these numbers in the run `seed`, up to the first that fails, or until it is told to stop.
+pub fn each<E>(
+    seed: u64,
+    numbers: impl Iterator<Item = u64>,
+    stop: &AtomicBool,
+    mut ask: impl FnMut(u64, String, &[u8]) -> Result<(), E>,
+) -> Result<(), E> {
+    for index in numbers {
+        if stop.load(Ordering::Relaxed) {
+            break;
+        }
+        let name = format!("sheet {index} of seed {seed}");
+        ask(index, name, &sheet(seed, index))
+            .inspect_err(|_| stop.store(true, Ordering::Relaxed))?;
+    }
+    Ok(())
+}
+
 pub struct Run<'a> {
     /// The entries for the original's reading and for the textbook's.
     entries: [Pass<'a>; 2],
@@ -76,16 +95,10 @@ impl<'a> Run<'a> {
         numbers: impl Iterator<Item = u64>,
         stop: &AtomicBool,
     ) -> Result<(), Difference> {
-        for index in numbers {
-            if stop.load(Ordering::Relaxed) {
-                break;
-            }
+        each(seed, numbers, stop, |index, name, sheet| {
             self.turn = index as usize;
-            let name = format!("sheet {index} of seed {seed}");
-            self.ask(name, &sheet(seed, index))
-                .inspect_err(|_| stop.store(true, Ordering::Relaxed))?;
-        }
-        Ok(())
+            self.ask(name, sheet)
+        })
     }
 
     /// Asks about a sheet in both readings, and with buffers that are too short.
@@ -120,31 +133,40 @@ pub fn side_by_side(
     seed: u64,
     numbers: Range<u64>,
 ) -> Result<Tally, Difference> {
+    let tallies = shared(numbers, |own, stop| {
+        let mut run = Run::new(entries);
+        run.seeds(seed, own, stop).map(|()| run.tally)
+    })?;
+    let both = |tally: Tally, more| tally.and(more);
+    Ok(tallies.iter().fold(Tally::default(), both))
+}
+
+/// A thread's part of the numbers.
+type Part = StepBy<Skip<Range<u64>>>;
+
+/// What as many threads as there are processors make of these numbers between them, unless one of them fails.
+pub fn shared<T: Send, E: Send>(
+    numbers: Range<u64>,
+    run: impl Fn(Part, &AtomicBool) -> Result<T, E> + Sync,
+) -> Result<Vec<T>, E> {
     let threads = std::thread::available_parallelism()
         .map_or(1, usize::from)
         .min(8);
     let stop = AtomicBool::new(false);
-    let run = |first: usize| {
-        let mut run = Run::new(entries);
-        let own = numbers.clone().skip(first).step_by(threads);
-        run.seeds(seed, own, &stop).map(|()| run.tally)
-    };
-    let runs = std::thread::scope(|scope| {
+    let one = |first: usize| run(numbers.clone().skip(first).step_by(threads), &stop);
+    std::thread::scope(|scope| {
+        let one = &one;
         let begun: Vec<_> = (0..threads)
-            .map(|first| scope.spawn(move || run(first)))
+            .map(|first| scope.spawn(move || one(first)))
             .collect();
-        let ended = begun.into_iter().map(|one| one.join().expect("a run ends"));
-        ended.collect::<Vec<_>>()
-    });
-    let mut tally = Tally::default();
-    for run in runs {
-        tally = tally.and(&run?);
-    }
-    Ok(tally)
+        let ended = begun.into_iter().map(|own| own.join().expect("a run ends"));
+        // All are waited for, before one that failed is told.
+        ended.collect::<Vec<_>>().into_iter().collect()
+    })
 }
 
-/// The call, and every eighth time the same with buffers that are too short: each alone, then some of them.
-fn calls(turn: usize) -> impl Iterator<Item = Call> {
+/// With buffers that are long enough, other ones at each turn.
+pub fn call(turn: usize) -> Call {
     const MORE: [usize; 7] = [0, 0, 1, 0, 4_096, 3, 65_536];
     const JUNK: [Junk; 6] = [
         Junk::Mixed,
@@ -155,11 +177,16 @@ fn calls(turn: usize) -> impl Iterator<Item = Call> {
         Junk::All(0x80),
     ];
     let more = |at: usize| LEAST[at] + MORE[(turn + 2 * at) % MORE.len()];
-    let call = Call {
+    Call {
         lengths: [0, 1, 2].map(more),
         starts: [0, 1, 2, 3].map(|at| (turn + at) % 9),
         junk: JUNK[turn % JUNK.len()],
-    };
+    }
+}
+
+/// The call, and every eighth time the same with buffers that are too short: each alone, then some of them.
+fn calls(turn: usize) -> impl Iterator<Item = Call> {
+    let call = call(turn);
     let short = match turn % 8 {
         3 => too_short(turn / 8),
         _ => Vec::new(),

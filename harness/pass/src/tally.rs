@@ -47,11 +47,7 @@ impl Tally {
     /// With what another run met.
     pub fn and(mut self, other: &Tally) -> Tally {
         for (own, more) in self.answers.iter_mut().zip(&other.answers) {
-            for (number, more) in own.numbers.iter_mut().zip(more.numbers) {
-                *number += more;
-            }
-            own.joined += more.joined;
-            own.again += more.again;
+            own.and(more);
         }
         self.folded += other.folded;
         self.parted += other.parted;
@@ -64,10 +60,18 @@ impl Tally {
 }
 
 impl Answers {
-    fn add(&mut self, outcome: &Outcome) {
+    pub fn add(&mut self, outcome: &Outcome) {
         self.numbers[outcome.number() as usize] += 1;
         self.joined += u64::from(outcome.plans() != 0);
         self.again += u64::from(1 < outcome.plans());
+    }
+
+    pub fn and(&mut self, other: &Answers) {
+        for (number, more) in self.numbers.iter_mut().zip(other.numbers) {
+            *number += more;
+        }
+        self.joined += other.joined;
+        self.again += other.again;
     }
 }
 

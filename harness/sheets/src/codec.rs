@@ -89,6 +89,13 @@ fn put_semantics(body: &Semantics, out: &mut Vec<u32>) {
 
 /// The tree of a sheet, or the lowest refusal of 1 and 3 to 6 that holds.
 pub fn read(bytes: &[u8]) -> Result<Sheet, Refusal> {
+    let sheet = tree(bytes)?;
+    check_ids(&sheet)?;
+    Ok(sheet)
+}
+
+/// The tree that stands in the bytes, or the lowest refusal of 1, 3 and 4 that holds; 5 and 6 are not asked.
+pub fn tree(bytes: &[u8]) -> Result<Sheet, Refusal> {
     if bytes.len() < 4 * TRAILER || bytes.len() > MOST_BYTES || bytes.len() % 4 != 0 {
         return Err(1);
     }
@@ -108,7 +115,6 @@ pub fn read(bytes: &[u8]) -> Result<Sheet, Refusal> {
     if !preserved.is_sorted_by(|one, next| one < next) {
         return Err(4);
     }
-    check_ids(&sheet)?;
     Ok(sheet)
 }
 

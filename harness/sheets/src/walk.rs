@@ -1,6 +1,6 @@
 //! Walks over every node of a sheet, outer before inner.
 
-use crate::tree::{Alternative, Counters, Element, Kind, Rule, Sheet};
+use crate::tree::{Alternative, Counters, Element, Kind, OptionDecl, Rule, Sheet};
 
 /// The sorts of ids, numbered as in the trail.
 #[derive(Clone, Copy, Debug, Eq, Ord, PartialEq, PartialOrd)]
@@ -86,5 +86,60 @@ pub fn edit(list: &mut [Alternative], change: &mut impl FnMut(&mut Element)) {
         if let Kind::Block(inner) = &mut element.kind {
             edit(inner, change);
         }
+    }
+}
+
+/// What a word is that says nothing by its size: a name, by where it stands, or a carried number.
+#[derive(Clone, Copy, Debug, Eq, PartialEq)]
+pub enum Mark {
+    Rule,
+    Option,
+    Label,
+    Reference,
+    Call,
+    Token,
+    Carried,
+}
+
+/// Every name and every carried number of a sheet, in the order of its words, open to change. The 0 of "no label" is no name.
+pub fn marks(sheet: &mut Sheet, change: &mut impl FnMut(Mark, &mut u32)) {
+    for rule in &mut sheet.rules {
+        change(Mark::Rule, &mut rule.name);
+        marks_of_all(&mut rule.alternatives, change);
+    }
+}
+
+fn marks_of_all(list: &mut [Alternative], change: &mut impl FnMut(Mark, &mut u32)) {
+    for own in list {
+        change(Mark::Carried, &mut own.carried);
+        marks_of_options(&mut own.options, change);
+        for element in &mut own.elements {
+            marks_of_element(element, change);
+        }
+    }
+}
+
+fn marks_of_options(options: &mut [OptionDecl], change: &mut impl FnMut(Mark, &mut u32)) {
+    for option in options {
+        change(Mark::Option, &mut option.name);
+    }
+}
+
+fn marks_of_element(element: &mut Element, change: &mut impl FnMut(Mark, &mut u32)) {
+    change(Mark::Carried, &mut element.carried);
+    if let Some(label) = &mut element.label {
+        change(Mark::Label, &mut label.name);
+    }
+    marks_of_options(&mut element.options, change);
+    match &mut element.kind {
+        Kind::Epsilon | Kind::Other => {}
+        Kind::Action(body) | Kind::Predicate(body) => {
+            for reference in &mut body.references {
+                change(Mark::Reference, &mut reference.name);
+            }
+        }
+        Kind::Call { name, .. } => change(Mark::Call, name),
+        Kind::Token(name) => change(Mark::Token, name),
+        Kind::Block(inner) => marks_of_all(inner, change),
     }
 }

@@ -1,6 +1,6 @@
 //! Sheets as words (SPECIFICATION 2): round trips, and the refusals (4) on both sides of each line.
 
-use sheets::codec::{bytes_of, encode, read};
+use sheets::codec::{bytes_of, encode, read, tree};
 use sheets::generate::{PROFILES, damaged};
 use sheets::parse::sheet;
 use sheets::tree::{Alternative, Element, Kind, Sheet};
@@ -45,6 +45,25 @@ fn generated_sheets_are_read_as_they_were_written() {
             assert_eq!(found, Ok(sheet), "{} {seed}", profile.name);
         }
     }
+}
+
+/// What 5 or 6 refuses stands in its bytes as what is accepted does.
+#[test]
+fn trees_are_found_where_ids_are_not_asked() {
+    let mut refused = [0; 7];
+    for seed in 0..4_000 {
+        let bytes = damaged(seed);
+        let found = tree(&bytes);
+        match read(&bytes) {
+            Err(refusal @ (5 | 6)) => {
+                let found = found.expect("a tree");
+                assert_eq!(bytes_of(&encode(&found)), bytes, "damaged {seed}");
+                refused[refusal as usize] += 1;
+            }
+            other => assert_eq!(found, other, "damaged {seed}"),
+        }
+    }
+    assert!(refused[5] > 20 && refused[6] > 20, "{refused:?}");
 }
 
 #[test]

@@ -12,6 +12,7 @@ use Rattle.grammar.specs.Corners.{Corners, rust, textbook}
 use Rattle.grammar.specs.Numbers.{parser}
 use Rattle.reference.specs.Substitute.{Limits}
 use Rattle.reference.specs.Run.{Stage, ended, eliminateMutualLeftRecursion, sheetAfter, stepsOf, encodeEntry, entriesOf, Outcome, filled}
+use Rattle.reference.specs.Run.{outcome}
 use Rattle.laws.specs.Demands.Shape.{Closed, Elements, LaterPastSymbols, NoLeftCorner, NoOptionalSymbol, OnlyPastSymbols, SameStrings}
 use Rattle.laws.specs.Demands.Run.{Bound, Demand3, PreservedStay, rulesOf}
 use Rattle.laws.specs.Demands.Trail.{OneOrigin, OriginsTold}
@@ -32,6 +33,13 @@ sameBytes bs result trail work =
     }
 
 module _ (limits : Limits) where
+  -- The pass has nothing to do on what it handed back: no plan, no step, no entry, the same bytes (SPECIFICATION 1.15).
+  abbrev pub OwnResult : Corners → Outcome → Type 0
+  OwnResult c o =
+      (result trail work : List ℕ) → Lent result trail work
+      → outcome limits c (take (o .resultLength) (o .result)) result trail work
+      ≡ sameBytes (take (o .resultLength) (o .result)) result trail work
+
   -- The sheet handed in and the sheet handed back, the run between them with all that is promised of one, and the four values
   -- and the trail as that run's. What is a left corner, and what is said of the second sort of alternative, is handed in.
   pub record Kept (c : Corners) (Without : List Rule → List ℕ → Elements → Type 0) (bs : List ℕ) (o : Outcome) : Type 0 where
@@ -52,6 +60,7 @@ module _ (limits : Limits) where
     pub stay : PreservedStay before stages
     pub origins : OriginsTold (entriesOf stages)
     pub oneOrigin : OneOrigin (entriesOf stages)
+    pub again : OwnResult c o
 
   -- The same of the Rust's run, with what is left of later cycles by the textbook's left corners (SPECIFICATION 14.8).
   pub record KeptRust (bs : List ℕ) (o : Outcome) : Type 0 where

@@ -14,8 +14,7 @@ use Rattle.reference.specs.Analysis.{grammarOf}
 use Rattle.reference.specs.Substitute.{Limits, Decided, overfull}
 use Rattle.reference.specs.Plan.{CyclePlan}
 use Rattle.reference.specs.Run.{innerDepth, Stage, stopped, eliminateMutualLeftRecursion, sheetAfter, entriesOf}
-use Rattle.grammar.specs.Numbers.{mostWords}
-use Rattle.grammar.specs.Numbers.{parser}
+use Rattle.grammar.specs.Numbers.{mostWords, parser}
 use Rattle.reference.specs.Numbers.{mostEntries, counterEnd}
 use Rattle.laws.specs.Demands.Shape.{NextCycle, Joins}
 use Rattle.laws.specs.Demands.Decision.{Decision}

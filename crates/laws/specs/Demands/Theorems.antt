@@ -31,12 +31,15 @@ use Rattle.laws.specs.Demands.Trail.{OneOrigin, OriginsTold, RecordedSo,
 use Rattle.laws.specs.Demands.Applied.{CopiesAlike, FreshIds, RemovesMost, RulesStay}
 use Rattle.laws.specs.Demands.Facts.{FactsStay}
 use Rattle.laws.specs.Demands.Answers.{Answered, ComesBack, ReadsBack}
-use Rattle.laws.specs.Demands.Examples.{NoMoreOfRust, NullableHubReturns}
+use Rattle.laws.specs.Demands.Examples.{NoMoreOfRust, NullableHubReturns, MarksShown}
 use Rattle.laws.specs.Demands.Hub.{HubTold}
 use Rattle.laws.specs.Demands.Decision.{Decision}
 use Rattle.laws.specs.Demands.Refusals.{HasRoom, RefusedSo}
 use Rattle.laws.specs.Demands.Table.{Row}
-use Rattle.laws.specs.Demands.Kept.{EveryCall}
+use Rattle.laws.specs.Demands.Kept.{OwnResult, EveryCall}
+use Rattle.laws.specs.Demands.Sameness.{TreeIn, same, none, Renames, Renamed, AlikeButCarried}
+use Rattle.laws.specs.Demands.Marks.{onSheet}
+use Rattle.laws.specs.Demands.WordSorts.{MarksTold}
 
 -- A sheet that is not refused, and its run.
 abbrev pub Ends : Limits → Corners → Sheet → List Stage → Type 0
@@ -133,3 +136,14 @@ pub record Theorems : Type 0 where
   -- 14, of every call on bytes: the row, and what it means of the bytes handed in and handed back.
   pub everyCall : (limits : Limits) (c : Corners) (bs result trail work : List ℕ) → AreBytes bs
       → EveryCall limits c bs result trail work (outcome limits c bs result trail work)
+  -- 15 to 17, runs compared, with the same limits and reading: on the pass's own result; and on two sheets that pass 1, 3 and 4.
+  pub ownResult : (limits : Limits) (c : Corners) (bs result trail work : List ℕ) → AreBytes bs
+      → outcome limits c bs result trail work .number ≡ 0 → OwnResult limits c (outcome limits c bs result trail work)
+  pub renamed : (limits : Limits) (c : Corners) (result trail work bs : List ℕ) → AreBytes bs → (t : Sheet) → TreeIn bs t
+      → (f : ℕ → ℕ) → Renames f t → Renamed limits c result trail work bs t f
+  pub carriedApart : (limits : Limits) (c : Corners) (result trail work bs : List ℕ) → AreBytes bs → (t : Sheet) → TreeIn bs t
+      → (bs′ : List ℕ) → AreBytes bs′ → (t′ : Sheet) → TreeIn bs′ t′ → onSheet same none t ≡ onSheet same none t′
+      → AlikeButCarried limits c result trail work bs bs′
+  -- What other names and carried numbers are: of every sheet by the sorts of its words, and of one sheet by its words.
+  pub marksTold : (s : Sheet) → MarksTold s
+  pub marksShown : MarksShown

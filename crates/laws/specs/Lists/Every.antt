@@ -1,10 +1,12 @@
--- Tests that each item of a list passes, by membership; what is in front and behind.
+-- Tests that each item of a list passes and properties that each has, by membership; what is in front and behind.
 use Prim.Native.Nat.{ℕ, zero, suc}
-use mathlib.Core.Path.{_≡_, refl}
-use mathlib.Core.List.{List, [], _∷_, List·Memᴰ, List·Memᴰ·head, List·Memᴰ·tail, List·Memᴰ·not-nil}
-use mathlib.Core.Bool.{Bool, true, false, _&&_, true≢false}
+use mathlib.Core.Path.{_≡_, refl, ap, _∙_}
+use mathlib.Core.List.{List, [], _∷_, _++_, List·Memᴰ, List·Memᴰ·head, List·Memᴰ·tail, List·Memᴰ·not-nil}
+use mathlib.Core.Bool.{Bool, true, false, _&&_, _||_, or-true, true≢false}
 use lib.ListN.{take, drop}
-use Rattle.grammar.specs.Lists.{all}
+use lib.Dec.{eqb}
+use borrow.Author.Tests.{eq-eqb}
+use Rattle.grammar.specs.Lists.{AllOf, all, member}
 use Rattle.grammar.specs.Laws.Parse.{both-true}
 
 module _ {A : Type 0} where
@@ -35,3 +37,21 @@ module _ {A : Type 0} where
   drop-in zero (x ∷ xs) m = m
   drop-in (suc i) [] m = m
   drop-in (suc i) (x ∷ xs) m = List·Memᴰ·tail (drop-in i xs m)
+
+-- A property of each number of two lists, one after the other, and of each member.
+module _ (P : ℕ → Type 0) where
+  pub left-of : (xs ys : List ℕ) → AllOf P (xs ++ ys) → AllOf P xs
+  left-of [] ys h = tt
+  left-of (x ∷ xs) ys h = (h .0, left-of xs ys (h .1))
+
+  pub right-of : (xs ys : List ℕ) → AllOf P (xs ++ ys) → AllOf P ys
+  right-of [] ys h = h
+  right-of (x ∷ xs) ys h = right-of xs ys (h .1)
+
+  pub all-members : (xs : List ℕ) → ((n : ℕ) → member n xs ≡ true → P n) → AllOf P xs
+  unfolding member
+  all-members [] h = tt
+  all-members (x ∷ xs) h = (
+    h x (ap (λ b. b || member x xs) (eq-eqb x x refl)),
+    all-members xs (λ n t. h n (ap (λ b. eqb n x || b) t ∙ or-true (eqb n x))),
+  )

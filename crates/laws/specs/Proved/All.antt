@@ -26,7 +26,9 @@ use Rattle.laws.specs.Proved.Applied.{one-origin-each, removes-all, copi
 use Rattle.laws.specs.Proved.Answered.{answered}
 use Rattle.laws.specs.Proved.Refusals.{stage-room, refused-so}
 use Rattle.laws.specs.Proved.Table.{table}
-use Rattle.laws.specs.Proved.Kept.{every-call}
+use Rattle.laws.specs.Proved.Kept.{own-result, every-call}
+use Rattle.laws.specs.Sameness.Outcomes.{renamed, carried-alike}
+use Rattle.laws.specs.Sameness.Sorts.{marks-told, marks-shown}
 
 numbers-bought : NumbersBought
 numbers-bought =
@@ -92,4 +94,9 @@ theorems =
       refusedSo = refused-so;
       table = table;
       everyCall = every-call;
+      ownResult = own-result;
+      renamed = renamed;
+      carriedApart = carried-alike;
+      marksTold = marks-told;
+      marksShown = marks-shown;
     }

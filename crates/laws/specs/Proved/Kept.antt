@@ -1,6 +1,6 @@
 -- What a call means: from the row of the table that it is in, all that is promised of the run in it.
 use Prim.Native.Nat.{ℕ, zero, suc, _<_, _≤_, _*_}
-use mathlib.Core.Path.{_≡_, refl, sym, ap, ap₂, _∙_}
+use mathlib.Core.Path.{_≡_, refl, sym, ap, ap₂, _∙_, subst}
 use mathlib.Core.Logic.{⊎-elim}
 use mathlib.Core.List.{List, [], _∷_, List·Memᴰ, List·Memᴰ·head, List·Memᴰ·tail}
 use native.Mathlib.Omega.{arith}
@@ -12,6 +12,7 @@ use Rattle.grammar.specs.Corners.{Corners, rust, textbook}
 use Rattle.grammar.specs.Laws.Words.{AreBytes, AreWords, words-bytes}
 use Rattle.grammar.specs.Laws.Codec.{accepted-valid}
 use Rattle.grammar.specs.Lists.{each}
+use Rattle.grammar.specs.Encode.{encode}
 use Rattle.grammar.specs.Numbers.{wordEnd}
 use Rattle.reference.specs.Substitute.{Limits}
 use Rattle.reference.specs.Run.{Stage, ended, eliminateMutualLeftRecursion, sheetAfter, stepsOf, encodeEntry, entriesOf, Outcome, filled}
@@ -20,7 +21,7 @@ use Rattle.laws.specs.Demands.Shape.{Elements, NoOptionalSymbol, NoLeftC
 use Rattle.laws.specs.Demands.Run.{Demand3}
 use Rattle.laws.specs.Demands.Table.{GoodLength, Fails, trailer, records, equalIds, highIds, Passes, trailWords, Delivered}
 use Rattle.laws.specs.Demands.Table.{Row, badLength, notLent, notRead, notEnded, isEnded}
-use Rattle.laws.specs.Demands.Kept.{Kept, KeptRust, Bought, EveryCall}
+use Rattle.laws.specs.Demands.Kept.{sameBytes, OwnResult, Kept, KeptRust, Bought, EveryCall}
 use Rattle.laws.specs.Running.Leaves.{Told}
 use Rattle.laws.specs.Running.Stages.{valid-told}
 use Rattle.laws.specs.Validity.Result.{good-of, run-room, entries-length}
@@ -31,7 +32,33 @@ use Rattle.laws.specs.Proved.Analysis.{origins-told, result-reads-back}
 use Rattle.laws.specs.Proved.Applied.{one-origin-each}
 use Rattle.laws.specs.Proved.Demand3.{bound, preserved-rules-stay}
 use Rattle.laws.specs.Proved.OtherUnits.{other-outcome}
+use Rattle.laws.specs.Sameness.Again.{again}
 use Rattle.laws.specs.Proved.Table.{length-good, lent-are, filled-none, trail-words, trail-entries, table}
+
+-- A buffer filled with nothing is zeros.
+nothing-else : (bs result trail work : List ℕ)
+    → record {
+      number = 0;
+      plans = 0;
+      steps = 0;
+      resultLength = length bs;
+      trailLength = 0;
+      result = filled bs result;
+      trail = filled [] trail;
+      work = filled [] work;
+    }
+    ≡ sameBytes bs result trail work
+nothing-else bs result trail work =
+    ap₂ (λ t w. record {
+      number = 0;
+      plans = 0;
+      steps = 0;
+      resultLength = length bs;
+      trailLength = 0;
+      result = filled bs result;
+      trail = t;
+      work = w;
+    }) (filled-none trail) (filled-none work)
 
 -- Numbers of which each is a word are words.
 in-words : (ws : List ℕ) → ((w : ℕ) → List·Memᴰ w ws → w < wordEnd) → AreWords ws
@@ -97,6 +124,15 @@ module _ (limits : Limits) (bs : List ℕ) (b : AreBytes bs) (result trail work 
         ∙ words-bytes (each encodeEntry (entriesOf ts)) (in-words (each encodeEntry (entriesOf ts))
         (run-room limits c s (x .run) (good-of s v f) .1))
 
+    -- What stands in the result has no plan left.
+    came-again : OwnResult limits c o
+    came-again r t w l =
+        let d = x .isDelivered in
+        let (v, f) = accepted-valid bs b s (x .reads) in
+        subst (λ bs. outcome limits c bs r t w ≡ sameBytes bs r t w)
+        (sym (ap (λ n. take n (o .result)) (d .resultLength) ∙ d .resultHolds .front))
+        (again limits c s v f ts (x .run) r t w (lent-are r t w l) ∙ nothing-else (bytes (encode (sheetAfter s ts))) r t w)
+
     came-kept : (Without : List Rule → List ℕ → Elements → Type 0) → Demand3 s limits c Without ts → Kept limits c Without bs o
     unfolding stepsOf
     came-kept Without demand =
@@ -121,6 +157,7 @@ module _ (limits : Limits) (bs : List ℕ) (b : AreBytes bs) (result trail work 
           stay = preserved-rules-stay limits c s told ts (x .run);
           origins = origins-told s v f limits c ts (x .run);
           oneOrigin = one-origin-each limits c s v ts (x .run) f;
+          again = came-again;
         }
 
   kept-textbook : Came textbook → Kept limits textbook NoLeftCorner bs o
@@ -159,6 +196,12 @@ module _ (limits : Limits) (bs : List ℕ) (b : AreBytes bs) (result trail work 
       }
   row-bought textbook r = record { everywhere = λ z. kept-textbook (row-came textbook r z) }
 
+pub own-result : (limits : Limits) (c : Corners) (bs result trail work : List ℕ) → AreBytes bs
+    → outcome limits c bs result trail work .number ≡ 0 → OwnResult limits c (outcome limits c bs result trail work)
+own-result limits c bs result trail work b z =
+    let o = outcome limits c bs result trail work in
+    came-again limits bs b result trail work o c (row-came limits bs b result trail work o c (table limits c bs result trail work) z)
+
 pub every-call : (limits : Limits) (c : Corners) (bs result trail work : List ℕ) → AreBytes bs
     → EveryCall limits c bs result trail work (outcome limits c bs result trail work)
 every-call limits c bs result trail work b =
@@ -167,15 +210,5 @@ every-call limits c bs result trail work b =
       row = r;
       bought = row-bought limits bs b result trail work (outcome limits c bs result trail work) c r;
       otherUnits = λ l s k n.
-          other-outcome limits c bs result trail work b s k n (lent-are result trail work l)
-          ∙ ap₂ (λ t w. record {
-            number = 0;
-            plans = 0;
-            steps = 0;
-            resultLength = length bs;
-            trailLength = 0;
-            result = filled bs result;
-            trail = t;
-            work = w;
-          }) (filled-none trail) (filled-none work);
+          other-outcome limits c bs result trail work b s k n (lent-are result trail work l) ∙ nothing-else bs result trail work;
     }

@@ -36,7 +36,7 @@ use Rattle.laws.specs.Running.Stopped.{StopsAt, by-search, by-plan, shee
 use Rattle.laws.specs.Validity.Result.{stages-short, stages-words, entries-length}
 
 -- The tests of length and buffers.
-good-length : (bs : List ℕ) → isLength (length bs) ≡ true → GoodLength bs
+pub good-length : (bs : List ℕ) → isLength (length bs) ≡ true → GoodLength bs
 good-length bs t =
     let rest = right-true (leb leastBytes (length bs)) _ t in
     record {
@@ -51,7 +51,7 @@ length-good bs g =
     (both-true _ _ (le-leb (length bs) mostBytes (g .most)) (eq-eqb (length bs % 4) 0 (g .whole)))
 
 module _ (result trail work : List ℕ) where
-  are-lent : areLent result trail work ≡ true → Lent result trail work
+  pub are-lent : areLent result trail work ≡ true → Lent result trail work
   unfolding areLent
   are-lent t =
       let rest = right-true (leb resultBytes (length result)) _ t in
@@ -101,7 +101,7 @@ judged ws = whole (isTrailer ws) refl
     whole false t = trailer t
 
 -- What a buffer holds that was filled.
-holds : (ws before : List ℕ) → 4 * length ws ≤ length before → Holds ws before (filled (bytes ws) before)
+pub holds : (ws before : List ℕ) → 4 * length ws ≤ length before → Holds ws before (filled (bytes ws) before)
 unfolding filled
 holds ws before l =
     let n = length-bytes ws in
@@ -130,7 +130,7 @@ trail-entries [] = refl
 trail-entries (t ∷ ts) = let l = length-append (t .after .entries) (entriesOf ts) in let h = trail-entries ts in omega arith
 
 -- Why a run stops: there is no other number.
-stop-numbers : (limits : Limits) (corners : Corners) (s : Sheet) (ts : List Stage) (n : ℕ)
+pub stop-numbers : (limits : Limits) (corners : Corners) (s : Sheet) (ts : List Stage) (n : ℕ)
     → eliminateMutualLeftRecursion limits corners s ≡ stopped ts n
     → (n ≡ 7) ⊎ ((n ≡ 8) ⊎ (n ≡ 9))
 stop-numbers limits corners s ts n e = number (sheet-stops limits corners s ts n e .1 .reason)
@@ -150,7 +150,7 @@ module _ (limits : Limits) (corners : Corners) (bs result trail work : List ℕ)
   -- A run that ended leaves a sheet and a trail for which there is room.
   module _ (g : GoodLength bs) (l : Lent result trail work) (s : Sheet) (k : read bs ≡ sheet s) (ts : List Stage)
       (u : eliminateMutualLeftRecursion limits corners s ≡ ended ts) where
-    result-fits : 4 * length (encode (sheetAfter s ts)) ≤ length result
+    pub result-fits : 4 * length (encode (sheetAfter s ts)) ≤ length result
     result-fits =
         let e = ap length (is-encoding-words bs s k) in
         let n = length-words bs in

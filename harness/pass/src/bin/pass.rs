@@ -2,17 +2,14 @@
 //! both its entries: the five numbers, and every byte of every buffer.
 
 use std::process::ExitCode;
-use std::time::Instant;
 
 use analysis::run::Difference;
 use analysis::stored::stored;
+use pass::program::{in_parts, run};
 use pass::proved::PROVED;
 use pass::run::{Run, side_by_side};
 use pass::tally::Tally;
-use reader::options::{Options, options};
-
-/// Sheets between two lines of progress.
-const PART: u64 = 20_000;
+use reader::options::Options;
 
 fn compared(options: &Options) -> Result<Tally, Difference> {
     let mut run = Run::new(PROVED);
@@ -21,16 +18,10 @@ fn compared(options: &Options) -> Result<Tally, Difference> {
     }
     let mut tally = run.tally;
     println!("stored sheets compared {}", tally.sheets());
-    let began = Instant::now();
-    for from in (0..options.count).step_by(PART as usize) {
-        let to = options.count.min(from + PART);
-        tally = tally.and(&side_by_side(PROVED, options.seed, from..to)?);
-        let seconds = began.elapsed().as_secs_f64();
-        println!(
-            "generated sheets compared {to} (seed {}, {seconds:.1} s)",
-            options.seed
-        );
-    }
+    in_parts(options, |numbers| {
+        tally = tally.and(&side_by_side(PROVED, options.seed, numbers)?);
+        Ok(())
+    })?;
     Ok(tally)
 }
 
@@ -56,22 +47,8 @@ fn show(tally: &Tally) {
 }
 
 fn main() -> ExitCode {
-    let options = match options() {
-        Ok(options) => options,
-        Err(what) => {
-            eprintln!("pass: {what}\nusage: pass [--count N] [--seed S]");
-            return ExitCode::from(2);
-        }
-    };
-    match compared(&options) {
-        Ok(tally) => {
-            show(&tally);
-            ExitCode::SUCCESS
-        }
-        Err(difference) => {
-            let last = format!("difference: {}: {}", difference.name, difference.what);
-            println!("{}{last}", difference.told());
-            ExitCode::FAILURE
-        }
-    }
+    run("pass", |options| {
+        show(&compared(options)?);
+        Ok(())
+    })
 }
