@@ -21,41 +21,29 @@ pub enum Number {
 
 pub const MOST: u64 = u64::MAX;
 
-/// The trees that are known so far: how many, and how deep the deepest is, in calls.
+/// The trees that are known so far.
 ///
 /// A number that has reached `MOST` grows unseen, but the depth does not: deeper trees
 /// are more trees.
 #[derive(Clone, Copy, Debug, Eq, PartialEq)]
 enum Trees {
-    Known { number: u64, depth: usize },
+    /// How many, and how deep the deepest is, in calls.
+    Known(u64, usize),
     WithoutEnd,
 }
 
 use Trees::{Known, WithoutEnd};
 
 impl Trees {
-    const NONE: Trees = Known {
-        number: 0,
-        depth: 0,
-    };
-    const ONE: Trees = Known {
-        number: 1,
-        depth: 0,
-    };
+    const NONE: Trees = Known(0, 0);
+    const ONE: Trees = Known(1, 0);
 
     /// One of these or one of those.
     fn or(self, other: Trees) -> Trees {
         match (self, other) {
-            (
-                Known { number, depth },
-                Known {
-                    number: more,
-                    depth: deep,
-                },
-            ) => Known {
-                number: number.saturating_add(more),
-                depth: depth.max(deep),
-            },
+            (Known(own, depth), Known(more, deep)) => {
+                Known(own.saturating_add(more), depth.max(deep))
+            }
             _ => WithoutEnd,
         }
     }
@@ -64,16 +52,9 @@ impl Trees {
     fn and(self, other: Trees) -> Trees {
         match (self, other) {
             (Trees::NONE, _) | (_, Trees::NONE) => Trees::NONE,
-            (
-                Known { number, depth },
-                Known {
-                    number: more,
-                    depth: deep,
-                },
-            ) => Known {
-                number: number.saturating_mul(more),
-                depth: depth.max(deep),
-            },
+            (Known(own, depth), Known(more, deep)) => {
+                Known(own.saturating_mul(more), depth.max(deep))
+            }
             _ => WithoutEnd,
         }
     }
@@ -81,10 +62,7 @@ impl Trees {
     fn below_a_call(self) -> Trees {
         match self {
             Trees::NONE | WithoutEnd => self,
-            Known { number, depth } => Known {
-                number,
-                depth: depth + 1,
-            },
+            Known(number, depth) => Known(number, depth + 1),
         }
     }
 
@@ -98,7 +76,7 @@ impl Trees {
 
     fn number(self) -> Number {
         match self {
-            Known { number, .. } => Number::Finite(number),
+            Known(number, _) => Number::Finite(number),
             WithoutEnd => Number::WithoutEnd,
         }
     }

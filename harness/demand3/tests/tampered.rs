@@ -48,7 +48,8 @@ fn a_string_more_is_seen() {
 /// Of each sheet, what becomes of the alternatives of e, the same strings being left.
 #[test]
 fn a_tree_more_or_less_is_seen() {
-    let changes: [(&str, fn(&mut Vec<Alternative>)); 4] = [
+    type Change = fn(&mut Vec<Alternative>);
+    let changes: [(&str, Change); 4] = [
         ("e: a | X; a: e Y | e Y;", |all| drop(all.remove(1))),
         ("e: a? Z | X; a: e Y | ;", |all| drop(all.remove(2))),
         ("e: a? Z | X; a: e Y;", |all| all.insert(1, all[1].clone())),

@@ -7,12 +7,13 @@ use demand3::strings::{Symbol, symbol};
 use sheets::tree::{Alternative, Element, Kind, Sheet};
 
 type Texts = BTreeSet<String>;
+/// The name of a rule, a string, and the depth that is left.
+type Asked = (u32, Vec<Symbol>, usize);
 
 pub struct Lister<'a> {
     sheet: &'a Sheet,
     slots: bool,
-    /// By the name of a rule, a string and the depth that is left.
-    known: RefCell<BTreeMap<(u32, Vec<Symbol>, usize), Texts>>,
+    known: RefCell<BTreeMap<Asked, Texts>>,
 }
 
 impl<'a> Lister<'a> {
