@@ -10,3 +10,4 @@ pub mod Empty
 pub mod Corner
 pub mod Elements
 pub mod Rules
+pub mod Trees

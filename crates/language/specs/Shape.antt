@@ -14,6 +14,7 @@ pub data Symbol : Type 0 where
   tokenSymbol : (name : ℕ) → Symbol
   unknownSymbol : (name : ℕ) → Symbol
   otherSymbol : (carried : ℕ) → Symbol
+  deriving IsSet as Symbol-set′
 
 -- A token string.
 abbrev pub Word : Type 0
@@ -30,6 +31,7 @@ pub data Shape : Type 0 where
   opt : Shape → Shape
   star : Shape → Shape
   plus : Shape → Shape
+  deriving IsSet as Shape-set′
 
 -- One after the other.
 abbrev pub seqs : List Shape → Shape

@@ -1,8 +1,9 @@
--- What is promised of the definition: properties, numbered 1 to 17, two sheets on which more cannot be had, and one whose words tell
--- what other names and carried numbers are; Theorems says of what each property holds. The proof is in Proved.
+-- What is promised of the definition: properties, numbered 1 to 17, and sheets that show where a promise ends or what is meant;
+-- Theorems says of what each property holds. The proof is in Proved.
 pub mod Numbers
 pub mod Analysis
 pub mod Shape
+pub mod Readings
 pub mod Run
 pub mod Step
 pub mod Substitution

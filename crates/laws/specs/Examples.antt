@@ -1,5 +1,5 @@
--- Three sheets that Demands names, and what the run makes of two of them.
-use Prim.Native.Nat.{ℕ}
+-- Sheets that Demands names, what the run makes of them, and what it must not make of them.
+use Prim.Native.Nat.{ℕ, zero, suc}
 use mathlib.Core.List.{List, [], _∷_}
 use Rattle.grammar.specs.Numbers.{once, optionalGreedy, attribute, nonLocal}
 use Rattle.grammar.specs.Tree.{unlabelled, labelled, ElementHead, action, predicate, call, token, terminal, Element, leaf, block, Block}
@@ -88,3 +88,51 @@ everySort =
     }
     ∷ rule 2 10 []
     ∷ [])
+
+-- e: a? DOTS | INT; a: e PLUS | ; where e is 1, a 2, INT 3, PLUS 4, DOTS 5.
+abbrev pub doubling : Sheet
+doubling =
+    unit (counted 14 25) []
+    (rule 1 1
+    (alternative 10 (element 20 optionalGreedy (callTo 2) ∷ element 21 once (token 5) ∷ [])
+    ∷ alternative 11 (element 22 once (token 3) ∷ [])
+    ∷ [])
+    ∷ rule 2 2 (alternative 12 (element 23 once (callTo 1) ∷ element 24 once (token 4) ∷ []) ∷ alternative 13 [] ∷ [])
+    ∷ [])
+
+-- e: e PLUS DOTS | DOTS | DOTS | INT;
+abbrev pub doubled : List Rule
+doubled =
+    rule 1 1
+    (alternative 14 (element 25 once (callTo 1) ∷ element 26 once (token 4) ∷ element 27 once (token 5) ∷ [])
+    ∷ alternative 15 (element 28 once (token 5) ∷ [])
+    ∷ alternative 16 (element 29 once (token 5) ∷ [])
+    ∷ alternative 11 (element 22 once (token 3) ∷ [])
+    ∷ [])
+    ∷ []
+
+-- The same without the second of the two equal alternatives: e: e PLUS DOTS | DOTS | INT;
+abbrev pub merged : List Rule
+merged =
+    rule 1 1
+    (alternative 14 (element 25 once (callTo 1) ∷ element 26 once (token 4) ∷ element 27 once (token 5) ∷ [])
+    ∷ alternative 15 (element 28 once (token 5) ∷ [])
+    ∷ alternative 11 (element 22 once (token 3) ∷ [])
+    ∷ [])
+    ∷ []
+
+-- e: T; where T is any token.
+abbrev pub single : (name : ℕ) → List Rule
+single t = rule 1 1 (alternative 10 (element 20 once (token t) ∷ []) ∷ []) ∷ []
+
+-- So many tokens INT.
+abbrev pub ints : ℕ → List (Element (Block innerDepth))
+ints zero = []
+ints (suc n) = element n once (token 3) ∷ ints n
+
+-- e: INT … INT | INT … INT; and e: INT … INT; with so many in each.
+abbrev pub rowTwice : ℕ → List Rule
+rowTwice n = rule 1 1 (alternative 10 (ints n) ∷ alternative 11 (ints n) ∷ []) ∷ []
+
+abbrev pub rowOnce : ℕ → List Rule
+rowOnce n = rule 1 1 (alternative 10 (ints n) ∷ []) ∷ []

@@ -20,6 +20,7 @@ pub mod Removed
 pub mod Renumber
 pub mod Erased
 pub mod OnePlan
+pub mod Paired
 pub mod Settled
 pub mod Chain
 pub mod Endless

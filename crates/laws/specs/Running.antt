@@ -3,6 +3,7 @@ pub mod Leaves
 pub mod Refused
 pub mod Search
 pub mod Stages
+pub mod Readings
 pub mod Stopped
 pub mod OneStage
 pub mod Joined

@@ -3,12 +3,14 @@
 
 pub mod corners;
 pub mod grammars;
+pub mod readings;
 pub mod strings;
 
 use std::collections::{BTreeMap, BTreeSet};
 
 use corners::{Grammar, Reading};
 use oracle::{Done, ask_sheet};
+use readings::{Census, Numbers, Table};
 use sheets::codec;
 use sheets::tree::{Alternative, Kind, Rule, Sheet};
 use sheets::walk;
@@ -19,6 +21,8 @@ use strings::{EMPTY_STRING, Languages};
 pub enum Fault {
     /// A kept rule derives other strings than before.
     Strings,
+    /// A kept rule has another number of derivation trees for a string than before.
+    Readings,
     /// A rule of the result calls a removed one.
     Closed,
     /// An alternative of a joined rule is of neither sort.
@@ -66,14 +70,30 @@ pub fn has_optional_symbol(sheet: &Sheet) -> bool {
     elements.any(|one| one.may_be_absent() && strings::symbol(one, sheet).is_some())
 }
 
+/// What was found of an answer.
+#[derive(Clone, Debug, Default)]
+pub struct Checked {
+    pub faults: BTreeSet<Fault>,
+    /// Of the rules that are kept, where there is a plan.
+    pub trees: Census,
+}
+
 /// What does not hold of the original's answer. `None`: there are too many
 /// symbols to enumerate.
 pub fn faults(sheet: &Sheet, done: &Done) -> Option<BTreeSet<Fault>> {
+    checked(sheet, done).map(|found| found.faults)
+}
+
+/// The same, and what was counted.
+pub fn checked(sheet: &Sheet, done: &Done) -> Option<Checked> {
     let all: Vec<&Sheet> = std::iter::once(sheet)
         .chain(done.stages.iter().map(|stage| &stage.after))
         .collect();
     if all.iter().any(|after| !closed(sheet, after)) {
-        return Some(BTreeSet::from([Fault::Closed]));
+        return Some(Checked {
+            faults: BTreeSet::from([Fault::Closed]),
+            ..Checked::default()
+        });
     }
     let alphabet = strings::alphabet(all.iter().copied())?;
     let languages: Vec<Languages> = all
@@ -85,8 +105,19 @@ pub fn faults(sheet: &Sheet, done: &Done) -> Option<BTreeSet<Fault>> {
         .zip(&languages)
         .map(|(sheet, languages)| Grammar { sheet, languages })
         .collect();
-    let mut found = BTreeSet::new();
-    Run { done, grammars }.check(&mut found);
+    let mut found = Checked::default();
+    if done.plans() > 0 {
+        let table = Table::up_to(strings::LONGEST, &alphabet);
+        let numbers: Vec<Numbers> = all
+            .iter()
+            .map(|grammar| readings::numbers(grammar, &table))
+            .collect();
+        if !readings::agree(&numbers) {
+            found.faults.insert(Fault::Readings);
+        }
+        found.trees = Census::of(numbers.last().expect("a run has a grammar"));
+    }
+    Run { done, grammars }.check(&mut found.faults);
     Some(found)
 }
 

@@ -5,7 +5,8 @@ use std::collections::BTreeMap;
 use std::process::ExitCode;
 
 use demand3::grammars::{ALL, from_seed, numbered};
-use demand3::{Fault, faults, has_optional_symbol};
+use demand3::readings::Census;
+use demand3::{Fault, checked, has_optional_symbol};
 use oracle::ask_sheet;
 use sheets::codec;
 use sheets::names::Names;
@@ -17,6 +18,7 @@ struct Tally {
     checked: usize,
     joined: usize,
     plans: usize,
+    trees: Census,
     /// By fault and by whether the grammar has an optional symbol: how often, and
     /// the smallest grammar.
     faults: BTreeMap<(Fault, bool), (usize, Sheet)>,
@@ -30,13 +32,14 @@ impl Tally {
             self.checked += 1;
             return;
         };
-        let Some(found) = faults(sheet, &done) else {
+        let Some(found) = checked(sheet, &done) else {
             return;
         };
         self.checked += 1;
         self.joined += usize::from(done.plans() > 0);
         self.plans += done.plans();
-        for fault in found {
+        self.trees.add(found.trees);
+        for fault in found.faults {
             let key = (fault, has_optional_symbol(sheet));
             let (times, smallest) = self.faults.entry(key).or_insert((0, sheet.clone()));
             *times += 1;
@@ -50,6 +53,12 @@ impl Tally {
         println!(
             "{} grammars, {} joined, {} plans",
             self.checked, self.joined, self.plans
+        );
+        let trees = &self.trees;
+        println!(
+            "trees of a kept rule for a string, where joined: none {}, one {}, several {} (at most {}), \
+             too many to count {}, without end {}",
+            trees.none, trees.one, trees.several, trees.greatest, trees.most, trees.without_end
         );
         for ((fault, optional), (times, smallest)) in &self.faults {
             let optional = if *optional { "with" } else { "without" };

@@ -1,11 +1,12 @@
-//! Demand 3 (SPECIFICATION 1.5 to 1.8) on the original's answers: finding 1 of
-//! docs/DIFFERENCES.md, and no other on the grammars that are run here.
+//! Demand 3 (SPECIFICATION 1.5 to 1.8) and numbers of trees on the original's answers:
+//! finding 1 of docs/DIFFERENCES.md, and no other on the grammars that are run here.
 
 use std::collections::BTreeSet;
 
 use demand3::corners::Reading::Textbook;
 use demand3::grammars::{ALL, from_seed, numbered};
-use demand3::{Fault, faults, has_optional_symbol};
+use demand3::readings::Census;
+use demand3::{Fault, checked, faults, has_optional_symbol};
 use oracle::ask_sheet;
 use sheets::codec::encode;
 use sheets::parse::{parse, sheet};
@@ -63,35 +64,41 @@ fn all_alternatives_can_be_of_one_sort_by_textbook_corners() {
     assert!(found(smallest).contains(&Fault::BothSorts(Textbook)));
 }
 
-/// Checks a grammar and says whether it was joined.
-fn holds(given: &Sheet, what: &str) -> bool {
-    let Ok(done) = ask_sheet(given) else {
-        return false;
-    };
-    let Some(found) = faults(given, &done) else {
-        return false;
-    };
-    for fault in found {
+/// Checks a grammar, and gives what was counted where it was joined.
+fn holds(given: &Sheet, what: &str) -> Option<Census> {
+    let done = ask_sheet(given).ok()?;
+    let found = checked(given, &done)?;
+    for fault in found.faults {
         assert!(
             fault.is_by_textbook_corners() && has_optional_symbol(given),
             "{what}: {fault:?}"
         );
     }
-    done.plans() > 0
+    (done.plans() > 0).then_some(found.trees)
+}
+
+/// How many were joined, and the numbers of trees of all.
+fn summed(joined: impl Iterator<Item = Census>) -> (usize, Census) {
+    joined.fold((0, Census::default()), |(count, mut sum), one| {
+        sum.add(one);
+        (count + 1, sum)
+    })
 }
 
 #[test]
 fn no_other_fault_in_grammars_from_seeds() {
-    let joined = (0..9_000).filter(|seed| {
-        from_seed(*seed).is_some_and(|given| holds(&given, &format!("seed {seed}")))
-    });
-    assert!(joined.count() > 2_000);
+    let joined = (0..9_000).filter_map(|seed| holds(&from_seed(seed)?, &format!("seed {seed}")));
+    let (count, trees) = summed(joined);
+    assert!(count > 2_000);
+    assert!(trees.one > 10_000 && trees.several > 1_500 && trees.without_end > 10);
 }
 
 #[test]
 fn no_other_fault_in_every_997th_enumerated_grammar() {
     let joined = (0..ALL)
         .step_by(997)
-        .filter(|number| holds(&numbered(*number), &format!("number {number}")));
-    assert!(joined.count() > 10);
+        .filter_map(|number| holds(&numbered(number), &format!("number {number}")));
+    let (count, trees) = summed(joined);
+    assert!(count > 10);
+    assert!(trees.several > 100 && trees.without_end > 50);
 }

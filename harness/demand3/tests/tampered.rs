@@ -7,7 +7,7 @@ use demand3::corners::Reading::{Original, Textbook};
 use demand3::{Fault, faults};
 use oracle::{Done, ask_sheet};
 use sheets::parse::sheet;
-use sheets::tree::Sheet;
+use sheets::tree::{Alternative, Sheet};
 
 fn after(grammar: &str, tamper: impl Fn(&Sheet, &mut Done)) -> BTreeSet<Fault> {
     let given = sheet(grammar);
@@ -43,6 +43,27 @@ fn a_string_more_is_seen() {
         put(done, changed);
     });
     assert!(found.contains(&Fault::Strings) && found.contains(&Fault::BothSorts(Original)));
+}
+
+/// Of each sheet, what becomes of the alternatives of e, the same strings being left.
+#[test]
+fn a_tree_more_or_less_is_seen() {
+    type Change = fn(&mut Vec<Alternative>);
+    let changes: [(&str, Change); 4] = [
+        ("e: a | X; a: e Y | e Y;", |all| drop(all.remove(1))),
+        ("e: a? Z | X; a: e Y | ;", |all| drop(all.remove(2))),
+        ("e: a? Z | X; a: e Y;", |all| all.insert(1, all[1].clone())),
+        ("e: a | X | X; a: e Y;", |all| drop(all.pop())),
+    ];
+    for (grammar, change) in changes {
+        let found = after(grammar, |_, done| {
+            let mut changed = done.result.clone();
+            change(&mut changed.rules[0].alternatives);
+            put(done, changed);
+        });
+        assert!(found.contains(&Fault::Readings), "{grammar}: {found:?}");
+        assert!(!found.contains(&Fault::Strings), "{grammar}: {found:?}");
+    }
 }
 
 #[test]

@@ -1,7 +1,7 @@
 //! Grammars written by hand: points that are easily misread, and one for each clause
 //! (SPECIFICATION 10) with the nearest grammar that is joined.
 
-pub const WRITTEN: [&str; 96] = [
+pub const WRITTEN: [&str; 99] = [
     // Left corners stop at a symbol, whatever its quantifier.
     "e: a | INT; a: e PLUS | NAME? e MINUS;",
     "e: a; a: e . | .? e;",
@@ -115,4 +115,8 @@ pub const WRITTEN: [&str; 96] = [
     // Options that are there twice, and a slot's options for each expansion.
     "e: <o=1> a | INT; a: <o=1,o=1> e PLUS;",
     "e: <o=1> a | <p=1> INT; a: <q=1> e PLUS | <r=1> NAME;",
+    // Alternatives that are there twice: each is a tree of its own, before and after.
+    "e: a | INT; a: e PLUS | e PLUS;",
+    "e: a? DOTS | INT; a: e PLUS | ;",
+    "e: a | INT | INT; a: e PLUS;",
 ];

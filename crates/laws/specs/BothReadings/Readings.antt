@@ -145,6 +145,10 @@ with-shape s limits corners f x =
     record {
       sameStrings = x .sameStrings;
       sameBetween = x .sameBetween;
+      sameReadings = x .sameReadings;
+      readingsTold = x .readingsTold;
+      readingsBetween = x .readingsBetween;
+      toldBetween = x .toldBetween;
       closed = x .closed;
       closedBetween = x .closedBetween;
       joins = x .joins;

@@ -1,21 +1,28 @@
--- Two sheets on which more cannot be had (SPECIFICATION 14.2 and 13.16), and one whose names and carried numbers are changed (18).
-use Prim.Native.Nat.{ℕ, _+_}
+-- Two sheets on which more cannot be had (SPECIFICATION 14.2 and 13.16), one whose readings are told one by one (13.18), what would be
+-- too little to say of readings, and one whose names and carried numbers are changed (18).
+use Prim.Native.Nat.{ℕ, suc, _+_, _≤_}
 use mathlib.Core.Path.{_≡_}
+use mathlib.Core.Logic.{_⊎_}
+use mathlib.Core.Equiv.{Iso}
 use mathlib.Core.List.{List, [], _∷_, map, List·Memᴰ}
 use mathlib.Core.Bool.{true, false}
+use lib.ListN.{length}
 use Rattle.grammar.specs.Lists.{member}
-use Rattle.grammar.specs.Tree.{bodyDepth}
+use Rattle.grammar.specs.Tree.{bodyDepth, Rule}
 use Rattle.grammar.specs.Encode.{encode}
 use Rattle.grammar.specs.Valid.{valid}
-use Rattle.language.specs.Shape.{eraseRules}
-use Rattle.language.specs.Derive.{RuleDerives}
+use Rattle.language.specs.Shape.{tokenSymbol, Word, Shape, Shapes, eraseRules}
+use Rattle.language.specs.Derive.{Der, RuleDerives, isKept}
+use Rattle.language.specs.Readings.{Tree, t-eps, t-symbol, t-call, t-unknown, t-seq, t-left, t-right, t-absent, t-present, t-none}
+use Rattle.language.specs.Readings.{t-more, t-some, yield, Choice, first, next, absent, present, enough, again, choices, treeOf}
 use Rattle.grammar.specs.Corners.{Corners, rust, textbook}
 use Rattle.language.specs.Cycles.{LeftCorner}
 use Rattle.reference.specs.Analysis.{grammarOf, leftCornerCycles}
 use Rattle.reference.specs.Substitute.{standard}
 use Rattle.reference.specs.Run.{innerDepth, Stage, ended, eliminateMutualLeftRecursion, answer}
-use Rattle.laws.specs.Examples.{parting, behindName, parted, returning, returned, everySort}
-use Rattle.laws.specs.Demands.Shape.{NoLeftCorner}
+use Rattle.laws.specs.Examples.{parting, behindName, parted, returning, returned, everySort, doubling, doubled, merged, single}
+use Rattle.laws.specs.Examples.{rowTwice, rowOnce}
+use Rattle.laws.specs.Demands.Shape.{NoLeftCorner, NoCorner, SameReadings, SameStrings}
 use Rattle.laws.specs.Demands.Run.{Demand3, rulesOf}
 use Rattle.laws.specs.Demands.Marks.{onSheet, namesIn}
 
@@ -80,3 +87,84 @@ pub record MarksShown : Type 0 where
       ∷ 2 ∷ 110 ∷ 0 ∷ 0
       ∷ 2
       ∷ 2 ∷ 80 ∷ 1 ∷ 7 ∷ 8 ∷ 5 ∷ 2 ∷ 2 ∷ []
+
+-- The string DOTS.
+abbrev pub dots : Word
+dots = tokenSymbol 5 ∷ []
+
+-- No optional of a tree is there and empty.
+unfoldable pub Filled : {G : Shapes} {s : Shape} → Tree G s → Type 0
+Filled t-eps = Unit {0}
+Filled t-symbol = Unit {0}
+Filled (t-call e x) = Filled x
+Filled (t-unknown e) = Unit {0}
+Filled (t-seq x y) = Filled x × Filled y
+Filled (t-left x) = Filled x
+Filled (t-right x) = Filled x
+Filled t-absent = Unit {0}
+Filled (t-present x) = (yield x ≡ [] → ⊥) × Filled x
+Filled t-none = Unit {0}
+Filled (t-more x y) = Filled x × Filled y
+Filled (t-some x y) = Filled x × Filled y
+
+-- Choices without slots.
+unfoldable pub slotless : List Choice → List Choice
+slotless [] = []
+slotless (first ∷ cs) = slotless cs
+slotless (next ∷ cs) = slotless cs
+slotless (absent ∷ cs) = absent ∷ slotless cs
+slotless (present ∷ cs) = present ∷ slotless cs
+slotless (enough ∷ cs) = enough ∷ slotless cs
+slotless (again ∷ cs) = again ∷ slotless cs
+
+-- All derivations of DOTS are one, if slots are not looked at.
+abbrev pub OneWithoutSlots : List Rule → Type 0
+OneWithoutSlots rs =
+    (x y : RuleDerives bodyDepth rs 1 dots) → slotless (choices (treeOf (x .tree))) ≡ slotless (choices (treeOf (y .tree)))
+
+-- SPECIFICATION 13.18. In `e: a? DOTS | INT; a: e PLUS | ;` DOTS has two readings: a is absent, or it is there and empty. Of this the
+-- run makes `e: e PLUS DOTS | DOTS | DOTS | INT;`, where the one is the third alternative and the other the second.
+pub record TwoReadings (corners : Corners) : Type 0 where
+  pub isValid : valid doubling ≡ true
+  pub stages : List Stage
+  pub run : eliminateMutualLeftRecursion standard corners doubling ≡ ended stages
+  pub answer : rulesOf doubling stages ≡ doubled
+  pub without : RuleDerives bodyDepth (doubling .rules) 1 dots
+  pub withoutChooses : choices (treeOf (without .tree)) ≡ first ∷ absent ∷ []
+  pub empty : RuleDerives bodyDepth (doubling .rules) 1 dots
+  pub emptyChooses : choices (treeOf (empty .tree)) ≡ first ∷ present ∷ next ∷ first ∷ []
+  pub noMore : (x : RuleDerives bodyDepth (doubling .rules) 1 dots) → (x ≡ without) ⊎ (x ≡ empty)
+  -- What demand 3 pairs with each of them.
+  pub withoutPaired : (d : Demand3 doubling standard corners (NoCorner corners) stages)
+      (k : isKept (doubling .rules) (rulesOf doubling stages) 1 ≡ true)
+      → choices (treeOf (d .sameReadings .pairs 1 k dots .fun without .tree)) ≡ next ∷ next ∷ first ∷ []
+  pub emptyPaired : (d : Demand3 doubling standard corners (NoCorner corners) stages)
+      (k : isKept (doubling .rules) (rulesOf doubling stages) 1 ≡ true)
+      → choices (treeOf (d .sameReadings .pairs 1 k dots .fun empty .tree)) ≡ next ∷ first ∷ []
+
+-- What cannot be said instead, on the same sheet.
+pub record NoOtherReadings : Type 0 where
+  -- Equal strings are not enough: without one of the two equal alternatives all strings stay, and a reading is lost.
+  pub sameStrings : SameStrings (doubling .rules) merged
+  pub readingLost : SameReadings (doubling .rules) merged → ⊥
+  -- An optional that is there cannot be asked not to be empty: before, one of the two readings of DOTS is left; after, both are.
+  pub notFilled : Iso ((x : RuleDerives bodyDepth (doubling .rules) 1 dots) × Filled (treeOf (x .tree)))
+      ((y : RuleDerives bodyDepth doubled 1 dots) × Filled (treeOf (y .tree)))
+      → ⊥
+  -- Slots cannot be left out of a reading: without them DOTS has one after, and not before.
+  pub oneAfter : OneWithoutSlots doubled
+  pub notBefore : OneWithoutSlots (doubling .rules) → ⊥
+  -- Nor can all shapes be asked for: a call of the rule removed is another thing after it.
+  pub notAllShapes : ((s : Shape) (w : Word)
+      → Iso (Der (eraseRules bodyDepth (doubling .rules)) s w) (Der (eraseRules bodyDepth doubled) s w))
+      → ⊥
+
+-- What would be too little.
+pub record TooLittle : Type 0 where
+  -- A pairing of all readings that forgets the string lets INT become PLUS.
+  pub forgetful : Iso ((w : Word) × RuleDerives bodyDepth (single 3) 1 w) ((w : Word) × RuleDerives bodyDepth (single 4) 1 w)
+  pub otherString : SameStrings (single 3) (single 4) → ⊥
+  -- Numbers of readings up to a length, whatever it is, let one go behind it.
+  pub shortOnes : (n : ℕ) (w : Word) → length w ≤ n
+      → Iso (RuleDerives bodyDepth (rowTwice (suc n)) 1 w) (RuleDerives bodyDepth (rowOnce (suc n)) 1 w)
+  pub longOne : (n : ℕ) → SameReadings (rowTwice (suc n)) (rowOnce (suc n)) → ⊥

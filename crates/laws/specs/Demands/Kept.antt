@@ -14,6 +14,7 @@ use Rattle.reference.specs.Substitute.{Limits}
 use Rattle.reference.specs.Run.{Stage, ended, eliminateMutualLeftRecursion, sheetAfter, stepsOf, encodeEntry, entriesOf, Outcome, filled}
 use Rattle.reference.specs.Run.{outcome}
 use Rattle.laws.specs.Demands.Shape.{Closed, Elements, LaterPastSymbols, NoLeftCorner, NoOptionalSymbol, OnlyPastSymbols, SameStrings}
+use Rattle.laws.specs.Demands.Shape.{SameReadings}
 use Rattle.laws.specs.Demands.Run.{Bound, Demand3, PreservedStay, rulesOf}
 use Rattle.laws.specs.Demands.Trail.{OneOrigin, OriginsTold}
 use Rattle.laws.specs.Demands.Table.{Lent, Row, zeros}
@@ -54,6 +55,7 @@ module _ (limits : Limits) where
     pub steps : stepsOf stages ≡ o .steps
     pub trail : words (take (o .trailLength) (o .trail)) ≡ each encodeEntry (entriesOf stages)
     pub strings : SameStrings (before .rules) (after .rules)
+    pub readings : SameReadings (before .rules) (after .rules)
     pub closed : Closed (before .rules) (after .rules)
     pub demand3 : Demand3 before limits c Without stages
     pub bound : Bound before limits c stages

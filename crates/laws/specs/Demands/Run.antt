@@ -12,7 +12,8 @@ use Rattle.grammar.specs.Numbers.{parser}
 use Rattle.reference.specs.Analysis.{grammarOf, leftCornerCycles}
 use Rattle.reference.specs.Substitute.{Limits}
 use Rattle.reference.specs.Run.{Stage, eliminateInUnit, eliminateMutualLeftRecursion, sheetAfter}
-use Rattle.laws.specs.Demands.Shape.{Closed, Declined, Elements, JoinedShape, Joins, NoLaterCycle, SameStrings}
+use Rattle.laws.specs.Demands.Readings.{ReadingsTold}
+use Rattle.laws.specs.Demands.Shape.{Closed, Declined, Elements, JoinedShape, Joins, NoLaterCycle, SameReadings, SameStrings}
 
 -- No cycle of a sheet's rules has a plan: the run ends there (SPECIFICATION 5.2).
 abbrev pub EveryCycleDeclined : Limits → Corners → Sheet → Type 0
@@ -39,6 +40,12 @@ module _ (s : Sheet) where
     pub sameStrings : SameStrings (s .rules) (rulesOf stages)
     pub sameBetween : (front middle rest : List Stage) → front ++ (middle ++ rest) ≡ stages
         → SameStrings (rulesOf front) (rulesOf (front ++ middle))
+    pub sameReadings : SameReadings (s .rules) (rulesOf stages)
+    pub readingsTold : ReadingsTold (s .rules) stages (rulesOf stages) sameReadings
+    pub readingsBetween : (front middle rest : List Stage) → front ++ (middle ++ rest) ≡ stages
+        → SameReadings (rulesOf front) (rulesOf (front ++ middle))
+    pub toldBetween : (front middle rest : List Stage) (w : front ++ (middle ++ rest) ≡ stages)
+        → ReadingsTold (rulesOf front) middle (rulesOf (front ++ middle)) (readingsBetween front middle rest w)
     pub closed : Closed (s .rules) (rulesOf stages)
     pub closedBetween : (front middle rest : List Stage) → front ++ (middle ++ rest) ≡ stages
         → Closed (rulesOf front) (rulesOf (front ++ middle))

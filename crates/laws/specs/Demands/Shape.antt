@@ -4,6 +4,7 @@ use Prim.Native.Nat.{ℕ}
 use mathlib.Core.Path.{_≡_}
 use mathlib.Core.Logic.{_↔_, _⊎_}
 use mathlib.Core.List.{List, [], _∷_, _++_, List·Memᴰ}
+use mathlib.Core.Equiv.{Iso}
 use mathlib.Core.Option.{none}
 use mathlib.Core.Bool.{true, false}
 use Rattle.grammar.specs.Lists.{AnyOf, member}
@@ -27,6 +28,12 @@ Elements = List (Element (Block innerDepth))
 -- 4. Every rule that is kept derives the same token strings before and after (SPECIFICATION 1.5 and 13.12).
 pub record SameStrings (before after : List Rule) : Type 0 where
   pub derives : (i : ℕ) → isKept before after i ≡ true → (w : Word) → RuleDerives bodyDepth before i w ↔ RuleDerives bodyDepth after i w
+
+-- 4a. The derivations of every rule that is kept pair off, string by string: no sentence gains or loses a reading
+-- (SPECIFICATION 1.14 and 13.17). Which is paired with which: 4b, in Readings.
+pub record SameReadings (before after : List Rule) : Type 0 where
+  pub pairs : (i : ℕ) → isKept before after i ≡ true → (w : Word)
+      → Iso (RuleDerives bodyDepth before i w) (RuleDerives bodyDepth after i w)
 
 -- 5. No rule that is kept calls one that is removed (SPECIFICATION 1.6).
 pub record Closed (before after : List Rule) : Type 0 where

@@ -2,15 +2,16 @@
 use Prim.Native.Nat.{ℕ, suc}
 use mathlib.Core.Path.{_≡_}
 use mathlib.Core.Logic.{_↔_}
-use mathlib.Core.List.{List, _∷_, _++_, map, List·Memᴰ}
+use mathlib.Core.List.{List, [], _∷_, _++_, map, List·Memᴰ}
 use mathlib.Core.Option.{some}
 use mathlib.Core.Bool.{true}
 use Rattle.grammar.specs.Lists.{AllOf}
-use Rattle.grammar.specs.Tree.{OptionDecl, ElementHead, Call, Element, leaf, call, Block, RuleOf, Sheet, bodyDepth, Alternative}
+use Rattle.grammar.specs.Tree.{OptionDecl, ElementHead, Call, Element, leaf, call, Block, RuleOf, Rule, Sheet, bodyDepth, Alternative}
 use Rattle.grammar.specs.Valid.{valid, fits}
 use Rattle.grammar.specs.Reading.{sheet, read}
 use Rattle.grammar.specs.Laws.Words.{AreBytes}
 use Rattle.language.specs.Shape.{Shapes}
+use Rattle.language.specs.Laws.Cover.{ButFor}
 use Rattle.grammar.specs.Corners.{Corners, rust, textbook}
 use Rattle.grammar.specs.Numbers.{parser, once}
 use Rattle.reference.specs.Analysis.{Grammar, target, grammarOf}
@@ -23,6 +24,7 @@ use Rattle.reference.specs.Plan.{chooseHub, satelliteIsInlinable, planCycle}
 use Rattle.laws.specs.Demands.Numbers.{NumbersBought}
 use Rattle.laws.specs.Demands.Analysis.{CyclesListed, EmptyDerivation, LeftCornersListed, TextbookCorners}
 use Rattle.laws.specs.Demands.Shape.{LaterPastSymbols, NoCorner, NoLeftCorner, NoOptionalSymbol, OnlyPastSymbols}
+use Rattle.laws.specs.Demands.Readings.{TreesTold, TurnsTold, JoinedTold, PlanTrees, PlanReadings}
 use Rattle.laws.specs.Demands.Run.{SheetLeft, Bound, Demand3, EnoughTurns, PreservedStay, rulesOf}
 use Rattle.laws.specs.Demands.Inlinable.{Inlinable}
 use Rattle.laws.specs.Demands.Step.{JoinedOptions, StartTold, StepTold}
@@ -31,7 +33,7 @@ use Rattle.laws.specs.Demands.Trail.{OneOrigin, OriginsTold, RecordedSo,
 use Rattle.laws.specs.Demands.Applied.{CopiesAlike, FreshIds, RemovesMost, RulesStay}
 use Rattle.laws.specs.Demands.Facts.{FactsStay}
 use Rattle.laws.specs.Demands.Answers.{Answered, ComesBack, ReadsBack}
-use Rattle.laws.specs.Demands.Examples.{NoMoreOfRust, NullableHubReturns, MarksShown}
+use Rattle.laws.specs.Demands.Examples.{NoMoreOfRust, NullableHubReturns, MarksShown, NoOtherReadings, TwoReadings, TooLittle}
 use Rattle.laws.specs.Demands.Hub.{HubTold}
 use Rattle.laws.specs.Demands.Decision.{Decision}
 use Rattle.laws.specs.Demands.Refusals.{HasRoom, RefusedSo}
@@ -58,6 +60,19 @@ pub record Theorems : Type 0 where
   -- 4 to 7, of every sheet that is not refused, with left corners and cycles by either reading.
   pub demand3 : (limits : Limits) (c : Corners) (s : Sheet) (stages : List Stage) → Ends limits c s stages
       → Demand3 s limits c (NoCorner c) stages
+  -- 4b: what a tree is, in every grammar; what a turn does to each tree, and what a plan does; and that what demand 3 pairs over
+  -- one stage of a run is what the stage's plan pairs.
+  pub treesTold : (G : Shapes) → TreesTold G
+  pub turnsTold : (H : ℕ) (G X : Shapes) (o : ButFor H G X) → TurnsTold H G X o
+  pub joinedTold : (before : List Rule) (t : Stage) (after : List Rule) (p : PlanTrees before t after) → JoinedTold (p .trees)
+  pub planReadings : (limits : Limits) (c : Corners) (s : Sheet) (stages : List Stage) (e : Ends limits c s stages)
+      → (front : List Stage) (t : Stage) (rest : List Stage) (w : front ++ (t ∷ rest) ≡ stages)
+      → PlanReadings (rulesOf s front) t (rulesOf s (front ++ (t ∷ [])))
+      (demand3 limits c s stages e .readingsBetween front (t ∷ []) rest w)
+  -- The readings of one string, told one by one; what cannot be said instead, and what would be too little.
+  pub twoReadings : (c : Corners) → TwoReadings c
+  pub noOtherReadings : NoOtherReadings
+  pub tooLittle : TooLittle
   -- For the textbook reading whole (SPECIFICATION 14.5); for the Rust's what is left (14.4), and that no more can be had (14.2).
   pub demand3Textbook : (limits : Limits) (s : Sheet) (stages : List Stage) → Ends limits textbook s stages
       → Demand3 s limits textbook NoLeftCorner stages

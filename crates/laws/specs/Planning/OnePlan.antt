@@ -66,7 +66,7 @@ module _ {c : Corners} {d : ℕ} {rs : List (RuleOf (Block (suc d)))} {g : Gramm
   gone n = isGone goneIds (target g n)
 
   -- The rules with the hub's new body, and without those removed.
-  abbrev replacedRules : List (RuleOf (Block (suc d)))
+  abbrev pub replacedRules : List (RuleOf (Block (suc d)))
   replacedRules = map (withBody d (x .hub .id) newBody) rs
 
   abbrev pub rulesLeft : List (RuleOf (Block (suc d)))
@@ -76,13 +76,13 @@ module _ {c : Corners} {d : ℕ} {rs : List (RuleOf (Block (suc d)))} {g : Gramm
   unfolding applyPlan
   applied-rules = ap₂ (λ h xs. keep (λ r. not (member (r .id) xs)) (map (withBody d h newBody) rs)) (sym (x .isHub)) (x .removed)
 
-  abbrev G : Shapes
+  abbrev pub G : Shapes
   G = eraseRules (suc d) rs
 
-  abbrev K : Shapes
+  abbrev pub K : Shapes
   K = eraseRules (suc d) replacedRules
 
-  abbrev L : Shapes
+  abbrev pub L : Shapes
   L = eraseRules (suc d) rulesLeft
 
   replaced-ids : idsOf replacedRules ≡ idsOf rs
@@ -151,11 +151,11 @@ module _ {c : Corners} {d : ℕ} {rs : List (RuleOf (Block (suc d)))} {g : Gramm
       absurd (true≢false (sym (ap (λ b. b || member (x .hub .id) preserved) (eq-eqb (x .hub .id) (x .hub .id) refl)) ∙ s .1)))
       (λ f. f)
 
-  hub-found : find G (x .hub .name) ≡ some (bodyOf d (itemsOf d (asTheyAre (x .hub .body))))
+  pub hub-found : find G (x .hub .name) ≡ some (bodyOf d (itemsOf d (asTheyAre (x .hub .body))))
   hub-found = rule-found (suc d) (λ r. r .name) rs (k .names) (x .isRule) ∙ ap some (as-they-are d (x .hub .body))
 
   -- The new body may stand for the old.
-  replaced-erased : K ≡ replaceBody (x .hub .name) (eraseBlock (suc d) newBody) G
+  pub replaced-erased : K ≡ replaceBody (x .hub .name) (eraseBlock (suc d) newBody) G
   replaced-erased = erase-replaced d (x .hub .id) newBody (x .hub .name) rs same
     where
       same : (r : RuleOf (Block (suc d))) → List·Memᴰ r rs → eqb (r .id) (x .hub .id) ≡ eqb (r .name) (x .hub .name)

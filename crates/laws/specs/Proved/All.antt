@@ -1,7 +1,9 @@
 -- All theorems of Demands.
 use mathlib.Core.Path.{refl}
+use mathlib.Core.List.{[], _∷_}
 use Rattle.laws.specs.Demands.Numbers.{NumbersBought}
 use Rattle.laws.specs.Demands.Theorems.{Theorems}
+use Rattle.laws.specs.Running.Readings.{plan-readings}
 use Rattle.laws.specs.Running.Stages.{sheet-none, sheet-last, valid-told, sheet-ends}
 use Rattle.reference.specs.Analysis.{grammarOf}
 use Rattle.reference.specs.Run.{innerDepth}
@@ -22,6 +24,10 @@ use Rattle.laws.specs.BothReadings.Sheets.{no-more-of-rust, nullable-hub
 use Rattle.laws.specs.Proved.Analysis.{sheet-empty, sheet-corners, textbook-corners, sheet-cycles, origins-told, result-reads-back}
 use Rattle.laws.specs.Proved.Analysis.{stage-reads-back, other-units}
 use Rattle.laws.specs.Proved.Demand3.{enough-turns, demand3, bound, facts-stay, preserved-rules-stay, trail-told}
+use Rattle.laws.specs.Proved.Readings.{trees-told, turns-told, joined-told}
+use Rattle.laws.specs.Proved.TwoReadings.{two-readings}
+use Rattle.laws.specs.Proved.NoOtherReadings.{no-other-readings}
+use Rattle.laws.specs.Proved.TooLittle.{too-little}
 use Rattle.laws.specs.Proved.Applied.{one-origin-each, removes-all, copies-alike, fresh-ids, rules-as-they-were}
 use Rattle.laws.specs.Proved.Answered.{answered}
 use Rattle.laws.specs.Proved.Refusals.{stage-room, refused-so}
@@ -60,6 +66,14 @@ theorems =
       cyclesListed = λ c s v. sheet-cycles s v c;
       sheetLeft = λ s. record { none = sheet-none s; last = sheet-last s };
       demand3 = λ limits c s ts r. demand3 limits c s (valid-told s (r .0)) ts (r .1);
+      treesTold = trees-told;
+      turnsTold = turns-told;
+      joinedTold = λ before t after p. joined-told (p .trees);
+      planReadings = λ limits c s ts r front t rest w.
+          plan-readings (demand3 limits c s (valid-told s (r .0)) ts (r .1) .toldBetween front (t ∷ []) rest w);
+      twoReadings = two-readings;
+      noOtherReadings = no-other-readings;
+      tooLittle = too-little;
       demand3Textbook = λ limits s ts r. demand3-textbook limits s (valid-told s (r .0)) ts (r .1);
       demand3Rust = λ limits s ts r. demand3-rust limits s (valid-told s (r .0)) ts (r .1);
       laterRust = λ limits s ts r. later-rust limits s (valid-told s (r .0)) ts (r .1);

@@ -24,6 +24,7 @@ use Rattle.laws.specs.Demands.Facts.{FactsStay}
 use Rattle.laws.specs.Provenance.PlanTrail.{stage-trail}
 use Rattle.laws.specs.Running.Preserved.{preserved-stay}
 use Rattle.laws.specs.Running.Leaves.{Told, Leaves, leaves-derives}
+use Rattle.laws.specs.Running.Readings.{Read, chain-read}
 use Rattle.laws.specs.Running.Stages.{rulesAfter, sheet-after, sheet-preserved, rules-append, every-cycle-declined, Stages, Chain}
 use Rattle.laws.specs.Running.Stages.{chain-leaves, chain-front, chain-behind, Rest, applying, turn, turns-once, stages-chain}
 use Rattle.laws.specs.Running.Stages.{run-ends, sheet-ends}
@@ -138,6 +139,10 @@ module _ (limits : Limits) (corners : Corners) (s : Sheet) (told : Told (s .rule
               (right-true (member i (ruleIds first)) (member i (ruleIds (rulesAfter first middle))) k) w;
         })
 
+    same-readings : Read (rulesOf s front) middle (rulesOf s (front ++ middle))
+    same-readings =
+        subst₂ (λ before after. Read before middle after) first-is second-is (chain-read limits corners (s .preserved) between-told inner)
+
     closed : Closed (rulesOf s front) (rulesOf s (front ++ middle))
     closed =
         subst₂ Closed first-is second-is
@@ -164,12 +169,19 @@ module _ (limits : Limits) (corners : Corners) (s : Sheet) (told : Told (s .rule
   whole-run : [] ++ (ts ++ []) ≡ ts
   whole-run = append-nil ts
 
+  whole-readings : Read (s .rules) ts (rulesOf s ts)
+  whole-readings = subst (λ rs. Read rs ts (rulesOf s ts)) (sheet-after s []) (same-readings [] ts [] whole-run)
+
   -- Demand 3, for either reading.
   pub demand3 : Demand3 s limits corners (NoCorner corners) ts
   demand3 =
       record {
         sameStrings = subst (λ rs. SameStrings rs (rulesOf s ts)) (sheet-after s []) (same-strings [] ts [] whole-run);
         sameBetween = same-strings;
+        sameReadings = whole-readings .0;
+        readingsTold = whole-readings .1;
+        readingsBetween = λ front middle rest w. same-readings front middle rest w .0;
+        toldBetween = λ front middle rest w. same-readings front middle rest w .1;
         closed = subst (λ rs. Closed rs (rulesOf s ts)) (sheet-after s []) (closed [] ts [] whole-run);
         closedBetween = closed;
         joins = stage-joins limits corners s told stages;

@@ -151,6 +151,7 @@ module _ (limits : Limits) (bs : List ℕ) (b : AreBytes bs) (result trail work 
           steps = sym (d .steps);
           trail = trail-read;
           strings = demand .sameStrings;
+          readings = demand .sameReadings;
           closed = demand .closed;
           demand3 = demand;
           bound = bound limits c s told ts (x .run);
