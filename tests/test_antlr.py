@@ -49,6 +49,11 @@ class Grammars(unittest.TestCase):
         words = {"whole": "INT", "part": "INT"}
         self.assertEqual(g4.written("G", notation.read(EVERY_FORM), words), WRITTEN)
 
+    def test_names_of_numbers(self):
+        """join and the harness write them each in their way."""
+        self.assertEqual(notation.read("%preserve 2;\nr%1: x%3=T%4 r%1;"), notation.read("r_1: x_3=T_4 r_1;"))
+        self.assertEqual(cases.joined_rules("// joined: r%1, r%2\n\nr%1: T%3;\n"), ["r_1", "r_2"])
+
     def test_faults(self):
         for text in ("e", "e: X", "e: ( X ;", "e: 5;", "e: {$x ;", "e: <o> X;", "e X;", "e: x=;"):
             with self.subTest(text=text), self.assertRaises(ValueError):

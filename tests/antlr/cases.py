@@ -31,7 +31,7 @@ class Case:
 def joined_rules(answer):
     """Those that the head of what `join` prints names."""
     names = re.search(r"^// joined: (.*)$", answer.replace("\n//   ", " "), re.M)[1]
-    return [] if names == "none" else names.split(", ")
+    return [] if names == "none" else notation.NUMBERED.sub(r"\1_\2", names).split(", ")
 
 
 class Programs:

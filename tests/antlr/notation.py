@@ -1,5 +1,6 @@
-"""Grammars in the notation (harness/README.md), read into trees. Ids, flags, arguments, bodies and the labels of alternatives are passed
-over, and carried numbers but for that of a kind 5 element, which is its name."""
+"""Grammars in the notation (docs/NOTATION.md), read into trees. Ids, flags, arguments, bodies and the labels of alternatives are passed
+over, and carried numbers but for that of a kind 5 element, which is its name. A name without a text, `r%7`, is `r_7` in the harness's
+notation and for ANTLR, and so it is here."""
 
 import re
 from collections import namedtuple
@@ -9,6 +10,7 @@ Alternative = namedtuple("Alternative", "options elements")
 Element = namedtuple("Element", "kind name quantifier label options alternatives")
 
 COMMENT = re.compile(r"//[^\n]*")
+NUMBERED = re.compile(r"\b([rTxo])%(\d+)")
 DIRECTIVE = re.compile(r"%\w+[^;]*;")
 WORD = re.compile(r"\w+|\S")
 NAME = re.compile(r"[A-Za-z]\w*$")
@@ -18,7 +20,8 @@ class Reader:
     """The words of a text, one after the other."""
 
     def __init__(self, text):
-        self.words = WORD.findall(DIRECTIVE.sub("", COMMENT.sub("", text)))
+        text = NUMBERED.sub(r"\1_\2", COMMENT.sub("", text))
+        self.words = WORD.findall(DIRECTIVE.sub("", text))
         self.at = 0
 
     def ahead(self, behind=0):

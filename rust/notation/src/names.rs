@@ -2,10 +2,8 @@
 
 use std::collections::{BTreeMap, BTreeSet};
 
-use crate::MOST_NAME;
-
-/// The table of names of a sheet that was made from a text. `r_7` and the like, names of a number without a
-/// text of its own, have no entry.
+/// The table of names of a sheet that was made from a text: every spelling is a name of its own. `r%7` and the like,
+/// names of a number without a text, have no entry.
 #[derive(Clone, Debug, Default, Eq, PartialEq)]
 pub struct Names {
     by_text: BTreeMap<String, u32>,
@@ -29,14 +27,6 @@ pub enum Place {
 }
 
 impl Place {
-    const ALL: [Place; 5] = [
-        Place::Rule,
-        Place::Call,
-        Place::Token,
-        Place::Label,
-        Place::Option,
-    ];
-
     pub(crate) fn letter(self) -> char {
         match self {
             Place::Rule | Place::Call => 'r',
@@ -57,10 +47,10 @@ impl Place {
 }
 
 impl Names {
-    /// An empty table, in which the numbers that are written out in these names are kept free.
-    pub(crate) fn reserving<'a>(texts: impl Iterator<Item = &'a str>) -> Self {
+    /// An empty table, in which these numbers, which are written out, are kept free.
+    pub(crate) fn reserving(numbers: impl Iterator<Item = u32>) -> Self {
         Names {
-            reserved: texts.filter_map(written_number).collect(),
+            reserved: numbers.collect(),
             ..Names::default()
         }
     }
@@ -70,7 +60,7 @@ impl Names {
     }
 
     pub fn number(&self, text: &str) -> Option<u32> {
-        written_number(text).or_else(|| self.by_text.get(text).copied())
+        self.by_text.get(text).copied()
     }
 
     /// Numbers and texts, the numbers rising.
@@ -97,7 +87,7 @@ impl Names {
         self.free
     }
 
-    /// Gives a text a number; `None` where either is taken, or the text says its own number.
+    /// Gives a text a number; `None` where either is taken.
     pub(crate) fn set(&mut self, text: &str, number: u32) -> Option<()> {
         let taken = self.number(text).is_some()
             || self.by_number.contains_key(&number)
@@ -114,15 +104,4 @@ impl Names {
 /// A capital letter in front makes a token, as in ANTLR.
 pub(crate) fn is_token(text: &str) -> bool {
     text.starts_with(|letter: char| letter.is_ascii_uppercase())
-}
-
-/// The number in `r_7`, `T_7`, `x_7` and `o_7`; numbers out of range, and those that begin with 0, are none.
-fn written_number(text: &str) -> Option<u32> {
-    let (letter, digits) = text.split_once('_')?;
-    let known = Place::ALL
-        .iter()
-        .any(|place| letter.chars().eq([place.letter()]));
-    let plain = !digits.starts_with('0') && digits.bytes().all(|byte| byte.is_ascii_digit());
-    let number = digits.parse().ok().filter(|number| *number <= MOST_NAME);
-    number.filter(|_| known && plain)
 }

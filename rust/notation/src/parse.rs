@@ -82,7 +82,7 @@ enum Preserved<'a> {
 impl<'a> Parser<'a> {
     fn of(tokens: &'a [Token<'a>]) -> Self {
         let written = tokens.iter().filter_map(|token| match token.what {
-            What::Name(name) => Some(name),
+            What::Numbered(_, number) => Some(number),
             _ => None,
         });
         Parser {
@@ -103,7 +103,7 @@ impl<'a> Parser<'a> {
         loop {
             match self.ahead().what {
                 What::End => break,
-                What::Name(_) => self.rule(&mut sheet.rules)?,
+                What::Name(_) | What::Numbered(..) => self.rule(&mut sheet.rules)?,
                 What::Directive("%kind") => sheet.kind = self.unit_kind()?,
                 What::Directive("%names") => self.names()?,
                 What::Directive("%preserve") => preserved.extend(self.preserved()?),
@@ -162,8 +162,8 @@ impl<'a> Parser<'a> {
                 list.push(Preserved::Id(id));
                 continue;
             }
-            let text = self.name("a rule's name, a rule id or `;`")?;
-            list.push(Preserved::Name(self.names.number_for(text), token));
+            let name = self.named("a rule's name, a rule id or `;`")?;
+            list.push(Preserved::Name(name, token));
         }
         Ok(list)
     }
@@ -186,8 +186,7 @@ impl<'a> Parser<'a> {
         if rules.len() == MOST_RULES {
             return Err(token.fault("at most 128 rules"));
         }
-        let text = self.name("a rule's name")?;
-        let name = self.names.number_for(text);
+        let name = self.named("a rule's name")?;
         if rules.iter().any(|rule| rule.name == name) {
             return Err(token.fault("a name that no rule has yet"));
         }

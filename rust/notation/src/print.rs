@@ -187,7 +187,7 @@ impl<'a> Printer<'a> {
             let name = self.name(reference.name, Place::Label);
             let attribute = known.and_then(|texts| texts.get(place));
             let attribute = attribute.filter(|text| !text.is_empty());
-            let attribute = attribute.map_or("a", String::as_str);
+            let attribute = attribute.map_or("?", String::as_str);
             parts.push(match reference.kind {
                 0 => format!("${name}"),
                 1 => format!("${name}.{attribute}"),
@@ -215,7 +215,7 @@ impl<'a> Printer<'a> {
     pub fn name(&self, number: u32, place: Place) -> String {
         match self.text(number) {
             Some(text) => text.to_owned(),
-            None => format!("{}_{number}", place.letter()),
+            None => format!("{}%{number}", place.letter()),
         }
     }
 

@@ -2,6 +2,9 @@
 
 use std::fmt;
 
+use crate::MOST_NAME;
+use crate::names::is_token;
+
 /// What is wrong with a text, and where; lines and columns count from 1, columns in characters.
 #[derive(Clone, Debug, Eq, PartialEq)]
 pub struct Fault {
@@ -24,6 +27,8 @@ impl std::error::Error for Fault {}
 #[derive(Clone, Copy, Debug, Eq, PartialEq)]
 pub(crate) enum What<'a> {
     Name(&'a str),
+    /// A name without a text, as it is written, and its number: `r%7`. No name has a `%` in it.
+    Numbered(&'a str, u32),
     /// With its `%`.
     Directive(&'a str),
     Number(u32),
@@ -40,13 +45,22 @@ pub(crate) struct Token<'a> {
 }
 
 impl Token<'_> {
+    /// A capital letter in front makes a token, as in ANTLR.
+    pub(crate) fn is_token(&self) -> bool {
+        matches!(self.what, What::Name(text) | What::Numbered(text, _) if is_token(text))
+    }
+
+    pub(crate) fn is_name(&self) -> bool {
+        matches!(self.what, What::Name(_) | What::Numbered(..))
+    }
+
     pub(crate) fn fault(&self, expected: &str) -> Fault {
         Fault {
             line: self.line,
             column: self.column,
             expected: expected.to_owned(),
             found: match self.what {
-                What::Name(text) | What::Directive(text) => quoted(text),
+                What::Name(text) | What::Directive(text) | What::Numbered(text, _) => quoted(text),
                 What::Number(number) => format!("`{number}`"),
                 What::Mark(mark) => quoted(mark),
                 What::End => "the end of the text".to_owned(),
@@ -59,6 +73,8 @@ const MARKS: [&str; 26] = [
     "::", ":", ";", "|", "?", "*", "+", "(", ")", "[", "]", "<", ">", "{", "}", "&", "$", "@", "~",
     "^", "#", "!", "=", ",", ".", "-",
 ];
+/// What a name of a number begins with (`Place::letter`).
+const LETTERS: [&str; 4] = ["r", "T", "x", "o"];
 /// The most of what was found that a message shows, in characters.
 const SHOWN: usize = 40;
 
@@ -144,7 +160,7 @@ impl<'a> Cursor<'a> {
             return number.map_err(|_| ("a number up to 4294967295", digits));
         }
         if first.is_ascii_alphabetic() || first == '_' {
-            return Ok(What::Name(self.take(self.name_length(0))));
+            return self.name();
         }
         if first == '%' {
             return Ok(What::Directive(self.take(self.name_length(1))));
@@ -159,6 +175,31 @@ impl<'a> Cursor<'a> {
                 &self.rest[..first.len_utf8()],
             )),
         }
+    }
+
+    /// A name with a text, or one of a number: `r%7`, `T%7`, `x%7` and `o%7`.
+    fn name(&mut self) -> Result<What<'a>, (&'static str, &'a str)> {
+        let letters = self.name_length(0);
+        let digits = self.digits_behind(letters);
+        if !LETTERS.contains(&&self.rest[..letters]) || digits == 0 {
+            return Ok(What::Name(self.take(letters)));
+        }
+        let written = self.take(letters + 1 + digits);
+        let number = written[letters + 1..].parse().ok();
+        let number = number.filter(|number| (1..=MOST_NAME).contains(number));
+        let expected = ("a number of a name, from 1 to 65535", written);
+        number
+            .map(|number| What::Numbered(written, number))
+            .ok_or(expected)
+    }
+
+    /// How many digits stand behind a `%` that stands behind so many bytes.
+    fn digits_behind(&self, front: usize) -> usize {
+        let Some(behind) = self.rest[front..].strip_prefix('%') else {
+            return 0;
+        };
+        let end = behind.find(|next: char| !next.is_ascii_digit());
+        end.unwrap_or(behind.len())
     }
 
     fn length(&self, inner: impl Fn(char) -> bool) -> usize {

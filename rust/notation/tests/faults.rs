@@ -27,7 +27,7 @@ fn each_place_says_what_it_expects() {
         ("e: a[5;", "1:7 `]` / `;`"),
         ("e: {INT};", "1:5 `$` or `}` / `INT`"),
         ("e: {$};", "1:6 the name that is referred to / `}`"),
-        ("e: {$x.};", "1:8 an attribute's name / `}`"),
+        ("e: {$x.};", "1:8 an attribute's name or `?` / `}`"),
         ("e: &INT;", "1:5 `{` / `INT`"),
         ("e@x: a;", "1:3 a number / `x`"),
         ("e !4: a;", "1:4 rule flags from 0 to 3 / `4`"),
@@ -61,9 +61,16 @@ fn each_place_says_what_it_expects() {
             "1:12 a name and a number that are not in use yet / `e`",
         ),
         (
-            "%names r_3=3;",
-            "1:8 a name and a number that are not in use yet / `r_3`",
+            "%names r=3; e: T%3;",
+            "1:8 a name and a number that are not in use yet / `r`",
         ),
+        ("e: T%0;", "1:4 a number of a name, from 1 to 65535 / `T%0`"),
+        (
+            "e: r%65536;",
+            "1:4 a number of a name, from 1 to 65535 / `r%65536`",
+        ),
+        ("e: a%3;", "1:5 an element, `|` or `;` / `%3`"),
+        ("e: r%x;", "1:5 an element, `|` or `;` / `%x`"),
         (
             "e: a; %names a=2;",
             "1:14 a name and a number that are not in use yet / `a`",

@@ -22,7 +22,7 @@ fn grammar(seed: u64) -> Grammar {
 fn table(random: &mut Random) -> Names {
     let mut pairs = String::new();
     for number in 1..grow::NAMES {
-        let text = ["e", "INT", "x_0", "stage_1", "T_x"][random.below(5) as usize];
+        let text = ["e", "INT", "x_", "stage_1", "T_"][random.below(5) as usize];
         if random.below(2) == 0 {
             pairs += &format!(" {text}{number}={number}");
         }
@@ -82,7 +82,7 @@ fn plain_text_comes_back() {
 /// A text with some characters changed is a grammar or has a fault in one of its lines, and nothing goes wrong.
 #[test]
 fn damaged_texts_are_read_or_not() {
-    const MARKS: &[u8] = b"::;;||?*+()[]<>{}&$@~^#!=,.-%_/eX7 \n\xff";
+    const MARKS: &[u8] = b"::;;||?*+()[]<>{}&$@~^#!=,.-%_/eXrT7 \n\xff";
     let (mut read, mut unread) = (0, 0);
     for seed in 0..TREES {
         let mut random = Random(seed);
@@ -139,8 +139,8 @@ fn trees_have_everything() {
         "{",
         "&{",
         "}",
-        "::a",
-        ".a",
+        "::?",
+        ".?",
         "=",
         "[",
         "??",
@@ -151,10 +151,10 @@ fn trees_have_everything() {
         ".~",
         "@",
         "^",
-        "r_",
-        "T_",
-        "x_",
-        "o_",
+        "r%",
+        "T%",
+        "x%",
+        "o%",
     ] {
         assert!(texts.contains(part), "{part}");
     }

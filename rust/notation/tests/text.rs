@@ -38,18 +38,44 @@ fn the_first_worked_grammar() {
 
 #[test]
 fn names_are_numbered_as_they_appear() {
-    let made = parse("e: a_1 T_2 | stage_1 T_70000; a_1: o_07;").unwrap();
+    let made = parse("e: r_1 T%2 | stage_1 T_70000; r_1: o_07;").unwrap();
     let names: Vec<_> = made.names.all().collect();
     let texts = [
         (1, "e"),
-        (3, "a_1"),
+        (3, "r_1"),
         (4, "stage_1"),
         (5, "T_70000"),
         (6, "o_07"),
     ];
-    assert_eq!(names, texts, "2 is the number of T_2");
-    assert_eq!(made.names.number("T_2"), Some(2));
+    assert_eq!(names, texts, "2 is the number of T%2");
+    assert_eq!(made.names.number("r_1"), Some(3));
     assert_eq!(made.names.text(2), None);
+}
+
+/// Sensors on a drawing are called T_1, and no number is meant by it.
+#[test]
+fn every_spelling_is_a_name_of_its_own() {
+    let all = ["r_1", "x_1", "o_1", "T_1", "r_2", "r1", "r"];
+    let made = parse(&format!("e: {};", all.join(" "))).unwrap();
+    let numbers: Vec<_> = all.map(|text| made.names.number(text)).into();
+    let counted: Vec<_> = (2..9).map(Some).collect();
+    assert_eq!(numbers, counted);
+    let text = print(&made, Style::Plain);
+    assert_eq!(text, "e: r_1 x_1 o_1 T_1 r_2 r1 r;\n");
+    let rules = parse("o_1: r_1 X | P; r_1: o_1 Y;").unwrap().sheet.rules;
+    assert_eq!((rules[0].name, rules[1].name), (1, 2));
+}
+
+/// A name of a number reads back in every place, and no text takes its number.
+#[test]
+fn names_of_numbers_read_back() {
+    let text =
+        "%preserve 2;\nr%1: x%3=T%4 r%2 {$x%3 $x%3.? $x%2::?} T%5<o%6=7>;\nr%2: <o%6=1> T%4;\n";
+    let made = parse(text).unwrap();
+    assert!(made.names.is_empty());
+    assert_eq!(print(&made, Style::Plain), text);
+    let made = parse("e: T%1 a;").unwrap();
+    assert_eq!(made.sheet.rules[0].name, 2);
 }
 
 #[test]
@@ -74,7 +100,7 @@ fn names_that_do_not_fit_are_written_by_number() {
     let mut made = parse("e: a INT; a: INT;").unwrap();
     made.names = parse_names(b"%names e=1 A=2 int=3;").unwrap();
     let text = print(&made, Style::Plain);
-    assert_eq!(text, "e: r_2 T_3;\nr_2: T_3;\n");
+    assert_eq!(text, "e: r%2 T%3;\nr%2: T%3;\n");
     assert_eq!(parse(&text).unwrap().sheet, made.sheet);
 }
 
@@ -120,5 +146,5 @@ fn parts_are_printed_one_by_one() {
     assert_eq!(printer.alternative(&rule.alternatives[0]), " a? x=INT");
     assert_eq!(printer.alternative(&rule.alternatives[1]), "");
     assert_eq!(printer.name(1, Place::Rule), "e");
-    assert_eq!(printer.name(77, Place::Token), "T_77");
+    assert_eq!(printer.name(77, Place::Token), "T%77");
 }

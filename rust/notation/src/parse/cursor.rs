@@ -40,7 +40,17 @@ impl<'a> Parser<'a> {
         Ok(number)
     }
 
-    /// Any name; `_` is epsilon's.
+    /// The number of a name, with or without a text.
+    pub(super) fn named(&mut self, expected: &str) -> Result<u32, Fault> {
+        if let What::Numbered(_, number) = self.ahead().what {
+            self.skip();
+            return Ok(number);
+        }
+        let text = self.name(expected)?;
+        Ok(self.names.number_for(text))
+    }
+
+    /// Any text of a name; `_` is epsilon's.
     pub(super) fn name(&mut self, expected: &str) -> Result<&'a str, Fault> {
         match self.ahead().what {
             What::Name(name) if name != "_" => {

@@ -2,7 +2,6 @@
 
 use super::Parser;
 use crate::MOST_DEPTH;
-use crate::names::is_token;
 use crate::scan::{Fault, What};
 use crate::tree::{Element, Kind, Label, OptionDecl, Reference, Semantics};
 use crate::walk::Sort;
@@ -10,7 +9,7 @@ use crate::walk::Sort;
 impl Parser<'_> {
     pub(super) fn element_ahead(&self) -> bool {
         let marks = ["^", "(", ".", "&", "{"];
-        matches!(self.ahead().what, What::Name(_)) || marks.iter().any(|mark| self.is_ahead(mark))
+        self.ahead().is_name() || marks.iter().any(|mark| self.is_ahead(mark))
     }
 
     /// Ids are handed out as the pass does: the element, its label, what it holds.
@@ -33,14 +32,14 @@ impl Parser<'_> {
 
     fn label(&mut self) -> Result<Option<Label>, Fault> {
         let ahead = |place: usize| self.tokens.get(place).map(|token| token.what);
+        let is_name = self.ahead().is_name();
         let mark = |place, mark| ahead(place) == Some(What::Mark(mark));
         let written = mark(1, "=")
             || (mark(1, "@") && matches!(ahead(2), Some(What::Number(_))) && mark(3, "="));
-        if !(written && matches!(ahead(0), Some(What::Name(_)))) {
+        if !(written && is_name) {
             return Ok(None);
         }
-        let text = self.name("a label's name")?;
-        let name = self.names.number_for(text);
+        let name = self.named("a label's name")?;
         let id = self.id("@", Sort::Label)?;
         self.expect("=")?;
         Ok(Some(Label { id, name }))
@@ -63,9 +62,9 @@ impl Parser<'_> {
             self.skip();
             return Ok(Kind::Epsilon);
         }
-        let text = self.name("an element")?;
-        let name = self.names.number_for(text);
-        if is_token(text) {
+        let token = self.ahead();
+        let name = self.named("an element")?;
+        if token.is_token() {
             return Ok(Kind::Token(name));
         }
         Ok(Kind::Call {
@@ -102,8 +101,7 @@ impl Parser<'_> {
             if !self.take("$") {
                 return Err(self.fault("`$` or `}`"));
             }
-            let text = self.name("the name that is referred to")?;
-            let name = self.names.number_for(text);
+            let name = self.named("the name that is referred to")?;
             let (kind, attribute) = self.attribute()?;
             references.push(Reference { kind, name });
             attributes.push(attribute.to_owned());
@@ -114,14 +112,17 @@ impl Parser<'_> {
         Ok(Semantics { id, references })
     }
 
-    /// The kind of a reference, with its attribute.
+    /// The kind of a reference, with its attribute; `?` is one that is not known.
     fn attribute(&mut self) -> Result<(u32, &str), Fault> {
         let kind = match () {
             () if self.take(".") => 1,
             () if self.take("::") => 2,
             () => return Ok((0, "")),
         };
-        Ok((kind, self.name("an attribute's name")?))
+        if self.take("?") {
+            return Ok((kind, ""));
+        }
+        Ok((kind, self.name("an attribute's name or `?`")?))
     }
 
     fn quantifier(&mut self) -> u32 {
@@ -140,8 +141,7 @@ impl Parser<'_> {
             return Ok(options);
         }
         loop {
-            let text = self.name("an option's name")?;
-            let name = self.names.number_for(text);
+            let name = self.named("an option's name")?;
             self.expect("=")?;
             let value = self.number()?;
             options.push(OptionDecl { name, value });
