@@ -42,13 +42,15 @@ mod names;
 mod parse;
 mod print;
 mod scan;
+mod table;
 mod tree;
 mod walk;
 
 pub use names::{Names, Place};
-pub use parse::{Grammar, parse, parse_bytes, parse_names};
+pub use parse::{Grammar, parse, parse_bytes};
 pub use print::{Printer, Style, names_text, print};
 pub use scan::{Fault, end_of};
+pub use table::{Attributes, Table, parse_table};
 pub use tree::{
     Alternative, Counters, Element, Kind, Label, OptionDecl, Reference, Rule, Semantics, Sheet,
 };

@@ -4,7 +4,7 @@ use std::collections::{BTreeMap, BTreeSet};
 
 /// The table of names of a sheet that was made from a text: every spelling is a name of its own. `r%7` and the like,
 /// names of a number without a text, have no entry.
-#[derive(Clone, Debug, Default, Eq, PartialEq)]
+#[derive(Clone, Debug, Default)]
 pub struct Names {
     by_text: BTreeMap<String, u32>,
     by_number: BTreeMap<u32, String>,
@@ -13,6 +13,15 @@ pub struct Names {
     /// No number below is free.
     free: u32,
 }
+
+/// Tables are equal where their names and numbers are.
+impl PartialEq for Names {
+    fn eq(&self, other: &Names) -> bool {
+        self.by_number == other.by_number
+    }
+}
+
+impl Eq for Names {}
 
 /// Where a name stands. It gives the letter for a name without a text.
 #[derive(Clone, Copy, Debug, Eq, PartialEq)]

@@ -3,10 +3,9 @@
 mod cursor;
 mod element;
 
-use std::collections::BTreeMap;
-
 use crate::names::Names;
 use crate::scan::{Fault, Token, What, end_of, scan};
+use crate::table::Attributes;
 use crate::tree::{Alternative, Counters, Rule, Sheet};
 use crate::walk::{Sort, least_counters};
 use crate::{MOST_NAME, MOST_RULES};
@@ -19,9 +18,7 @@ pub(crate) const FIRST_IDS: [u32; 7] = [0, 1, 10, 20, 0, 0, 0];
 pub struct Grammar {
     pub sheet: Sheet,
     pub names: Names,
-    /// Of each action and predicate, by sort and id, the attributes of its references: `text` of `$x.text`,
-    /// nothing of `$x`.
-    pub attributes: BTreeMap<(Sort, u32), Vec<String>>,
+    pub attributes: Attributes,
 }
 
 pub fn parse(text: &str) -> Result<Grammar, Fault> {
@@ -40,20 +37,7 @@ pub fn parse_bytes(bytes: &[u8]) -> Result<Grammar, Fault> {
     parse(text_of(bytes)?)
 }
 
-/// A table of names, written as `%names`.
-pub fn parse_names(bytes: &[u8]) -> Result<Names, Fault> {
-    let tokens = scan(text_of(bytes)?)?;
-    let mut parser = Parser::of(&tokens);
-    while parser.ahead().what != What::End {
-        if parser.ahead().what != What::Directive("%names") {
-            return Err(parser.fault("`%names`"));
-        }
-        parser.names()?;
-    }
-    Ok(parser.names)
-}
-
-fn text_of(bytes: &[u8]) -> Result<&str, Fault> {
+pub(crate) fn text_of(bytes: &[u8]) -> Result<&str, Fault> {
     std::str::from_utf8(bytes).map_err(|fault| {
         let (good, bad) = bytes.split_at(fault.valid_up_to());
         let (line, column) = end_of(&String::from_utf8_lossy(good));
@@ -66,11 +50,11 @@ fn text_of(bytes: &[u8]) -> Result<&str, Fault> {
     })
 }
 
-struct Parser<'a> {
+pub(crate) struct Parser<'a> {
     tokens: &'a [Token<'a>],
-    names: Names,
+    pub(crate) names: Names,
     next: [u32; 7],
-    attributes: BTreeMap<(Sort, u32), Vec<String>>,
+    attributes: Attributes,
 }
 
 /// A preserved rule by its id, or by its name's number and place, since all rules must be read first.
@@ -80,7 +64,7 @@ enum Preserved<'a> {
 }
 
 impl<'a> Parser<'a> {
-    fn of(tokens: &'a [Token<'a>]) -> Self {
+    pub(crate) fn of(tokens: &'a [Token<'a>]) -> Self {
         let written = tokens.iter().filter_map(|token| match token.what {
             What::Numbered(_, number) => Some(number),
             _ => None,
@@ -89,7 +73,7 @@ impl<'a> Parser<'a> {
             tokens,
             names: Names::reserving(written),
             next: FIRST_IDS,
-            attributes: BTreeMap::new(),
+            attributes: Attributes::new(),
         }
     }
 
@@ -135,7 +119,7 @@ impl<'a> Parser<'a> {
         Ok(kind)
     }
 
-    fn names(&mut self) -> Result<(), Fault> {
+    pub(crate) fn names(&mut self) -> Result<(), Fault> {
         self.skip();
         while !self.take(";") {
             let (token, text) = (self.ahead(), self.name("a name or `;`")?);

@@ -1,6 +1,6 @@
 //! Where a text is wrong, and what was expected there.
 
-use notation::{end_of, parse, parse_bytes, parse_names};
+use notation::{end_of, parse, parse_bytes, parse_table};
 
 fn fault(text: &str) -> String {
     let fault = parse(text).expect_err(text);
@@ -146,10 +146,31 @@ fn bytes_that_are_no_text() {
 
 #[test]
 fn tables_of_names() {
+    let digest = format!("%sheet sha256_{}", "0".repeat(64));
     for (text, expected) in [
         (
             "%names a=1; e: a;",
-            "line 1, column 13: expected `%names`, found `e`",
+            "line 1, column 13: expected `%sheet`, `%names` or `%attributes`, found `e`",
+        ),
+        (
+            "%names a=1;",
+            "line 1, column 12: expected `%sheet` and the digest of the sheet that has the names, found the end of the text",
+        ),
+        (
+            "%sheet sha256_0;",
+            "line 1, column 8: expected `sha256_` and 64 hexadecimal digits, found `sha256_0`",
+        ),
+        (
+            "%sheet 5;",
+            "line 1, column 8: expected `sha256_` and 64 hexadecimal digits, found `5`",
+        ),
+        (
+            "%attributes label 5 x;",
+            "line 1, column 13: expected `action` or `predicate`, found `label`",
+        ),
+        (
+            "%attributes action 5 7;",
+            "line 1, column 22: expected an attribute's name, `?` or `;`, found `7`",
         ),
         ("%names a 1;", "line 1, column 10: expected `=`, found `1`"),
         (
@@ -161,8 +182,11 @@ fn tables_of_names() {
             "line 1, column 11: expected a name or `;`, found the end of the text",
         ),
     ] {
-        let fault = parse_names(text.as_bytes()).expect_err(text);
+        let fault = parse_table(text.as_bytes()).expect_err(text);
         assert_eq!(fault.to_string(), expected);
     }
-    assert!(parse_names(b"").unwrap().is_empty());
+    let empty = parse_table(format!("{digest};").as_bytes()).unwrap();
+    assert!(empty.names.is_empty());
+    let long = parse_table(format!("{digest}0;").as_bytes());
+    assert!(long.is_err());
 }

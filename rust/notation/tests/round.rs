@@ -4,7 +4,7 @@ mod grow;
 
 use grow::Random;
 use notation::{
-    Grammar, Names, Sheet, Style, alternatives, parse, parse_bytes, parse_names, print,
+    Grammar, Names, Sheet, Style, alternatives, parse, parse_bytes, parse_table, print,
 };
 
 const TREES: u64 = 2_000;
@@ -27,7 +27,8 @@ fn table(random: &mut Random) -> Names {
             pairs += &format!(" {text}{number}={number}");
         }
     }
-    parse_names(format!("%names{pairs};").as_bytes()).expect("a table")
+    let text = format!("%sheet sha256_{};%names{pairs};", "0".repeat(64));
+    parse_table(text.as_bytes()).expect("a table").names
 }
 
 #[test]

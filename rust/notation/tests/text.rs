@@ -1,6 +1,8 @@
 //! What a text means, and that it comes back as it was written.
 
-use notation::{Kind, Label, Place, Printer, Reference, Style, parse, parse_names, print};
+use notation::{
+    Kind, Label, Names, Place, Printer, Reference, Style, Table, parse, parse_table, print,
+};
 
 const ALL: &str = "\
 %kind combined;
@@ -90,15 +92,35 @@ fn names_can_have_numbers_of_their_own() {
     );
     let table = notation::names_text(&made.names);
     assert_eq!(table, "%names\n    X=1\n    e=4\n    INT=9\n;\n");
-    let again = parse_names(table.as_bytes()).unwrap();
-    assert!(again.all().eq(made.names.all()));
+    assert!(named(&table).all().eq(made.names.all()));
+}
+
+/// A table with the digest of some sheet in front.
+fn named(names: &str) -> Names {
+    let text = format!("%sheet sha256_{};{names}", "0".repeat(64));
+    parse_table(text.as_bytes()).expect("a table").names
+}
+
+/// Attributes of actions and predicates by their ids, with `?` where there is none.
+#[test]
+fn attributes_stand_in_the_table() {
+    let made = parse("e: x=INT {@3 $x.text $x $INT.line} &{$e::depth} {$x} {};").unwrap();
+    let table = Table {
+        sheets: vec!["a".repeat(64), "b".repeat(64)],
+        names: made.names,
+        attributes: made.attributes,
+    };
+    let text = table.text();
+    let tail = "%attributes action 3 text ? line;\n%attributes predicate 0 depth;\n";
+    assert!(text.ends_with(tail), "{text}");
+    assert_eq!(parse_table(text.as_bytes()), Ok(table));
 }
 
 /// A table that does not fit the sheet changes nothing of what the text means.
 #[test]
 fn names_that_do_not_fit_are_written_by_number() {
     let mut made = parse("e: a INT; a: INT;").unwrap();
-    made.names = parse_names(b"%names e=1 A=2 int=3;").unwrap();
+    made.names = named("%names e=1 A=2 int=3;");
     let text = print(&made, Style::Plain);
     assert_eq!(text, "e: r%2 T%3;\nr%2: T%3;\n");
     assert_eq!(parse(&text).unwrap().sheet, made.sheet);

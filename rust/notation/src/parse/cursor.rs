@@ -5,7 +5,7 @@ use crate::scan::{Fault, Token, What};
 
 impl<'a> Parser<'a> {
     /// The last of the tokens, the end, is never skipped.
-    pub(super) fn ahead(&self) -> Token<'a> {
+    pub(crate) fn ahead(&self) -> Token<'a> {
         self.tokens[0]
     }
 
@@ -13,11 +13,11 @@ impl<'a> Parser<'a> {
         matches!(self.ahead().what, What::Mark(found) if found == mark)
     }
 
-    pub(super) fn skip(&mut self) {
+    pub(crate) fn skip(&mut self) {
         self.tokens = &self.tokens[1..];
     }
 
-    pub(super) fn take(&mut self, mark: &str) -> bool {
+    pub(crate) fn take(&mut self, mark: &str) -> bool {
         let found = self.is_ahead(mark);
         if found {
             self.skip();
@@ -25,14 +25,14 @@ impl<'a> Parser<'a> {
         found
     }
 
-    pub(super) fn expect(&mut self, mark: &str) -> Result<(), Fault> {
+    pub(crate) fn expect(&mut self, mark: &str) -> Result<(), Fault> {
         if self.take(mark) {
             return Ok(());
         }
         Err(self.fault(&format!("`{mark}`")))
     }
 
-    pub(super) fn number(&mut self) -> Result<u32, Fault> {
+    pub(crate) fn number(&mut self) -> Result<u32, Fault> {
         let What::Number(number) = self.ahead().what else {
             return Err(self.fault("a number"));
         };
@@ -51,7 +51,7 @@ impl<'a> Parser<'a> {
     }
 
     /// Any text of a name; `_` is epsilon's.
-    pub(super) fn name(&mut self, expected: &str) -> Result<&'a str, Fault> {
+    pub(crate) fn name(&mut self, expected: &str) -> Result<&'a str, Fault> {
         match self.ahead().what {
             What::Name(name) if name != "_" => {
                 self.skip();
@@ -61,7 +61,7 @@ impl<'a> Parser<'a> {
         }
     }
 
-    pub(super) fn fault(&self, expected: &str) -> Fault {
+    pub(crate) fn fault(&self, expected: &str) -> Fault {
         self.ahead().fault(expected)
     }
 }
