@@ -16,12 +16,13 @@ import subprocess
 import sys
 import tempfile
 
+import join_files
+import join_names
 from grouping import grouped
+from joining import ROOT, Failure, Run, require, written
 
-ROOT = pathlib.Path(__file__).resolve().parent.parent
 EXAMPLES = ROOT / "examples"
 BUILT = ROOT / "rust/target/release/join"
-LONGEST_RUN = 20
 STORED = {".joined": [], ".listing": ["--listing"], ".textbook.joined": ["--textbook"], ".textbook.listing": ["--textbook", "--listing"]}
 WORDS = {"return": "SENSOR", "flow": "SENSOR", "limit": "LIMIT", "pump": "DEVICE"}
 CYCLE = b"e: a | INT; a: e PLUS;\n"
@@ -43,41 +44,6 @@ ERRORS = {
     "option without its file": (CYCLE, ["--sheet"], 3, "--sheet takes a file; "),
     "two grammars": (CYCLE, ["FILE"], 3, "more than one grammar; "),
 }
-
-
-class Failure(Exception):
-    """What is not as it should be."""
-
-
-class Run:
-    """One run of the program: its status, and what it printed."""
-
-    def __init__(self, program, words, **streams):
-        streams = {"stdout": subprocess.PIPE, **streams}
-        words = [program, *map(str, words)]
-        done = subprocess.run(words, stdin=subprocess.DEVNULL, stderr=subprocess.PIPE, timeout=LONGEST_RUN, **streams)
-        self.status, self.out, self.said = done.returncode, done.stdout, done.stderr.decode("utf-8", "replace")
-
-    def answer(self):
-        if self.status != 0 or self.said:
-            raise Failure(f"status {self.status}: {self.said.strip()}")
-        return self.out
-
-    def text(self):
-        return self.answer().decode("utf-8")
-
-    def stopped(self, status, message, printed=b""):
-        if self.status != status:
-            raise Failure(f"status {self.status} and not {status}: {self.said.strip()}")
-        if not self.said.startswith(f"join: {message}"):
-            raise Failure(f"it says {self.said.strip()!r} and not {message!r}")
-        if self.out not in (printed, None):
-            raise Failure("something is printed")
-
-
-def require(good, what):
-    if not good:
-        raise Failure(what)
 
 
 def grammars(folder):
@@ -129,27 +95,10 @@ def bytes_are_written(program, folder, made):
         require(entries == [line for line in listing.split("\n") if line[:1] == "t"], f"{grammar.name}: another trail")
 
 
-def names_survive(program, folder, made):
-    """With its table of names a sheet prints the same rules as the text from which it was made."""
-    for grammar in grammars(folder):
-        if grammar.suffix == ".grammar":
-            sheet, names = made / "named.sheet", made / "names"
-            text = Run(program, [grammar, "--sheet", sheet, "--names", names]).text()
-            again = Run(program, [sheet, "--names", names]).text()
-            require(bare(text) == bare(again), f"{grammar.name}: {bare(again)}")
-
-
-def bare(text):
-    """A text without comments, as one line; a sheet has no place for attributes, which are then `a`."""
-    text = re.sub(r"(\$\w+(?:\.|::))\w+", r"\1a", re.sub(r"//[^\n]*", "", text))
-    return " ".join(text.split()).replace(": ", ":").replace(" ;", ";")
-
-
 def nothing_of_the_place(program, folder, made):
-    """The same grammar under another name, in another folder, gives the same bytes."""
+    """The same file in another folder gives the same bytes."""
     for grammar in grammars(folder):
-        copy = made / ("copy" + grammar.suffix)
-        copy.write_bytes(grammar.read_bytes())
+        copy = written(made, grammar.name, grammar.read_bytes())
         printed = [Run(program, [file], cwd=place).answer() for file, place in ((grammar, ROOT), (copy.name, made))]
         require(printed[0] == printed[1], f"{grammar.name} differs")
 
@@ -217,8 +166,8 @@ def full_disk(program, folder, made):
 def helps(program, folder, made):
     """--help names every option and every status."""
     text = Run(program, ["--help"]).text()
-    for word in ("--textbook", "--listing", "--sheet FILE", "--trail FILE", "--names FILE", "--help", "0 ", "1 ", "2 ", "3 "):
-        require(word in text, f"not {word}")
+    for word in "--textbook --listing --strict --sheet --trail --names --help --version -h 0 1 2 3 4 5".split():
+        require(word in text.replace(",", "").replace(";", "").split(), f"not {word}")
 
 
 def stops(program, name, made):
@@ -237,7 +186,6 @@ CHECKS = (
     each_stored_has_its_grammar,
     joined_texts_are_grammars,
     bytes_are_written,
-    names_survive,
     nothing_of_the_place,
     words_about_the_heat_pump,
     words_about_the_declined,
@@ -247,6 +195,8 @@ CHECKS = (
     the_smallest_sheet,
     full_disk,
     helps,
+    *join_names.CHECKS,
+    *join_files.CHECKS,
 )
 
 

@@ -1,45 +1,87 @@
 //! The grammar that is handed in: a text of the notation, or a sheet.
 
-use std::collections::BTreeMap;
 use std::fs::File;
-use std::io::Read as _;
+use std::io::{self, Read};
 use std::path::Path;
 
-use notation::{Fault, Grammar, Names, Sort, end_of, parse_bytes, parse_names};
+use notation::{Attributes, Fault, Grammar, Names, Table, end_of, parse_bytes, parse_table};
 
 use crate::options::Options;
-use crate::stop::Stop;
+use crate::stop::{Status, Stop};
 
 /// The most bytes of a text: far above those of any grammar that fits into a sheet.
 const MOST_TEXT: usize = 1 << 20;
 
 #[derive(Debug)]
 pub struct Input {
+    /// The last part of its path.
+    pub name: String,
     pub is_text: bool,
+    /// The file: a text, or the sheet.
+    pub file: Vec<u8>,
     /// The sheet.
     pub bytes: Vec<u8>,
+    /// The table of names that was handed in with a sheet.
+    pub table: Option<Vec<u8>>,
     pub names: Names,
-    pub attributes: BTreeMap<(Sort, u32), Vec<String>>,
+    pub attributes: Attributes,
 }
 
 pub fn read(options: &Options) -> Result<Input, Stop> {
     let path = &options.grammar;
-    let bytes = read_file(path)?;
-    if is_sheet(path, &bytes) {
-        return Ok(Input {
-            is_text: false,
-            bytes,
-            names: names(options.names.as_deref())?,
-            attributes: BTreeMap::new(),
-        });
+    let file = read_file(path)?;
+    let mut input = Input {
+        name: shown(path),
+        is_text: !is_sheet(path, &file),
+        bytes: Vec::new(),
+        table: None,
+        names: Names::default(),
+        attributes: Attributes::new(),
+        file,
+    };
+    match input.is_text {
+        true => input.read_text(path)?,
+        false => input.read_table(options.names.as_deref())?,
     }
-    let grammar = text(&bytes).map_err(|fault| Stop::text(path, &fault))?;
-    Ok(Input {
-        is_text: true,
-        bytes: grammar.sheet.bytes(),
-        names: grammar.names,
-        attributes: grammar.attributes,
-    })
+    Ok(input)
+}
+
+impl Input {
+    fn read_text(&mut self, path: &Path) -> Result<(), Stop> {
+        let grammar = text(&self.file).map_err(|fault| Stop::text(path, &fault))?;
+        self.bytes = grammar.sheet.bytes();
+        (self.names, self.attributes) = (grammar.names, grammar.attributes);
+        Ok(())
+    }
+
+    /// The names of a sheet, which must be its own.
+    fn read_table(&mut self, path: Option<&Path>) -> Result<(), Stop> {
+        self.bytes = self.file.clone();
+        let Some(path) = path else { return Ok(()) };
+        let bytes = read_file(path)?;
+        let table = parse_table(&bytes).map_err(|fault| Stop::text(path, &fault))?;
+        if let Some(text) = of_another(&table, &self.bytes) {
+            let text = format!("{}: {text}", path.display());
+            return Err(Stop {
+                status: Status::Text,
+                text,
+            });
+        }
+        (self.names, self.attributes) = (table.names, table.attributes);
+        self.table = Some(bytes);
+        Ok(())
+    }
+}
+
+fn of_another(table: &Table, sheet: &[u8]) -> Option<String> {
+    let own = sha256::hex(sheet);
+    let other = || {
+        format!(
+            "these names belong to another sheet: SHA-256 {}; the one handed in has SHA-256 {own}",
+            table.sheets.join(" or ")
+        )
+    };
+    (!table.sheets.contains(&own)).then(other)
 }
 
 /// A sheet's trailer begins with a word of 1 to 3, so that every sheet has a zero byte; a text has none.
@@ -51,13 +93,33 @@ fn is_sheet(path: &Path, bytes: &[u8]) -> bool {
     }
 }
 
+/// The name of a file as a comment can show it, on one line.
+fn shown(path: &Path) -> String {
+    let Some(name) = path.file_name().filter(|name| *name != "-") else {
+        return "standard input".to_owned();
+    };
+    let mut out = String::new();
+    for letter in name.to_string_lossy().chars() {
+        match letter.is_control() {
+            true => out.extend(letter.escape_default()),
+            false => out.push(letter),
+        }
+    }
+    out
+}
+
 /// Of a file that is longer than any text and any sheet, only so much as tells that.
 fn read_file(path: &Path) -> Result<Vec<u8>, Stop> {
+    let bytes = match path.as_os_str() == "-" {
+        true => first_part(io::stdin().lock()),
+        false => File::open(path).and_then(first_part),
+    };
+    bytes.map_err(|fault| Stop::file("read", path, &fault))
+}
+
+fn first_part(from: impl Read) -> io::Result<Vec<u8>> {
     let mut bytes = Vec::new();
-    let file = File::open(path).map_err(|fault| Stop::file("read", path, &fault))?;
-    let mut part = file.take(MOST_TEXT as u64 + 1);
-    part.read_to_end(&mut bytes)
-        .map_err(|fault| Stop::file("read", path, &fault))?;
+    from.take(MOST_TEXT as u64 + 1).read_to_end(&mut bytes)?;
     Ok(bytes)
 }
 
@@ -81,11 +143,4 @@ fn text(bytes: &[u8]) -> Result<Grammar, Fault> {
         true => missing(bytes, "a rule", "the end of the text"),
         false => Ok(grammar),
     }
-}
-
-fn names(path: Option<&Path>) -> Result<Names, Stop> {
-    let Some(path) = path else {
-        return Ok(Names::default());
-    };
-    parse_names(&read_file(path)?).map_err(|fault| Stop::text(path, &fault))
 }

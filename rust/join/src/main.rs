@@ -1,7 +1,11 @@
 //! `join`: a grammar's left-recursive cycles joined by the proved pass, printed with where each alternative came from.
 #![forbid(unsafe_code)]
 
+mod answer;
+mod ends;
+mod files;
 mod input;
+mod levels;
 mod listing;
 mod options;
 mod origins;
@@ -9,21 +13,28 @@ mod report;
 mod stop;
 
 use std::io::Write as _;
-use std::path::Path;
 use std::process::ExitCode;
 
-use mutual_recursion::{Joined, Refusal, join};
+use mutual_recursion::{Refusal, join};
 
+use crate::answer::Answer;
+use crate::files::Files;
 use crate::input::Input;
 use crate::options::{Asked, Options};
 use crate::stop::{Status, Stop};
 
 /// ./join prints it too, before anything is built.
 const HELP: &str = include_str!("../help.txt");
+const VERSION: &str = env!("CARGO_PKG_VERSION");
+/// The kit that proved the pass, as it is told beside the archives that were linked.
+const KIT: &str = env!("PROVED_BY");
+/// The digest of what they were made of.
+const SOURCES: &str = env!("MADE_OF");
 
 fn main() -> ExitCode {
     let done = match options::asked(std::env::args_os().skip(1)) {
         Ok(Asked::Help) => printed(HELP),
+        Ok(Asked::Version) => printed(&format!("join {VERSION}\nkit {KIT}\nsources {SOURCES}\n")),
         Ok(Asked::Join(options)) => run(&options),
         Err(stop) => Err(stop),
     };
@@ -39,14 +50,21 @@ fn main() -> ExitCode {
 
 fn run(options: &Options) -> Result<(), Stop> {
     let input = input::read(options)?;
+    files::apart(options, !input.is_text)?;
     let joined = match join(&input.bytes, options.reading) {
         Ok(joined) => joined,
         Err(refusal) => return Err(refused(refusal, &input, options)?),
     };
-    write_files(options, &joined, &input)?;
+    let answer = Answer::of(input, joined, options);
+    let files = staged(options, &answer)?;
     match options.listing {
-        true => printed(&listing::listing(&joined)),
-        false => printed(&report::report(input, &joined, options.reading)),
+        true => printed(&listing::listing(&answer.joined))?,
+        false => printed(&report::report(&answer))?,
+    }
+    files.put()?;
+    match options.strict {
+        true => answer.none_left(),
+        false => Ok(()),
     }
 }
 
@@ -66,28 +84,26 @@ fn refused(refusal: Refusal, input: &Input, options: &Options) -> Result<Stop, S
     })
 }
 
-fn write_files(options: &Options, joined: &Joined, input: &Input) -> Result<(), Stop> {
+/// The files that are asked for; they are put in their places once the answer is printed.
+fn staged(options: &Options, answer: &Answer) -> Result<Files, Stop> {
+    let mut files = Files::default();
     if let Some(path) = &options.sheet {
-        write(path, &joined.sheet)?;
+        files.stage(path, answer.joined.sheet.clone())?;
     }
     if let Some(path) = &options.trail {
-        write(path, &joined.trail_bytes())?;
+        files.stage(path, answer.joined.trail_bytes())?;
     }
-    match &options.names {
-        Some(path) if input.is_text => write(path, notation::names_text(&input.names).as_bytes()),
-        _ => Ok(()),
+    if let (Some(path), true) = (&options.names, answer.is_text) {
+        files.stage(path, answer.table.clone().unwrap_or_default())?;
     }
-}
-
-fn write(path: &Path, bytes: &[u8]) -> Result<(), Stop> {
-    std::fs::write(path, bytes).map_err(|fault| Stop::file("write", path, &fault))
+    Ok(files)
 }
 
 fn printed(text: &str) -> Result<(), Stop> {
+    if streams::is_output_closed() {
+        return Err(Stop::output(&"it is closed"));
+    }
     let mut out = std::io::stdout().lock();
     let done = out.write_all(text.as_bytes()).and_then(|()| out.flush());
-    done.map_err(|fault| Stop {
-        status: Status::File,
-        text: format!("cannot write to standard output: {fault}"),
-    })
+    done.map_err(|fault| Stop::output(&fault))
 }

@@ -1,16 +1,18 @@
-//! Why the program ends without its answer.
+//! Why the program ends without its answer, or with a status of its own.
 
 use std::fmt::Display;
 use std::path::Path;
 
-/// The exit status; 0 is for an answer.
+/// The exit status; 0 is for an answer, and 4 for `./join`, where the program cannot be built.
 #[derive(Clone, Copy, Debug, Eq, PartialEq)]
 pub enum Status {
     Refused = 1,
-    /// A text in the notation is wrong.
+    /// A text in the notation is wrong, or a table of names is another sheet's.
     Text = 2,
     /// A file cannot be read or written, or the program is used wrongly.
     File = 3,
+    /// All is answered, and with `--strict` a cycle is left.
+    Left = 5,
 }
 
 #[derive(Clone, Debug, Eq, PartialEq)]
@@ -31,6 +33,13 @@ impl Stop {
         Stop {
             status: Status::Text,
             text: format!("{}: {fault}", path.display()),
+        }
+    }
+
+    pub fn output(fault: &impl Display) -> Stop {
+        Stop {
+            status: Status::File,
+            text: format!("cannot write to standard output: {fault}"),
         }
     }
 }

@@ -38,6 +38,7 @@
 #![forbid(unsafe_code)]
 
 mod codec;
+mod fault;
 mod names;
 mod parse;
 mod print;
@@ -46,10 +47,11 @@ mod table;
 mod tree;
 mod walk;
 
+pub use fault::{Fault, Warning, shown};
 pub use names::{Names, Place};
-pub use parse::{Grammar, parse, parse_bytes};
+pub use parse::{Grammar, MOST_FAULTS, Spot, Text, parse, parse_bytes, read};
 pub use print::{Printer, Style, names_text, print};
-pub use scan::{Fault, end_of};
+pub use scan::end_of;
 pub use table::{Attributes, Table, parse_table};
 pub use tree::{
     Alternative, Counters, Element, Kind, Label, OptionDecl, Reference, Rule, Semantics, Sheet,

@@ -238,6 +238,9 @@ fn carried(gap: &str, number: u32) -> String {
     }
 }
 
+/// The kind of a parser unit, in which a rule has no token's name.
+const PARSER: u32 = 2;
+
 /// Numbers that stand where their text cannot.
 fn unfit(grammar: &Grammar) -> BTreeSet<u32> {
     let mut found = BTreeMap::new();
@@ -246,6 +249,9 @@ fn unfit(grammar: &Grammar) -> BTreeSet<u32> {
         *found.entry(number).or_insert(false) |= text.is_some_and(|text| !place.fits(text));
     };
     for rule in &grammar.sheet.rules {
+        if grammar.sheet.kind == PARSER {
+            see(rule.name, Place::Call);
+        }
         alternatives(&rule.alternatives, &mut |node| {
             if let Node::Element(_, own) = node {
                 match own.kind {

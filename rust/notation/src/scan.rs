@@ -1,28 +1,8 @@
 //! The words and marks of the notation, each with its place.
 
-use std::fmt;
-
 use crate::MOST_NAME;
+use crate::fault::{Fault, quoted};
 use crate::names::is_token;
-
-/// What is wrong with a text, and where; lines and columns count from 1, columns in characters.
-#[derive(Clone, Debug, Eq, PartialEq)]
-pub struct Fault {
-    pub line: usize,
-    pub column: usize,
-    pub expected: String,
-    pub found: String,
-}
-
-impl fmt::Display for Fault {
-    fn fmt(&self, out: &mut fmt::Formatter) -> fmt::Result {
-        let Fault { line, column, .. } = self;
-        write!(out, "line {line}, column {column}: expected ")?;
-        write!(out, "{}, found {}", self.expected, self.found)
-    }
-}
-
-impl std::error::Error for Fault {}
 
 #[derive(Clone, Copy, Debug, Eq, PartialEq)]
 pub(crate) enum What<'a> {
@@ -34,6 +14,8 @@ pub(crate) enum What<'a> {
     Number(u32),
     /// A single mark, or `::`.
     Mark(&'static str),
+    /// What ANTLR's own texts have: a literal, what stands in brackets and is no number, a body that is code.
+    Foreign(&'a str),
     End,
 }
 
@@ -54,17 +36,29 @@ impl Token<'_> {
         matches!(self.what, What::Name(_) | What::Numbered(..))
     }
 
+    pub(crate) fn is_mark(&self, mark: &str) -> bool {
+        matches!(self.what, What::Mark(found) if found == mark)
+    }
+
     pub(crate) fn fault(&self, expected: &str) -> Fault {
+        self.advised(expected, "")
+    }
+
+    pub(crate) fn advised(&self, expected: &str, advice: &str) -> Fault {
         Fault {
             line: self.line,
             column: self.column,
             expected: expected.to_owned(),
             found: match self.what {
-                What::Name(text) | What::Directive(text) | What::Numbered(text, _) => quoted(text),
+                What::Name(text)
+                | What::Directive(text)
+                | What::Numbered(text, _)
+                | What::Foreign(text) => quoted(text),
                 What::Number(number) => format!("`{number}`"),
                 What::Mark(mark) => quoted(mark),
                 What::End => "the end of the text".to_owned(),
             },
+            advice: advice.to_owned(),
         }
     }
 }
@@ -73,25 +67,28 @@ const MARKS: [&str; 26] = [
     "::", ":", ";", "|", "?", "*", "+", "(", ")", "[", "]", "<", ">", "{", "}", "&", "$", "@", "~",
     "^", "#", "!", "=", ",", ".", "-",
 ];
+/// The most characters of a literal, of what stands in brackets, and of a body that is code.
+const LONGEST_LITERAL: usize = 200;
+const LONGEST_BODY: usize = 2_000;
 /// What a name of a number begins with (`Place::letter`).
 const LETTERS: [&str; 4] = ["r", "T", "x", "o"];
-/// The most of what was found that a message shows, in characters.
-const SHOWN: usize = 40;
 
-/// All words and marks of a text, and at last its end.
-pub(crate) fn scan(text: &str) -> Result<Vec<Token<'_>>, Fault> {
+/// All words and marks of a text, and at last its end; what is neither is passed over, with a fault.
+pub(crate) fn scan(text: &str) -> (Vec<Token<'_>>, Vec<Fault>) {
     let mut cursor = Cursor {
         rest: text.strip_prefix('\u{feff}').unwrap_or(text),
         line: 1,
         column: 1,
     };
-    let mut tokens = Vec::new();
+    let (mut tokens, mut faults) = (Vec::new(), Vec::new());
     loop {
         cursor.skip_gaps();
-        let token = cursor.token()?;
-        tokens.push(token);
-        if token.what == What::End {
-            return Ok(tokens);
+        match cursor.token() {
+            Ok(token) => tokens.push(token),
+            Err(fault) => faults.push(fault),
+        }
+        if tokens.last().is_some_and(|token| token.what == What::End) {
+            return (tokens, faults);
         }
     }
 }
@@ -102,6 +99,9 @@ pub fn end_of(text: &str) -> (usize, usize) {
     let line = 1 + text.matches('\n').count();
     (line, 1 + last.chars().count())
 }
+
+/// What was expected, what was found, and what to write.
+type Wrong<'a> = (&'static str, &'a str, &'static str);
 
 struct Cursor<'a> {
     rest: &'a str,
@@ -140,94 +140,130 @@ impl<'a> Cursor<'a> {
 
     fn token(&mut self) -> Result<Token<'a>, Fault> {
         let (line, column) = (self.line, self.column);
-        let what = self.what().map_err(|(expected, found)| Fault {
+        let what = self.what().map_err(|(expected, found, advice)| Fault {
             line,
             column,
             expected: expected.to_owned(),
             found: quoted(found),
+            advice: advice.to_owned(),
         })?;
         Ok(Token { what, line, column })
     }
 
-    /// What stands next; or what was expected, and what was found.
-    fn what(&mut self) -> Result<What<'a>, (&'static str, &'a str)> {
+    fn what(&mut self) -> Result<What<'a>, Wrong<'a>> {
         let Some(first) = self.rest.chars().next() else {
             return Ok(What::End);
         };
         if first.is_ascii_digit() {
-            let digits = self.take(self.length(|next| next.is_ascii_digit()));
+            let digits = self.take(self.length(0, |next| next.is_ascii_digit()));
             let number = digits.parse().map(What::Number);
-            return number.map_err(|_| ("a number up to 4294967295", digits));
+            return number.map_err(|_| ("a number up to 4294967295", digits, ""));
         }
         if first.is_ascii_alphabetic() || first == '_' {
             return self.name();
         }
         if first == '%' {
-            return Ok(What::Directive(self.take(self.name_length(1))));
+            return Ok(What::Directive(self.take(1 + self.length(1, is_inner))));
+        }
+        if self.rest.starts_with("/*") {
+            let end = self.rest.find("*/").map_or(self.rest.len(), |end| end + 2);
+            let advice = "write `//` in front of each line of a comment";
+            self.take(end);
+            return Err(("a comment behind `//`", "/*", advice));
+        }
+        if let Some(length) = self.foreign(first) {
+            return Ok(What::Foreign(self.take(length)));
         }
         match MARKS.iter().find(|mark| self.rest.starts_with(**mark)) {
             Some(mark) => {
                 self.take(mark.len());
                 Ok(What::Mark(mark))
             }
-            None => Err((
-                "a name, a number or a mark of the notation",
-                &self.rest[..first.len_utf8()],
-            )),
+            None => {
+                let found = self.take(first.len_utf8());
+                Err(("a name, a number or a mark of the notation", found, ""))
+            }
         }
     }
 
     /// A name with a text, or one of a number: `r%7`, `T%7`, `x%7` and `o%7`.
-    fn name(&mut self) -> Result<What<'a>, (&'static str, &'a str)> {
-        let letters = self.name_length(0);
-        let digits = self.digits_behind(letters);
-        if !LETTERS.contains(&&self.rest[..letters]) || digits == 0 {
+    fn name(&mut self) -> Result<What<'a>, Wrong<'a>> {
+        let letters = self.length(0, is_inner);
+        let is_numbered = LETTERS.contains(&&self.rest[..letters]);
+        let digits = match self.rest[letters..].starts_with('%') && is_numbered {
+            true => self.length(letters + 1, |next| next.is_ascii_digit()),
+            false => 0,
+        };
+        if digits == 0 {
             return Ok(What::Name(self.take(letters)));
         }
         let written = self.take(letters + 1 + digits);
         let number = written[letters + 1..].parse().ok();
         let number = number.filter(|number| (1..=MOST_NAME).contains(number));
-        let expected = ("a number of a name, from 1 to 65535", written);
+        let wrong = ("a number of a name, from 1 to 65535", written, "");
         number
             .map(|number| What::Numbered(written, number))
-            .ok_or(expected)
+            .ok_or(wrong)
     }
 
-    /// How many digits stand behind a `%` that stands behind so many bytes.
-    fn digits_behind(&self, front: usize) -> usize {
-        let Some(behind) = self.rest[front..].strip_prefix('%') else {
-            return 0;
+    /// How many bytes a thing of ANTLR's own texts has that stands here.
+    fn foreign(&self, first: char) -> Option<usize> {
+        match first {
+            '\'' | '"' => self.literal(first),
+            '[' => self.bracket(),
+            '{' => self.code(),
+            _ => None,
+        }
+    }
+
+    /// Up to the quote that ends it, on the same line; what stands behind a backslash ends nothing.
+    fn literal(&self, quote: char) -> Option<usize> {
+        let mut letters = self.rest.char_indices().skip(1).take(LONGEST_LITERAL);
+        while let Some((place, letter)) = letters.next() {
+            match letter {
+                '\n' => return None,
+                '\\' => drop(letters.next()),
+                _ if letter == quote => return Some(place + letter.len_utf8()),
+                _ => {}
+            }
+        }
+        None
+    }
+
+    /// A set or a declaration in brackets; a number in them is the notation's own.
+    fn bracket(&self) -> Option<usize> {
+        let end = self.literal(']')?;
+        let inner = self.rest[1..end - 1].trim();
+        let is_number = !inner.is_empty() && inner.bytes().all(|byte| byte.is_ascii_digit());
+        (!is_number).then_some(end)
+    }
+
+    /// A body that has more in it than references; a longer one is not looked for.
+    fn code(&self) -> Option<usize> {
+        let mut depth = 0;
+        let ends = |(_, letter): &(usize, char)| {
+            match letter {
+                '{' => depth += 1,
+                '}' => depth -= 1,
+                _ => {}
+            }
+            depth == 0
         };
-        let end = behind.find(|next: char| !next.is_ascii_digit());
-        end.unwrap_or(behind.len())
+        let mut letters = self.rest.char_indices().take(LONGEST_BODY);
+        let end = letters.find(ends)?.0 + 1;
+        let own =
+            |letter: char| is_inner(letter) || letter.is_whitespace() || "$.:@%?".contains(letter);
+        let is_own = self.rest[1..end - 1].chars().all(own);
+        (!is_own).then_some(end)
     }
 
-    fn length(&self, inner: impl Fn(char) -> bool) -> usize {
-        self.rest
-            .find(|next| !inner(next))
-            .unwrap_or(self.rest.len())
-    }
-
-    /// Of a name that begins behind so many bytes.
-    fn name_length(&self, front: usize) -> usize {
-        let inner = |next: char| next.is_ascii_alphanumeric() || next == '_';
+    /// How many bytes of such characters stand behind the first ones.
+    fn length(&self, front: usize, inner: impl Fn(char) -> bool) -> usize {
         let behind = &self.rest[front..];
-        front + behind.find(|next| !inner(next)).unwrap_or(behind.len())
+        behind.find(|next| !inner(next)).unwrap_or(behind.len())
     }
 }
 
-/// As a message shows it: one line, not too long, nothing that a terminal would act on.
-fn quoted(text: &str) -> String {
-    let mut shown = String::new();
-    for (place, letter) in text.chars().enumerate() {
-        match letter {
-            _ if place == SHOWN => {
-                shown.push_str("..");
-                break;
-            }
-            _ if letter.is_control() => shown.extend(letter.escape_default()),
-            _ => shown.push(letter),
-        }
-    }
-    format!("`{shown}`")
+fn is_inner(letter: char) -> bool {
+    letter.is_ascii_alphanumeric() || letter == '_'
 }

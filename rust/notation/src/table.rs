@@ -3,10 +3,11 @@
 use std::collections::BTreeMap;
 use std::fmt::Write as _;
 
+use crate::fault::Fault;
 use crate::names::Names;
 use crate::parse::{Parser, text_of};
 use crate::print::names_text;
-use crate::scan::{Fault, What, scan};
+use crate::scan::{What, scan};
 use crate::walk::Sort;
 
 /// Of each action and predicate, by sort and id, the attributes of its references: `text` of `$x.text`, nothing of
@@ -68,7 +69,10 @@ fn word_of(sort: Sort) -> &'static str {
 
 /// A table in the form that [`Table::text`] has. One that names no sheet is none.
 pub fn parse_table(bytes: &[u8]) -> Result<Table, Fault> {
-    let tokens = scan(text_of(bytes)?)?;
+    let (tokens, faults) = scan(text_of(bytes)?);
+    if let Some(fault) = faults.into_iter().next() {
+        return Err(fault);
+    }
     let mut parser = Parser::of(&tokens);
     let mut table = Table::default();
     loop {

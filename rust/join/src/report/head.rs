@@ -1,132 +1,172 @@
 //! The comments in front of the grammar.
 
-use mutual_recursion::{CycleLeft, Decision, Reading, cycles};
+use mutual_recursion::{CycleLeft, Decision, Reading};
 use notation::{Kind, Node, Place, Printer, Style, alternatives};
 
-use super::Report;
+use crate::answer::Answer;
+use crate::levels::Remark;
+use crate::{KIT, VERSION};
 
-const VERSION: &str = env!("CARGO_PKG_VERSION");
-/// The kit that proved the pass.
-const KIT: &str = include_str!("../../../../.ci/kit");
 /// Columns that a comment has at most, where words allow.
 const COLUMNS: usize = 110;
 
-impl Report<'_> {
-    pub(super) fn head(&self) -> String {
-        let mut lines = vec![format!("join {VERSION}, kit {}", KIT.trim())];
-        for (what, bytes) in [
-            ("in", &self.before.sheet.bytes()),
-            ("back", &self.joined.sheet),
-        ] {
-            let digest = sha256::hex(bytes);
-            lines.push(format!(
-                "sheet handed {what}: SHA-256 {digest}, {} bytes",
-                bytes.len()
-            ));
+pub fn head(answer: &Answer, remarks: &[Remark]) -> String {
+    let mut lines = vec![format!("join {VERSION}, kit {KIT}")];
+    lines.push(counts(answer, remarks));
+    lines.extend(handed(answer));
+    let (plans, steps) = (answer.joined.plans, answer.joined.steps);
+    lines.push(format!(
+        "{}, {}",
+        counted(plans as usize, "plan"),
+        counted(steps as usize, "step")
+    ));
+    lines.push(format!("joined: {}", list(answer, &answer.hubs)));
+    lines.push(format!("removed: {}", list(answer, &removed(answer))));
+    lines.extend(left(answer));
+    lines.extend(symbols(answer));
+    lines.extend(told(remarks));
+    if !answer.hubs.is_empty() {
+        lines.push(LEGEND.to_owned());
+    }
+    lines.iter().map(|line| comment(line)).collect()
+}
+
+/// What a reader of a release file looks for first.
+fn counts(answer: &Answer, remarks: &[Remark]) -> String {
+    let (joined, left) = (answer.joined.plans, answer.left.len());
+    let warnings = remarks.iter().filter(|remark| remark.is_warning).count();
+    format!("cycles joined: {joined}; cycles left: {left}; warnings: {warnings}")
+}
+
+/// Warnings with their numbers, and notes without.
+fn told(remarks: &[Remark]) -> Vec<String> {
+    let mut number = 0;
+    let one = |remark: &Remark| {
+        if !remark.is_warning {
+            return format!("note: {}", remark.text);
         }
-        lines.push(self.run());
-        lines.push(format!("joined: {}", self.list(&self.hubs)));
-        lines.push(format!("removed: {}", self.list(&self.removed())));
-        lines.extend(self.left());
-        lines.extend(self.symbols());
-        if !self.hubs.is_empty() {
-            lines.push(LEGEND.to_owned());
+        number += 1;
+        format!("warning {number}: {}", remark.text)
+    };
+    remarks.iter().map(one).collect()
+}
+
+/// What came in and what goes out, by their digests, and the options in force.
+fn handed(answer: &Answer) -> Vec<String> {
+    let reading = match answer.reading {
+        Reading::Original => "the original's",
+        Reading::Textbook => "the textbook's",
+    };
+    let options = match answer.options.is_empty() {
+        true => "none".to_owned(),
+        false => answer.options.join(" "),
+    };
+    let mut lines = vec![format!(
+        "options: {options}; {reading} reading of left corners"
+    )];
+    lines.push(format!("file handed in: {}", answer.name));
+    if answer.is_text {
+        lines.push(digest("text", &answer.file, "byte"));
+    }
+    lines.push(match &answer.table {
+        Some(table) => {
+            let names = counted(answer.before.names.all().count(), "name");
+            format!("table of names: SHA-256 {}, {names}", sha256::hex(table))
         }
-        lines.iter().map(|line| comment(line)).collect()
-    }
+        None => "table of names: none".to_owned(),
+    });
+    lines.push(digest(
+        "sheet handed in",
+        &answer.before.sheet.bytes(),
+        "byte",
+    ));
+    lines.push(digest("sheet handed back", &answer.joined.sheet, "byte"));
+    lines
+}
 
-    fn run(&self) -> String {
-        let reading = match self.reading {
-            Reading::Original => "the original's",
-            Reading::Textbook => "the textbook's",
-        };
-        let (plans, steps) = (self.joined.plans, self.joined.steps);
-        let (plans, steps) = (counted(plans, "plan"), counted(steps, "step"));
-        format!("{reading} reading of left corners: {plans}, {steps}")
-    }
+fn digest(what: &str, bytes: &[u8], unit: &str) -> String {
+    let length = counted(bytes.len(), unit);
+    format!("{what}: SHA-256 {}, {length}", sha256::hex(bytes))
+}
 
-    fn removed(&self) -> Vec<u32> {
-        let kept = |id| self.after.sheet.rules.iter().any(|rule| rule.id == id);
-        let ids = self.before.sheet.rules.iter().map(|rule| rule.id);
-        ids.filter(|id| !kept(*id)).collect()
-    }
+fn removed(answer: &Answer) -> Vec<u32> {
+    let kept = |id| answer.after.sheet.rules.iter().any(|rule| rule.id == id);
+    let ids = answer.before.sheet.rules.iter().map(|rule| rule.id);
+    ids.filter(|id| !kept(*id)).collect()
+}
 
-    /// A line for each cycle that is still there, with the reason.
-    fn left(&self) -> Vec<String> {
-        let unit = match self.after.sheet.kind {
-            1 => "a lexer unit",
-            3 => "a combined unit",
-            _ => return self.declined(),
-        };
-        vec![format!("{unit}, in which no cycle is joined")]
-    }
+/// A line for each cycle that is still there, with the reason.
+fn left(answer: &Answer) -> Vec<String> {
+    let unit = match answer.after.sheet.kind {
+        1 => "a lexer unit",
+        3 => "a combined unit",
+        _ => return answer.left.iter().map(|own| cycle(answer, own)).collect(),
+    };
+    let told = |own: &CycleLeft| format!("cycle left: {}", list(answer, &own.members));
+    let mut lines = vec![format!("{unit}, in which no cycle is joined")];
+    lines.extend(answer.left.iter().map(told));
+    lines
+}
 
-    fn declined(&self) -> Vec<String> {
-        let found = cycles(&self.joined.sheet, self.reading).expect("a result is not refused");
-        if found.is_empty() {
-            return vec!["cycles left: none".to_owned()];
-        }
-        found.iter().map(|cycle| self.cycle(cycle)).collect()
-    }
-
-    fn cycle(&self, cycle: &CycleLeft) -> String {
-        let members = self.list(&cycle.members);
-        match &cycle.decision {
-            Decision::Declined(clause) => {
-                format!(
-                    "cycle left: {members}; clause {}, {clause}",
-                    clause.number()
-                )
-            }
-            other => unreachable!("a result's cycle is declined: {other:?}"),
-        }
-    }
-
-    /// Calls that no rule answers: what is meant may be a token, or a rule that is misspelled.
-    fn symbols(&self) -> Option<String> {
-        let sheet = &self.before.sheet;
-        let printer = Printer::of(&self.before, Style::Plain);
-        let mut names = Vec::new();
-        for rule in &sheet.rules {
-            alternatives(&rule.alternatives, &mut |node| {
-                if let Node::Element(_, own) = node
-                    && let Kind::Call { name, .. } = own.kind
-                    && !sheet.rules.iter().any(|rule| rule.name == name)
-                {
-                    names.push(printer.name(name, Place::Call));
-                }
-            });
-        }
-        names.sort_unstable();
-        names.dedup();
-        let told = || {
+fn cycle(answer: &Answer, cycle: &CycleLeft) -> String {
+    let members = list(answer, &cycle.members);
+    match &cycle.decision {
+        Decision::Declined(clause) => {
             format!(
-                "read as symbols, since no rule has the name: {}",
-                names.join(", ")
+                "cycle left: {members}; clause {}, {clause}",
+                clause.number()
             )
-        };
-        (!names.is_empty()).then(told)
-    }
-
-    /// The names of rules handed in.
-    fn list(&self, ids: &[u32]) -> String {
-        let printer = Printer::of(&self.before, Style::Plain);
-        let rule = |id| self.before.sheet.rules.iter().find(|rule| rule.id == id);
-        let names = ids.iter().filter_map(|id| rule(*id));
-        let names: Vec<String> = names
-            .map(|rule| printer.name(rule.name, Place::Rule))
-            .collect();
-        match names.is_empty() {
-            true => "none".to_owned(),
-            false => names.join(", "),
         }
+        other => unreachable!("a result's cycle is declined: {other:?}"),
     }
 }
 
-const LEGEND: &str = "behind an alternative of a joined rule: its slot, the alternative handed in whose place it \
-                      fills, and its origin, the one handed in from which it was taken last";
+/// Calls that no rule answers: what is meant may be a token, or a rule that is misspelled.
+fn symbols(answer: &Answer) -> Option<String> {
+    let sheet = &answer.before.sheet;
+    let printer = Printer::of(&answer.before, Style::Plain);
+    let mut names = Vec::new();
+    for rule in &sheet.rules {
+        alternatives(&rule.alternatives, &mut |node| {
+            if let Node::Element(_, own) = node
+                && let Kind::Call { name, .. } = own.kind
+                && !sheet.rules.iter().any(|rule| rule.name == name)
+            {
+                names.push(printer.name(name, Place::Call));
+            }
+        });
+    }
+    names.sort_unstable();
+    names.dedup();
+    let told = || {
+        format!(
+            "read as symbols, since no rule has the name: {}",
+            names.join(", ")
+        )
+    };
+    (!names.is_empty()).then(told)
+}
 
-fn counted(number: u32, what: &str) -> String {
+/// The names of rules handed in.
+fn list(answer: &Answer, ids: &[u32]) -> String {
+    let printer = Printer::of(&answer.before, Style::Plain);
+    let rule = |id| answer.before.sheet.rules.iter().find(|rule| rule.id == id);
+    let names = ids.iter().filter_map(|id| rule(*id));
+    let names: Vec<String> = names
+        .map(|rule| printer.name(rule.name, Place::Rule))
+        .collect();
+    match names.is_empty() {
+        true => "none".to_owned(),
+        false => names.join(", "),
+    }
+}
+
+const LEGEND: &str = "behind an alternative of a joined rule: its level, of which the higher binds tighter; its form, \
+                      by where the rule's own call stands: at both ends (binary), in front (suffix), at the end \
+                      (prefix) or at neither (primary); its slot, the alternative handed in whose place it fills; \
+                      and its origin, the one handed in from which it was taken last";
+
+fn counted(number: usize, what: &str) -> String {
     match number {
         1 => format!("1 {what}"),
         _ => format!("{number} {what}s"),

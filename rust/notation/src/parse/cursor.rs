@@ -1,7 +1,8 @@
 //! What stands ahead in the text.
 
 use super::Parser;
-use crate::scan::{Fault, Token, What};
+use crate::fault::Fault;
+use crate::scan::{Token, What};
 
 impl<'a> Parser<'a> {
     /// The last of the tokens, the end, is never skipped.
@@ -10,11 +11,13 @@ impl<'a> Parser<'a> {
     }
 
     pub(super) fn is_ahead(&self, mark: &str) -> bool {
-        matches!(self.ahead().what, What::Mark(found) if found == mark)
+        self.ahead().is_mark(mark)
     }
 
     pub(crate) fn skip(&mut self) {
-        self.tokens = &self.tokens[1..];
+        if self.tokens.len() > 1 {
+            self.tokens = &self.tokens[1..];
+        }
     }
 
     pub(crate) fn take(&mut self, mark: &str) -> bool {

@@ -2,22 +2,24 @@
 
 use super::Parser;
 use crate::MOST_DEPTH;
-use crate::scan::{Fault, What};
+use crate::fault::Fault;
+use crate::scan::What;
 use crate::tree::{Element, Kind, Label, OptionDecl, Reference, Semantics};
 use crate::walk::Sort;
 
 impl Parser<'_> {
     pub(super) fn element_ahead(&self) -> bool {
         let marks = ["^", "(", ".", "&", "{"];
-        self.ahead().is_name() || marks.iter().any(|mark| self.is_ahead(mark))
+        let foreign = matches!(self.ahead().what, What::Foreign(_));
+        self.ahead().is_name() || foreign || marks.iter().any(|mark| self.is_ahead(mark))
     }
 
     /// Ids are handed out as the pass does: the element, its label, what it holds.
     pub(super) fn element(&mut self, depth: usize) -> Result<Element, Fault> {
-        let id = self.id("^", Sort::Element)?;
+        let id = self.id("^", Sort::Element, self.ahead())?;
         let label = self.label()?;
         let kind = self.atom(depth)?;
-        let quantifier = self.quantifier();
+        let quantifier = self.quantifier_of(&kind);
         let options = self.options()?;
         let carried = self.carried()?;
         Ok(Element {
@@ -34,18 +36,28 @@ impl Parser<'_> {
         let ahead = |place: usize| self.tokens.get(place).map(|token| token.what);
         let is_name = self.ahead().is_name();
         let mark = |place, mark| ahead(place) == Some(What::Mark(mark));
+        if is_name && mark(1, "+") && mark(2, "=") {
+            let advice = "a label is written `x=INT`";
+            self.tell(self.tokens[1].advised("`=`", advice));
+            (0..3).for_each(|_| self.skip());
+            return Ok(None);
+        }
         let written = mark(1, "=")
             || (mark(1, "@") && matches!(ahead(2), Some(What::Number(_))) && mark(3, "="));
         if !(written && is_name) {
             return Ok(None);
         }
+        let token = self.ahead();
         let name = self.named("a label's name")?;
-        let id = self.id("@", Sort::Label)?;
+        let id = self.id("@", Sort::Label, token)?;
         self.expect("=")?;
         Ok(Some(Label { id, name }))
     }
 
     fn atom(&mut self, depth: usize) -> Result<Kind, Fault> {
+        if self.skip_foreign_element() {
+            return Ok(Kind::Other);
+        }
         if self.is_ahead("(") {
             return self.block(depth + 1);
         }
@@ -84,6 +96,12 @@ impl Parser<'_> {
     }
 
     fn arguments(&mut self) -> Result<u32, Fault> {
+        if matches!(self.ahead().what, What::Foreign(text) if text.starts_with('[')) {
+            let advice = "arguments are a number here, the same for the same arguments: `e[5]`";
+            self.tell(self.ahead().advised("a number in brackets", advice));
+            self.skip();
+            return Ok(0);
+        }
         if !self.take("[") {
             return Ok(0);
         }
@@ -93,23 +111,37 @@ impl Parser<'_> {
     }
 
     fn semantics(&mut self, sort: Sort) -> Result<Semantics, Fault> {
+        let token = self.ahead();
         self.expect("{")?;
-        let id = self.id("@", sort)?;
+        let id = self.id("@", sort, token)?;
         let mut references = Vec::new();
         let mut attributes = Vec::new();
         while !self.take("}") {
-            if !self.take("$") {
-                return Err(self.fault("`$` or `}`"));
+            match self.reference() {
+                Ok((reference, attribute)) => {
+                    references.push(reference);
+                    attributes.push(attribute.to_owned());
+                }
+                Err(fault) => {
+                    self.tell(fault);
+                    self.skip_past("}");
+                    break;
+                }
             }
-            let name = self.named("the name that is referred to")?;
-            let (kind, attribute) = self.attribute()?;
-            references.push(Reference { kind, name });
-            attributes.push(attribute.to_owned());
         }
         if attributes.iter().any(|attribute| !attribute.is_empty()) {
             self.attributes.insert((sort, id), attributes);
         }
         Ok(Semantics { id, references })
+    }
+
+    fn reference(&mut self) -> Result<(Reference, &str), Fault> {
+        if !self.take("$") {
+            return Err(self.fault("`$` or `}`"));
+        }
+        let name = self.named("the name that is referred to")?;
+        let (kind, attribute) = self.attribute()?;
+        Ok((Reference { kind, name }, attribute))
     }
 
     /// The kind of a reference, with its attribute; `?` is one that is not known.
@@ -125,6 +157,19 @@ impl Parser<'_> {
         Ok((kind, self.name("an attribute's name or `?`")?))
     }
 
+    /// What ANTLR takes for a predicate is an action here, which may be left out.
+    fn quantifier_of(&mut self, kind: &Kind) -> u32 {
+        let token = self.ahead();
+        let quantifier = self.quantifier();
+        if quantifier == 1 && matches!(kind, Kind::Action(_)) {
+            self.warn(
+                token,
+                "`{..}?` is read as an action that may be left out; a predicate is written `&{..}`",
+            );
+        }
+        quantifier
+    }
+
     fn quantifier(&mut self) -> u32 {
         let greedy = match () {
             () if self.take("?") => 1,
@@ -135,6 +180,18 @@ impl Parser<'_> {
         greedy + u32::from(self.take("?"))
     }
 
+    fn option_value(&mut self) -> Result<u32, Fault> {
+        let token = self.ahead();
+        if !token.is_name() && !matches!(token.what, What::Foreign(_)) {
+            return self.number();
+        }
+        let advice =
+            "the value of an option is a number here, the same for the same value: `<assoc=1>`";
+        self.tell(token.advised("a number", advice));
+        self.skip();
+        Ok(0)
+    }
+
     pub(super) fn options(&mut self) -> Result<Vec<OptionDecl>, Fault> {
         let mut options = Vec::new();
         if !self.take("<") {
@@ -143,7 +200,7 @@ impl Parser<'_> {
         loop {
             let name = self.named("an option's name")?;
             self.expect("=")?;
-            let value = self.number()?;
+            let value = self.option_value()?;
             options.push(OptionDecl { name, value });
             if self.take(">") {
                 return Ok(options);
