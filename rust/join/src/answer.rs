@@ -3,9 +3,10 @@
 use std::collections::BTreeMap;
 
 use mutual_recursion::{CycleLeft, Joined, Reading, cycles};
-use notation::{Grammar, Place, Printer, Sheet, Style, Table};
+use notation::{Grammar, Place, Printer, Sheet, Sort, Spot, Style, Table, Text};
 
 use crate::input::Input;
+use crate::levels::{self, Remark};
 use crate::options::Options;
 use crate::origins;
 use crate::stop::{Status, Stop};
@@ -24,6 +25,8 @@ pub struct Answer {
     pub left: Vec<CycleLeft>,
     pub reading: Reading,
     pub options: Vec<&'static str>,
+    /// Of a text, where it says what, and what may be meant otherwise.
+    pub text: Option<Text>,
     /// The rules that were joined, by id.
     pub hubs: Vec<u32>,
     pub slots: BTreeMap<u32, u32>,
@@ -59,6 +62,7 @@ impl Answer {
             told: told(&before),
             left: cycles(&joined.sheet, reading).expect("a result is not refused"),
             options: options.words(),
+            text: input.text,
             before,
             after,
             joined,
@@ -66,9 +70,40 @@ impl Answer {
         }
     }
 
+    /// Where a node of the result stands in the text, or what it was copied from.
+    pub fn spot(&self, sort: Sort, id: u32) -> Option<Spot> {
+        let text = self.text.as_ref()?;
+        let mut id = id;
+        loop {
+            if let Some(spot) = text.spot(sort, id) {
+                return Some(spot);
+            }
+            let number = sort as u32;
+            let mut trail = self.joined.trail.iter();
+            let made = trail.find(|entry| (entry.kind.number(), entry.id) == (number, id));
+            id = made.filter(|entry| entry.owner != id)?.owner;
+        }
+    }
+
+    /// What the text may mean otherwise, and where phrases may group otherwise than the slots suggest.
+    pub fn remarks(&self) -> Vec<Remark> {
+        let text = self.text.iter().flat_map(|text| &text.warnings);
+        let of_text = text.map(|own| Remark {
+            text: own.to_string(),
+            is_warning: true,
+            about: Vec::new(),
+        });
+        of_text.chain(levels::remarks(self)).collect()
+    }
+
     /// Of an alternative handed in, as its rule and its number there.
     pub fn tell(&self, id: u32) -> &str {
         self.told.get(&id).map_or("?", String::as_str)
+    }
+
+    /// Of an alternative of the result: the one that it is, or the one whose place it fills.
+    pub fn tell_after(&self, id: u32) -> &str {
+        self.tell(self.slots.get(&id).copied().unwrap_or(id))
     }
 
     /// What `--strict` asks for.

@@ -59,8 +59,12 @@ impl Ends {
         list.iter().any(all)
     }
 
+    pub fn is_empty(&self, rule: u32) -> bool {
+        self.empty.contains(&rule)
+    }
+
     /// SPECIFICATION 6.2.
-    fn can_be_empty(&self, own: &Element) -> bool {
+    pub fn can_be_empty(&self, own: &Element) -> bool {
         if SKIPPING.contains(&own.quantifier) {
             return true;
         }

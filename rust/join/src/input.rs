@@ -4,7 +4,7 @@ use std::fs::File;
 use std::io::{self, Read};
 use std::path::Path;
 
-use notation::{Attributes, Fault, Grammar, Names, Table, end_of, parse_bytes, parse_table};
+use notation::{Attributes, Fault, Names, Table, Text, end_of, parse_table};
 
 use crate::options::Options;
 use crate::stop::{Status, Stop};
@@ -25,6 +25,8 @@ pub struct Input {
     pub table: Option<Vec<u8>>,
     pub names: Names,
     pub attributes: Attributes,
+    /// Of a text, where it says what.
+    pub text: Option<Text>,
 }
 
 pub fn read(options: &Options) -> Result<Input, Stop> {
@@ -37,6 +39,7 @@ pub fn read(options: &Options) -> Result<Input, Stop> {
         table: None,
         names: Names::default(),
         attributes: Attributes::new(),
+        text: None,
         file,
     };
     match input.is_text {
@@ -48,9 +51,12 @@ pub fn read(options: &Options) -> Result<Input, Stop> {
 
 impl Input {
     fn read_text(&mut self, path: &Path) -> Result<(), Stop> {
-        let grammar = text(&self.file).map_err(|fault| Stop::text(path, &fault))?;
+        let found = text(&self.file).map_err(|faults| Stop::text(path, &self.file, &faults))?;
+        let grammar = &found.grammar;
         self.bytes = grammar.sheet.bytes();
-        (self.names, self.attributes) = (grammar.names, grammar.attributes);
+        self.names = grammar.names.clone();
+        self.attributes = grammar.attributes.clone();
+        self.text = Some(found);
         Ok(())
     }
 
@@ -59,7 +65,8 @@ impl Input {
         self.bytes = self.file.clone();
         let Some(path) = path else { return Ok(()) };
         let bytes = read_file(path)?;
-        let table = parse_table(&bytes).map_err(|fault| Stop::text(path, &fault))?;
+        let table = parse_table(&bytes);
+        let table = table.map_err(|fault| Stop::text(path, &bytes, &[fault]))?;
         if let Some(text) = of_another(&table, &self.bytes) {
             let text = format!("{}: {text}", path.display());
             return Err(Stop {
@@ -123,24 +130,25 @@ fn first_part(from: impl Read) -> io::Result<Vec<u8>> {
     Ok(bytes)
 }
 
-fn text(bytes: &[u8]) -> Result<Grammar, Fault> {
+fn text(bytes: &[u8]) -> Result<Text, Vec<Fault>> {
     let missing = |bytes: &[u8], expected: &str, found: &str| {
         let (line, column) = end_of(&String::from_utf8_lossy(bytes));
         let (expected, found) = (expected.to_owned(), found.to_owned());
-        Err(Fault {
+        Err(vec![Fault {
             line,
             column,
             expected,
             found,
-        })
+            ..Fault::default()
+        }])
     };
     if bytes.len() > MOST_TEXT {
         let good = &bytes[..MOST_TEXT];
         return missing(good, "a text of at most 1048576 bytes", "more");
     }
-    let grammar = parse_bytes(bytes)?;
-    match grammar.sheet.rules.is_empty() {
+    let text = notation::read(bytes)?;
+    match text.grammar.sheet.rules.is_empty() {
         true => missing(bytes, "a rule", "the end of the text"),
-        false => Ok(grammar),
+        false => Ok(text),
     }
 }

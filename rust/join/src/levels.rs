@@ -108,6 +108,7 @@ impl<'a> Looking<'a> {
                 }
             }
         }
+        found.dedup_by(|one, two| one.text == two.text);
         found
     }
 

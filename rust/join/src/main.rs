@@ -9,8 +9,10 @@ mod levels;
 mod listing;
 mod options;
 mod origins;
+mod refused;
 mod report;
 mod stop;
+mod why;
 
 use std::io::Write as _;
 use std::process::ExitCode;
@@ -73,14 +75,9 @@ fn refused(refusal: Refusal, input: &Input, options: &Options) -> Result<Stop, S
     if options.listing {
         printed(&listing::refused(refusal))?;
     }
-    let length = match refusal {
-        Refusal::BadLength => format!("; it has {} bytes", input.bytes.len()),
-        _ => String::new(),
-    };
-    let number = refusal.number();
     Ok(Stop {
         status: Status::Refused,
-        text: format!("the sheet is refused by {number}: {refusal}{length}"),
+        text: refused::told(refusal, input, options.reading),
     })
 }
 

@@ -14,7 +14,7 @@ const WIDEST: usize = 60;
 
 /// The answer as a text of the notation, the same for the same file, options and archives.
 pub fn report(answer: &Answer) -> String {
-    let remarks = levels::remarks(answer);
+    let remarks = answer.remarks();
     format!(
         "{}\n{}",
         head::head(answer, &remarks),

@@ -29,10 +29,24 @@ impl Stop {
         }
     }
 
-    pub fn text(path: &Path, fault: &notation::Fault) -> Stop {
+    /// The faults of a text, each with its line and a mark under its column.
+    pub fn text(path: &Path, text: &[u8], faults: &[notation::Fault]) -> Stop {
+        let text = String::from_utf8_lossy(text);
+        let told = |fault: &notation::Fault| {
+            let line = notation::shown(&text, fault.line, fault.column);
+            format!("{}: {fault}\n{line}\n", path.display())
+        };
+        let mut out: String = faults.iter().map(told).collect();
+        if faults.len() == notation::MOST_FAULTS {
+            out += &format!(
+                "{} faults are told at once; there may be more\n",
+                faults.len()
+            );
+        }
         Stop {
             status: Status::Text,
-            text: format!("{}: {fault}", path.display()),
+            text: out
+                + "docs/NOTATION.md has the whole notation, and what ANTLR's own texts become in it",
         }
     }
 

@@ -60,8 +60,7 @@ fn wrong_tables_of_names() {
     let sheet = folder.write("empty.sheet", &sheet);
     let names = folder.write("names", b"%names e=1\n e=2;");
     let run = join(&[&sheet, "--names", &names]);
-    let expected =
-        "line 2, column 2: expected a name and a number that are not in use yet, found `e`";
+    let expected = "line 2, column 2: expected a name and a number that are not in use yet, found `e`\n     e=2;\n     ^\n";
     run.stopped(2, &format!("{names}: {expected}"));
     let missing = folder.path("missing");
     let run = join(&[&sheet, "--names", &missing]);
@@ -69,7 +68,11 @@ fn wrong_tables_of_names() {
         3,
         &format!("cannot read {missing}: No such file or directory (os error 2)"),
     );
-    assert!(join(&[&sheet]).answer().ends_with("cycles left: none\n\n"));
+    assert!(
+        join(&[&sheet])
+            .answer()
+            .ends_with("// joined: none\n// removed: none\n\n")
+    );
 }
 
 #[test]
@@ -88,42 +91,53 @@ fn refusals_say_their_number_and_meaning() {
         (
             "long.grammar",
             long.as_bytes(),
-            format!("{length} 96048 bytes"),
+            "1: its sheet has 96048 bytes of at most 32768; 96016 of them are those of `e` (line 1), \
+             which has 2000 alternatives"
+                .to_owned(),
         ),
         ("kind", &[0; 32], "3: the trailer is bad: ".to_owned()),
         (
             "ids.grammar",
             b"e: @7 X | @7 Y;",
-            "5: two rules share an id or a name, ".to_owned(),
+            "5: two alternatives have the id 7: line 1, column 4 and line 1, column 11".to_owned(),
         ),
         (
             "counters.grammar",
             b"%counters 0 0 0 0 0; e: X;",
-            "6: an id of an alternative, ".to_owned(),
+            "6: the id 10 in line 1, column 24 is not below the counter of alternatives, which line 1 sets to 0".to_owned(),
         ),
         (
             "seven.grammar",
             seven.as_bytes(),
-            "7: after a substitution step ".to_owned(),
+            "7: the cycle of `e` (line 1), `a` (line 1), `b` (line 1) is too large to be joined: the list of \
+             alternatives of `e` (line 1) grows past 1,024 alternatives"
+                .to_owned(),
         ),
         (
             "eight.grammar",
             b"%counters 4294967295 25 0 0 0; e: a | INT; a: e X;",
-            "8: applying a plan ".to_owned(),
+            "8: the counters in line 1 leave too few ids for joining the cycle of `e` (line 1), `a` (line 1)"
+                .to_owned(),
         ),
         (
             "nine.grammar",
             nine.as_bytes(),
-            "9: applying a plan ".to_owned(),
+            "9: with the cycle of `e` (line 1), `a` (line 1), `b` (line 1) joined in `e` (line 1) the sheet has \
+             over 32768 bytes"
+                .to_owned(),
         ),
     ] {
         let path = folder.write(name, text);
-        let expected = format!("the sheet is refused by {expected}");
+        let what = match name.ends_with(".grammar") {
+            true => name,
+            false => "the sheet",
+        };
+        let number = expected.split(':').next().unwrap().to_owned();
+        let expected = format!("{what} is refused by {expected}");
         let sheet = folder.path("unwritten");
         join(&[&path, "--sheet", &sheet]).stopped(1, &expected);
         assert!(!folder.has("unwritten"));
         let listed = join(&["--listing", &path]);
-        let number = expected.split(' ').nth(5).unwrap().trim_end_matches(':');
         assert_eq!(listed.out, format!("refused {number}\n"));
         assert_eq!(listed.status, 1);
         assert!(listed.said.starts_with(&format!("join: {expected}")));

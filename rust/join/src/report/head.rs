@@ -1,10 +1,11 @@
 //! The comments in front of the grammar.
 
-use mutual_recursion::{CycleLeft, Decision, Reading};
-use notation::{Kind, Node, Place, Printer, Style, alternatives};
+use mutual_recursion::{Clause, CycleLeft, Decision, Reading};
+use notation::{Kind, Node, Place, Printer, Sort, Style, alternatives};
 
 use crate::answer::Answer;
 use crate::levels::Remark;
+use crate::why::{Found, why};
 use crate::{KIT, VERSION};
 
 /// Columns that a comment has at most, where words allow.
@@ -108,17 +109,62 @@ fn left(answer: &Answer) -> Vec<String> {
     lines
 }
 
+/// The members with their lines, the clause, and the one cause with its place.
 fn cycle(answer: &Answer, cycle: &CycleLeft) -> String {
-    let members = list(answer, &cycle.members);
-    match &cycle.decision {
-        Decision::Declined(clause) => {
-            format!(
-                "cycle left: {members}; clause {}, {clause}",
-                clause.number()
-            )
-        }
-        other => unreachable!("a result's cycle is declined: {other:?}"),
+    let Decision::Declined(clause) = cycle.decision else {
+        unreachable!("a result's cycle is declined: {:?}", cycle.decision)
+    };
+    let members: Vec<String> = cycle
+        .members
+        .iter()
+        .map(|id| list(answer, &[*id]) + &line(answer, Sort::Rule, *id))
+        .collect();
+    let members = members.join(", ");
+    let number = clause.number();
+    let printer = Printer::of(&answer.before, Style::Plain);
+    let name = |name: u32| printer.name(name, Place::Rule);
+    let found = why(&answer.after.sheet, &cycle.members, answer.reading, &name);
+    match found.filter(|found| found.clause == number) {
+        Some(found) => format!(
+            "cycle left: {members}; clause {number}, {}: {}{}",
+            short(clause),
+            found.how,
+            place(answer, &found)
+        ),
+        None => format!("cycle left: {members}; clause {number}, {clause}"),
     }
+}
+
+/// The first words of a clause, which name it.
+fn short(clause: Clause) -> String {
+    let text = clause.to_string();
+    text.split(':').next().unwrap_or_default().to_owned()
+}
+
+fn line(answer: &Answer, sort: Sort, id: u32) -> String {
+    match answer.spot(sort, id) {
+        Some((line, _)) => format!(" (line {line})"),
+        None => String::new(),
+    }
+}
+
+/// The alternative and the element at which a cycle was turned back.
+fn place(answer: &Answer, found: &Found) -> String {
+    let alternative = |id: u32| {
+        let line = line(answer, Sort::Alternative, id);
+        format!("{}{line}", answer.tell_after(id))
+    };
+    let mut out = String::new();
+    if let Some(slot) = found.slot {
+        out += &format!("; in the place of {}", alternative(slot));
+    }
+    if let Some(origin) = found.origin {
+        out += &format!(", of {}", alternative(origin));
+    }
+    if let Some((line, column)) = found.element.and_then(|id| answer.spot(Sort::Element, id)) {
+        out += &format!(", at line {line}, column {column}");
+    }
+    out
 }
 
 /// Calls that no rule answers: what is meant may be a token, or a rule that is misspelled.

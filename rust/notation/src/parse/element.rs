@@ -137,7 +137,8 @@ impl Parser<'_> {
 
     fn reference(&mut self) -> Result<(Reference, &str), Fault> {
         if !self.take("$") {
-            return Err(self.fault("`$` or `}`"));
+            let advice = "a body has its references alone: `{$x $x.text}`, or `{}`";
+            return Err(self.ahead().advised("`$` or `}`", advice));
         }
         let name = self.named("the name that is referred to")?;
         let (kind, attribute) = self.attribute()?;
