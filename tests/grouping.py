@@ -2,7 +2,7 @@
 
 Of n alternatives the i-th has level n - i + 1. One that begins with the rule's own call goes on behind what was read, where
 its level is not below the one asked for; the call that ends it is asked for one level more, so that it groups to the left. The
-call that ends any other alternative is asked for that alternative's own level.
+call that ends any other alternative is asked for that alternative's own level. A call in another rule is asked for none.
 """
 
 import re
@@ -11,11 +11,14 @@ COMMENT = re.compile(r"//[^\n]*")
 # A block of tokens; a body; a name, with or without a label; what parts alternatives
 PART = re.compile(r"\(\s*([A-Z]+(?:\s*\|\s*[A-Z]+)*)\s*\)|\{[^}]*\}|(?:\w+=)?(\w+)|(\|)|(\S)")
 OWN = None
+# The same call in another rule.
+LOOSE = ()
 
 
 def alternatives(text, rule):
-    """The alternatives of a rule in a text of the notation: of each part the tokens that it may be, or OWN."""
-    body = re.search(rf"^{rule}:([^;]*);", COMMENT.sub("", text), re.M)
+    """The alternatives of a rule in a text of the notation: of each part the tokens that it may be, or OWN. A call of another rule is
+    what that rule has, which is one alternative."""
+    body = re.search(rf"^{rule}(?:@\d+)?:([^;]*);", COMMENT.sub("", text), re.M)
     if not body:
         raise ValueError(f"no rule {rule}")
     found = [[]]
@@ -24,9 +27,19 @@ def alternatives(text, rule):
             raise ValueError(f"{other} in {rule}")
         if bar:
             found.append([])
+        elif name and name != rule and name[0].islower():
+            found[-1].extend(in_another(text, name, rule))
         elif block or name:
             found[-1].append(OWN if name == rule else set(re.findall(r"\w+", block or name)))
     return found
+
+
+def in_another(text, name, rule):
+    """The parts of another rule; `rule` is called there by name."""
+    inner = alternatives(re.sub(rf"\b{rule}\b", "LOOSE", text), name)
+    if len(inner) != 1:
+        raise ValueError(f"{name} has not one alternative")
+    return [LOOSE if part == {"LOOSE"} else part for part in inner[0]]
 
 
 class Phrase:
@@ -41,7 +54,7 @@ class Phrase:
         return len(self.grammar) - place
 
     def fits(self, part):
-        return part is not OWN and self.at < len(self.words) and self.tokens[self.at] in part
+        return part is not OWN and self.at < len(self.words) and self.tokens[self.at] in part  # nothing is in LOOSE
 
     def one_of(self, places):
         """The one alternative that fits, or nothing."""
@@ -57,6 +70,8 @@ class Phrase:
             if alternative[index] is OWN:
                 last = index == len(alternative) - 1
                 found.append(self.group(own_end if last else 0))
+            elif alternative[index] is LOOSE:
+                found.append(self.group(0))
             elif self.fits(alternative[index]):
                 found.append(self.words[self.at])
                 self.at += 1

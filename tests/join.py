@@ -16,7 +16,9 @@ import subprocess
 import sys
 import tempfile
 
+import join_faults
 import join_files
+import join_levels
 import join_names
 from grouping import grouped
 from joining import ROOT, Failure, Run, require, written
@@ -113,7 +115,7 @@ def words_about_the_heat_pump(program, folder, made):
     page = (folder / "heat-pump.md").read_text(encoding="utf-8")
     phrase, groups, exchanged = re.findall(r"^    (.*)$", page, re.M)
     joined = Run(program, [folder / "heat-pump.grammar"]).text()
-    shown = [line for line in page.split("\n") if "// slot" in line]
+    shown = [line for line in page.split("\n") if "// level" in line]
     require(shown and set(shown) <= set(joined.split("\n")), "lines that are not printed")
     found = grouped(joined, "condition", phrase, WORDS)
     require(found == groups, f"it groups as {found}")
@@ -129,6 +131,7 @@ def words_about_the_declined(program, folder, made):
     require("; clause 5, a dangling reference: " in Run(program, [folder / "declined.grammar"]).text(), "another clause")
     text = (folder / "declined.grammar").read_text(encoding="utf-8")
     (made / "without").write_text(text.replace("{$comparison.text} ", ""), encoding="utf-8")
+    require(Run(program, [folder / "declined.grammar", "--strict"]).status == 5, "--strict does not tell")
     require("// joined: condition\n" in Run(program, [made / "without"]).text(), "it is not joined without the action")
 
 
@@ -202,15 +205,17 @@ CHECKS = (
     helps,
     *join_names.CHECKS,
     *join_files.CHECKS,
+    *join_levels.CHECKS,
+    *join_faults.CHECKS,
 )
 
 
-def tried(program, folder):
+def tried(program, folder, checks=CHECKS):
     """Each thing that is tried, with what went wrong or nothing."""
     things = [(stored.name, holds_stored, (grammar, options, stored)) for grammar, options, stored in cases(folder)]
     for name, check, words in things:
         yield name, outcome(check, program, *words)
-    for name, check, word in [(check.__doc__, check, folder) for check in CHECKS] + [(name, stops, name) for name in ERRORS]:
+    for name, check, word in [(check.__doc__, check, folder) for check in checks] + [(name, stops, name) for name in ERRORS]:
         with tempfile.TemporaryDirectory() as made:
             yield name, outcome(check, program, word, pathlib.Path(made))
 
@@ -239,7 +244,7 @@ def main():
     if anew:
         renew(program, EXAMPLES)
         return 0
-    found = list(tried(program, EXAMPLES))
+    found = list(tried(program, EXAMPLES, CHECKS if named else (*CHECKS, *join_faults.SCRIPTS)))
     for name, fault in found:
         if fault:
             print(f"{name}: {fault}")

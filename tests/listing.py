@@ -4,7 +4,8 @@
 - Of every stored answer of the original: the listing, byte for byte; of a refusal its sentence on standard error, else nothing.
 - Of every sheet of tests/reading: the line that the stored one says where the reader refuses.
 - What is no sheet is refused, 200 MB too, in little memory and at once.
-- A directory, an input or output that is closed, and a full disk: a message on standard error and a status other than 0.
+- A directory, an input or output that is closed, and a full disk: a message on standard error and status 3.
+- The status of ./listing is 1 where a sheet is refused; the program itself has none.
 
 usage: listing.py [PROGRAM SCRIPT]   (target/bin/listing and ./listing if none is named)
 """
@@ -91,17 +92,17 @@ def of_reading(program):
         yield None if good and status == 0 and is_said(out, err) else f"{file.stem}: status {status}, {line!r}, {err[:60]!r}"
 
 
-def answered(program, name, number, **options):
-    """What is wrong with an input that is refused by a number, which is an answer."""
+def answered(program, name, number, refused, **options):
+    """What is wrong with an input that is refused by a number, which is an answer, with its status."""
     status, out, err = run(program, **options)
-    good = status == 0 and out == f"refused {number}\n" and is_said(out, err)
+    good = status == refused and out == f"refused {number}\n" and is_said(out, err)
     return None if good else f"{name}: status {status}, {out[:60]!r}, {err[:60]!r}"
 
 
 def failed(script, name, **options):
-    """What is wrong with a run that cannot read or write: a message, no listing, and a status other than 0."""
+    """What is wrong with a run that cannot read or write: a message, no listing, and its status."""
     status, out, err = run(script, **options)
-    good = status == 1 and out == "" and re.match(r"listing: standard (in|out)put cannot be (read|written): [^\n]+\n", err)
+    good = status == 3 and out == "" and re.match(r"listing: standard (in|out)put cannot be (read|written): [^\n]+\n", err)
     return None if good else f"{name}: status {status}, {out[:60]!r}, {err[:60]!r}"
 
 
@@ -111,14 +112,14 @@ def of_no_sheets(program, script, folder):
     long = folder / "long"
     with open(long, "wb") as file:
         file.truncate(LONG)
-    for it in (program, script):
-        yield answered(it, "an empty input", 1, input=b"")
-        yield answered(it, "a grammar's text", 1, input=TEXT.encode())
-        yield answered(it, "a grammar's text in whole words", 3, input=padded.encode())
+    for it, refused in ((program, 0), (script, 1)):
+        yield answered(it, "an empty input", 1, refused, input=b"")
+        yield answered(it, "a grammar's text", 1, refused, input=TEXT.encode())
+        yield answered(it, "a grammar's text in whole words", 3, refused, input=padded.encode())
         with open(long, "rb") as file:
-            yield answered(it, "200 MB", 1, stdin=file, preexec_fn=few_addresses)
+            yield answered(it, "200 MB", 1, refused, stdin=file, preexec_fn=few_addresses)
         with subprocess.Popen(["cat", long], stdout=subprocess.PIPE) as cat:
-            yield answered(it, "200 MB in a pipe", 1, stdin=cat.stdout, preexec_fn=few_addresses)
+            yield answered(it, "200 MB in a pipe", 1, refused, stdin=cat.stdout, preexec_fn=few_addresses)
             cat.stdout.close()
 
 

@@ -10,6 +10,7 @@ import unittest
 from unittest import mock
 
 import join
+import join_names
 from grouping import alternatives, grouped
 
 TARGET = pathlib.Path(__file__).resolve().parent.parent / "target"
@@ -47,6 +48,10 @@ class Folder(unittest.TestCase):
 
 
 class Stored(Folder):
+    def test_the_kit_does_not_count(self):
+        for kit in ("one", "another one"):
+            self.assertEqual(join.settled(f"// join 0.1.0, kit {kit}\n// more\n".encode()), b"// join 0.1.0, kit ..\n// more\n")
+
     def held(self, script):
         return self.outcome(join.holds_stored, script, self.examples / "g.grammar", [], self.examples / "g.joined")
 
@@ -96,9 +101,10 @@ class Answers(Folder):
 
     def test_names(self):
         script = 'case $1 in *.grammar) echo "e: INT {\\$x.text}; // slot";; *) echo "%s";; esac'
-        check = join.names_survive
-        self.assertIsNone(self.outcome(check, script % "e:\n INT {\\$x.a}\n;", self.examples, self.made()))
-        self.assertIn("r_1", self.outcome(check, script % "r_1: T_3;", self.examples, self.made()))
+        check = join_names.names_survive
+        self.assertIsNone(self.outcome(check, script % "e:\n INT {\\$x.text}\n;", self.examples, self.made()))
+        self.assertIn("{$x.?}", self.outcome(check, script % "e: INT {\\$x.?};", self.examples, self.made()))
+        self.assertIn("r%%1", self.outcome(check, script % "r%%1: T%%3;", self.examples, self.made()))
 
     def test_place(self):
         check = join.nothing_of_the_place
@@ -158,6 +164,13 @@ class Grouping(unittest.TestCase):
 
     def test_left_to_right(self):
         self.assertEqual(self.groups("a or b or d"), "(a or b) or d")
+
+    def test_a_rule_of_its_own(self):
+        """No level reaches the call at its end."""
+        rule = self.RULE.replace("NOT c", "negation") + "negation@3: NOT c;\n"
+        self.assertEqual(self.groups("not a above b and d", rule), "not ((a above b) and d)")
+        with self.assertRaises(ValueError):
+            self.groups("not a", rule.replace("NOT c;", "NOT c | X;"))
 
     def test_prefix_suffix_and_parentheses(self):
         self.assertEqual(self.groups("not a above b and d"), "(not (a above b)) and d")

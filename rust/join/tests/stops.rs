@@ -104,7 +104,7 @@ fn refusals_say_their_number_and_meaning() {
         (
             "counters.grammar",
             b"%counters 0 0 0 0 0; e: X;",
-            "6: the id 10 in line 1, column 24 is not below the counter of alternatives, which line 1 sets to 0".to_owned(),
+            "6: the id 10 in line 1, column 25 is not below the counter of alternatives, which line 1 sets to 0".to_owned(),
         ),
         (
             "seven.grammar",
