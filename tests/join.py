@@ -69,8 +69,8 @@ def holds_stored(program, grammar, options, stored):
 
 
 def settled(printed):
-    """What is printed, but for the kit, which is that of the archives at hand."""
-    return re.sub(rb"\A(// join [0-9.]+, kit ).*", rb"\1..", printed)
+    """What is printed, but for the line about the archives at hand."""
+    return re.sub(rb"^(// the pass was ).*(\n//   .*)*", rb"\1..", printed, count=1, flags=re.M)
 
 
 def each_stored_has_its_grammar(program, folder, made):
@@ -174,7 +174,7 @@ def full_disk(program, folder, made):
 def helps(program, folder, made):
     """--help names every option and every status."""
     text = Run(program, ["--help"]).text()
-    for word in "--textbook --listing --strict --sheet --trail --names --help --version -h 0 1 2 3 4 5".split():
+    for word in "--textbook --listing --strict --check --sheet --trail --names --help --version -h 0 1 2 3 4 5".split():
         require(word in text.replace(",", "").replace(";", "").split(), f"not {word}")
 
 

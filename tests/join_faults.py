@@ -2,9 +2,11 @@
 
 import os
 import re
+import shutil
 
 from joining import ROOT, Run, head, require, rules, written
 
+LONGEST_BUILD = 600
 CLAUSES = {
     "e: a X; a: e Y;": "clause 1, no hub: every alternative of each of them begins with a call of one of them",
     "e !1: a | X; a: e Y;": "clause 2, a hub with arguments: `e`, which would take the others in, has arguments",
@@ -121,23 +123,21 @@ def options_of_all_forms(program, folder, made):
 
 def scripts_through_links(program, folder, made):
     """Once built ./join and ./listing need neither rt nor cargo, work through links, and have one status for a refusal."""
-    tools = made / "bin"
-    tools.mkdir()
-    for name in ("sh", "env", "cat", "cd", "dirname", "readlink", "find", "head", "printf", "awk"):
-        if found := next((place for place in ("/bin", "/usr/bin") if os.access(f"{place}/{name}", os.X_OK)), None):
-            (tools / name).symlink_to(f"{found}/{name}")
-    alone = {"PATH": str(tools)}
-    refused = written(made, "refused.sheet", bytes(32))
+    alone = {"PATH": "/usr/bin:/bin"}
+    require(not any(shutil.which(tool, path=alone["PATH"]) for tool in ("rt", "cargo")), "they are beside the common tools")
+    refused, case = written(made, "refused.sheet", bytes(32)), ROOT / "examples/case-1.sheet"
     for name, built in (("join", ROOT / "rust/target/release/join"), ("listing", ROOT / "target/bin/listing")):
         if not built.exists():
             continue
-        (made / name).symlink_to(ROOT / name)
-        require("usage: " in Run(str(made / name), ["--help"], env=alone).text(), f"{name} --help")
-        run = Run(str(made / name), [ROOT / "examples/case-1.sheet"], env=alone)
+        link = made / name
+        link.symlink_to(ROOT / name)
+        require(Run(str(ROOT / name), [case], timeout=LONGEST_BUILD).status == 0, f"{name} is not built")
+        require("usage: " in Run(str(link), ["--help"], env=alone).text(), f"{name} --help")
+        run = Run(str(link), [case], env=alone)
         require(run.status == 0 and run.out, f"{name}: status {run.status}: {run.said}")
-        require(Run(str(made / name), [refused], env=alone).status == 1, f"{name}: another status for a refusal")
-        require(Run(str(made / name), [made / "missing"], env=alone).status == 3, f"{name}: another status for a missing file")
-        run = Run(str(made / name), ["--help"], stdout=None, env=alone, preexec_fn=lambda: os.close(1))
+        require(Run(str(link), [refused], env=alone).status == 1, f"{name}: another status for a refusal")
+        require(Run(str(link), [made / "missing"], env=alone).status == 3, f"{name}: another status for a missing file")
+        run = Run(str(link), ["--help"], stdout=None, env=alone, preexec_fn=lambda: os.close(1))
         require(run.status == 3 and run.said, f"{name}: a closed output is status {run.status}")
 
 

@@ -4,7 +4,7 @@ import hashlib
 import os
 import re
 
-from joining import Run, head, require, rules, written
+from joining import Run, head, line_of, require, rules, written
 
 CYCLE = "e: a | INT; a: e PLUS;\n"
 LEFT = "e: a X; a: e Y;\n"
@@ -25,7 +25,7 @@ def digests_are_those_of_the_files(program, folder, made):
         f"sheet handed back: SHA-256 {sha256(sheet.read_bytes())}, {sheet.stat().st_size} bytes",
     ):
         require(line in lines, f"not {line} in {lines}")
-    digest = next(line for line in lines if line.startswith("sheet handed in: ")).split()[4].rstrip(",")
+    digest = line_of(lines, "sheet handed in: ").split()[4].rstrip(",")
     require(f"%sheet sha256_{digest};" in names.read_text(), "the table is not that of the sheet handed in")
     lines = head(Run(program, [sheet, "--names", names]).text())
     require(f"table of names: SHA-256 {sha256(names.read_bytes())}, 4 names" in lines, "another table")
@@ -39,7 +39,7 @@ def heads_part_what_names_part(program, folder, made):
     tables = set()
     for text in (one, *others):
         lines = head(Run(program, [written(made, "g.grammar", text)]).text())
-        tables.add(next(line for line in lines if line.startswith("table of names: ")))
+        tables.add(line_of(lines, "table of names: "))
     require(len(tables) == 3, f"the tables are {tables}")
     first, second = (head(Run(program, [written(made, "g.grammar", text)]).text()) for text in (one, f"// other\n{one}"))
     require(first != second, "a comment makes no difference")
@@ -56,12 +56,23 @@ def options_in_force(program, folder, made):
 
 
 def the_kit_is_that_of_the_archives(program, folder, made):
-    """The head names the kit that stands beside the archives, or says that it is not known."""
-    first = head(Run(program, [written(made, "g.grammar", CYCLE)]).text())[0]
-    require(re.fullmatch(r"join [0-9.]+, kit \S.*", first), f"the first line is {first}")
+    """The head names the kit that stands beside the archives and where it proved them, or says that nothing is known of it."""
+    lines = head(Run(program, [written(made, "g.grammar", CYCLE)]).text())
     version = Run(program, ["--version"]).text().split("\n")
-    require(version[0] in first and version[1] in first, f"the version is {version}")
+    require(version[0] == lines[0] and re.fullmatch(r"join [0-9.]+", lines[0]), f"the first line is {lines[0]}")
+    told = line_of(lines, "the pass was ")
+    require(re.match(r"the pass was (proved here with|built from these sources by|linked from archives of which nothing) \S", told), told)
+    require(version[1].startswith("kit ") and version[1][4:] in told, f"the version is {version}")
     require(version[2].startswith("sources "), f"the version is {version}")
+
+
+def checked_alone(program, folder, made):
+    """With --check words and grammar are looked at, and nothing is joined, printed or written."""
+    good, wrong = written(made, "g.grammar", CYCLE), written(made, "w.grammar", "e: a")
+    require(Run(program, ["--check", good, "--sheet", made / "s"]).answer() == b"" and not (made / "s").exists(), "something is made")
+    Run(program, ["--check", wrong]).stopped(2, f"{wrong}: line 1, column 5: ")
+    Run(program, ["--check", made / "missing"]).stopped(3, "cannot read ")
+    Run(program, ["--check", good, "--sheet", good]).stopped(3, "--sheet ")
 
 
 def closed_output(program, folder, made):
@@ -161,6 +172,7 @@ CHECKS = (
     heads_part_what_names_part,
     options_in_force,
     the_kit_is_that_of_the_archives,
+    checked_alone,
     closed_output,
     full_output,
     inputs_are_not_overwritten,

@@ -18,7 +18,9 @@ def joined(program, made, text):
 
 def lines(text):
     """Of each alternative of a joined rule: what it is, level, form, slot, origin, and what it is warned of."""
-    return [LINE.fullmatch(line).groups() for line in rules(text) if " // level " in line]
+    found = [line for line in rules(text) if " // " in line]
+    require(found and all(map(LINE.fullmatch, found)), f"no level and form: {found}")
+    return [LINE.fullmatch(line).groups() for line in found]
 
 
 def warnings(text):
@@ -73,7 +75,7 @@ def an_operator_in_a_rule_of_its_own(program, folder, made):
     text = joined(program, made, NEGATION)
     require([own[5] for own in lines(text)] == ["", "; warning 1", "", ""], f"the lines are {lines(text)}")
     told = warnings(text)
-    require("calls `negation`, which ends with `c` and is not joined" in told[0], f"{told}")
+    require(told and "calls `negation`, which ends with `c` and is not joined" in told[0], f"{told}")
     require("write the alternatives of `negation` in place of the call" in told[0], "it does not say what to write")
     inline = joined(program, made, NEGATION.replace("| negation", "| NOT c").replace("negation: NOT c;", ""))
     require(not warnings(inline), f"warned of {warnings(inline)}")

@@ -15,9 +15,9 @@ class Run:
     """One run of the program: its status, and what it printed."""
 
     def __init__(self, program, words, **streams):
-        streams = {"stdin": subprocess.DEVNULL, "stdout": subprocess.PIPE, **streams}
+        streams = {"stdin": subprocess.DEVNULL, "stdout": subprocess.PIPE, "timeout": LONGEST_RUN, **streams}
         words = [program, *map(str, words)]
-        done = subprocess.run(words, stderr=subprocess.PIPE, timeout=LONGEST_RUN, **streams)
+        done = subprocess.run(words, stderr=subprocess.PIPE, **streams)
         self.status, self.out, self.said = done.returncode, done.stdout, done.stderr.decode("utf-8", "replace")
 
     def answer(self):
@@ -53,6 +53,13 @@ def rules(text):
     """What is printed without the head and empty lines, each line with single spaces."""
     lines = [" ".join(line.split()) for line in text.split("\n") if not line.startswith("//")]
     return [line for line in lines if line]
+
+
+def line_of(lines, front):
+    """The line that begins so."""
+    found = [line for line in lines if line.startswith(front)]
+    require(found, f"no line begins with {front!r}: {lines}")
+    return found[0]
 
 
 def head(text):

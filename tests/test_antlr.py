@@ -5,7 +5,9 @@ import contextlib
 import io
 import os
 import pathlib
+import subprocess
 import sys
+import tempfile
 import unittest
 from unittest import mock
 
@@ -17,6 +19,7 @@ import corners  # noqa: E402
 import g4  # noqa: E402
 import grow  # noqa: E402
 import judge  # noqa: E402
+import levels  # noqa: E402
 import notation  # noqa: E402
 import tool  # noqa: E402
 
@@ -191,6 +194,73 @@ class Judged(unittest.TestCase):
         self.assertEqual(next(judgement.told()), "left out, for other errors before the pass (153): 1 grammars")
         faults = self.faults(BEFORE, AFTER, f"// joined: none\n{BEFORE}", REPORTED, [*TURNED_AWAY, (148, "e")])
         self.assertIn("case, the original's reading: no error but 119 in ", faults[0])
+
+
+class ByLevels:
+    """A tool whose parser groups as the levels say."""
+
+    def __init__(self, printed):
+        self.printed = printed
+
+    def grouped(self, rules, words, rule, phrase):
+        return levels.Levels(self.printed[-1]).grouped(phrase)
+
+
+class Levels(unittest.TestCase):
+    PRINTED = """e:
+    e B0 e  // level 5, binary; slot e 1, origin xb0 1
+  | e S1    // level 4, suffix; slot e 2, origin xs1 1
+  | P2 e    // level 3, prefix; slot e 3, untouched
+  | xp3     // level 2, primary; slot e 4, untouched; warning 1
+  | S       // level 1, primary; slot e 5, untouched
+;
+xp3@5: P3 e;
+"""
+
+    def test_grouped(self):
+        for phrase, groups in (
+            ("a b0 b b0 c", "(a b0 b) b0 c"),
+            ("p2 a b0 b s1", "p2 ((a b0 b) s1)"),
+            ("a b0 p2 b s1", "a b0 (p2 (b s1))"),
+            ("a b0 b s1", "(a b0 b) s1"),
+            ("p3 a b0 b", "p3 (a b0 b)"),
+            ("p2 p3 a s1", "p2 (p3 (a s1))"),
+        ):
+            self.assertEqual(levels.Levels(self.PRINTED).grouped(phrase), groups)
+
+    def test_levels_part(self):
+        """Another level or another form groups otherwise."""
+        for old, new in (("level 4, suffix", "level 9, suffix"), ("level 5, binary", "level 5, suffix")):
+            other = levels.Levels(self.PRINTED.replace(old, new)).grouped("a b0 b s1")
+            self.assertNotEqual(other, "(a b0 b) s1")
+
+    def test_phrases(self):
+        operators = levels.Operators(1)
+        forms = "".join(name[0] for _ in range(50) if operators.grammar() for name in operators.forms)
+        self.assertEqual(set(forms), set("BSP"))
+        words = set(levels.WORDS) | {name.lower() for name in operators.forms}
+        for _ in range(50):
+            self.assertLessEqual(set(operators.phrase().split()), words)
+        self.assertEqual(levels.Operators(3).grammar(), levels.Operators(3).grammar())
+
+    def test_judged(self):
+        """All grammars and phrases, with what the built program prints, where there is one."""
+        program = HERE.parent / "rust/target/release/join"
+        if not program.exists():
+            self.skipTest("join is not built")
+        with tempfile.TemporaryDirectory() as made:
+            printed = []
+
+            def join(text):
+                (pathlib.Path(made) / "g.grammar").write_text(text)
+                printed.append(subprocess.run([program, f"{made}/g.grammar"], capture_output=True, check=True, text=True).stdout)
+                return printed[-1]
+
+            fixed = ByLevels(printed)
+            found = list(levels.judged(join, fixed, notation.read, 1, 20))
+            self.assertTrue(len(found) > 60 and all(wanted == groups for _, wanted, groups in found))
+            for what, wanted, _, suggested, is_warned in levels.warned(join, fixed, notation.read):
+                self.assertTrue(is_warned and wanted != suggested, what)
 
 
 class Absent(unittest.TestCase):

@@ -48,9 +48,9 @@ class Folder(unittest.TestCase):
 
 
 class Stored(Folder):
-    def test_the_kit_does_not_count(self):
-        for kit in ("one", "another one"):
-            self.assertEqual(join.settled(f"// join 0.1.0, kit {kit}\n// more\n".encode()), b"// join 0.1.0, kit ..\n// more\n")
+    def test_the_archives_do_not_count(self):
+        for said in ("proved here", "built from these sources\n//   by another kit"):
+            self.assertEqual(join.settled(f"// join\n// the pass was {said}\n// more\n".encode()), b"// join\n// the pass was ..\n// more\n")
 
     def held(self, script):
         return self.outcome(join.holds_stored, script, self.examples / "g.grammar", [], self.examples / "g.joined")

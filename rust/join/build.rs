@@ -1,27 +1,44 @@
-//! What stands beside the archives that are linked: the kit that proved them, and the digest of what they were made of.
+//! What is written beside the archives that are linked: whether they were proved here, the kit that proved them, and the digest of
+//! the sources of which they were made.
+//!
+//! The record is PROVENANCE, or DIGESTS in dist/, with a line `# made here` or `# made dist`, a line `# kit KIT` and a line
+//! `# sources DIGEST`. Where there is none nothing is known.
 
 use std::env;
 use std::fs;
-use std::path::PathBuf;
+use std::path::{Path, PathBuf};
 
 fn main() {
     println!("cargo::rerun-if-changed=build.rs");
     println!("cargo::rerun-if-env-changed=ARCHIVES");
-    let folder = folder();
-    println!("cargo::rerun-if-changed={}", folder.display());
-    for (variable, file) in [("PROVED_BY", "kit"), ("MADE_OF", "libpass.digest")] {
-        let text = fs::read_to_string(folder.join(file)).unwrap_or_default();
-        let line = text.lines().next().unwrap_or_default().trim();
-        let line = if line.is_empty() { "unknown" } else { line };
-        println!("cargo::rustc-env={variable}={line}");
+    let record = folders().iter().find_map(|folder| record(folder));
+    let record = record.unwrap_or_default();
+    for word in ["made", "kit", "sources"] {
+        let start = format!("# {word} ");
+        let mut lines = record.lines();
+        let told = lines.find_map(|line| line.strip_prefix(&start));
+        let told = told.unwrap_or("unknown");
+        println!("cargo::rustc-env=PASS_{}={told}", word.to_uppercase());
     }
 }
 
-/// The folder from which mutual-recursion's build takes the archives.
-fn folder() -> PathBuf {
+/// The folders from which mutual-recursion's build takes the archives.
+fn folders() -> Vec<PathBuf> {
     if let Some(folder) = env::var_os("ARCHIVES") {
-        return folder.into();
+        return vec![folder.into()];
     }
     let here = env::var_os("CARGO_MANIFEST_DIR").expect("cargo sets it");
-    PathBuf::from(here).join("../../target/staticlib")
+    let root = PathBuf::from(here).join("../..");
+    vec![root.join("target/staticlib"), root.join("dist")]
+}
+
+fn record(folder: &Path) -> Option<String> {
+    if !folder.join("libpass.a").exists() {
+        return None;
+    }
+    println!("cargo::rerun-if-changed={}", folder.display());
+    let read = |name| fs::read_to_string(folder.join(name)).ok();
+    let shipped = |text| format!("# made dist\n{text}");
+    let found = read("PROVENANCE").or_else(|| read("DIGESTS").map(shipped));
+    Some(found.unwrap_or_default())
 }

@@ -5,7 +5,10 @@
 - After it, in the textbook's reading of left corners, it takes each joined rule that cannot be empty. In the original's it turns away
   those, and no others, that begin with themselves or are in a cycle behind a symbol that may be left out: by the textbook's left
   corners, and not by the original's. Nothing is said of joined rules that can be empty.
-- The parser that it generates from the joined grammar of examples/heat-pump.md groups the phrase as that page says.
+- The parser that it generates from the joined grammar of examples/heat-pump.md groups the phrase as that page says, and so with
+  examples/negation.md.
+- Of grammars of operators (levels.py) phrases group as the levels and forms say that `join` prints; where it warns, otherwise than the
+  order of slots would have it.
 
 Generated are, in turn, sheets of the harness (`sheets generate PROFILE SEED`: all profiles for each seed from 0 on) and small grammars
 (grow.py): the first COUNT in which something is joined in a reading, and against which the tool has nothing but error 119 before the
@@ -23,6 +26,7 @@ import re
 import sys
 import time
 
+import levels
 import notation
 from cases import EXAMPLES, READINGS, ROOT, Programs
 from corners import Facts
@@ -36,6 +40,8 @@ MADE = ROOT / "target/antlr"
 SLOTS = ["    | conjunction\n", "    | disjunction\n"]
 ABSENT = 3
 EVERY = 50
+# Grammars of operators.
+SEED, OPERATORS = 1, 20
 
 TAKEN = "is taken"
 # Why a rule may be turned away.
@@ -134,6 +140,29 @@ def phrases(programs, tool):
         yield what, groups, tool.grouped(notation.read(programs.joined(file)), WORDS, "condition", phrase)
 
 
+def pages(programs, tool):
+    """negation.md: the phrase, how it is to group and how it groups, with the rule of its own."""
+    page = (EXAMPLES / "negation.md").read_text(encoding="utf-8")
+    phrase, own, _ = re.findall(r"^    (.*)$", page, re.M)
+    rules = notation.read(programs.joined(EXAMPLES / "negation.grammar"))
+    yield phrase, own, tool.grouped(rules, WORDS, "condition", phrase)
+
+
+def judge_levels(judgement, programs, tool):
+    """What `join` says of levels, forms and warnings."""
+
+    def join(text):
+        file = MADE / "levels.grammar"
+        file.write_text(text, encoding="utf-8")
+        return programs.joined(file)
+
+    for what, wanted, groups in levels.judged(join, tool, notation.read, SEED, OPERATORS):
+        judgement.require(groups == wanted, what, f"{wanted}, and not {groups}")
+    for what, wanted, groups, suggested, is_warned in levels.warned(join, tool, notation.read):
+        print(f"{what}: {groups}, and not {suggested}")
+        judgement.require(is_warned and groups == wanted != suggested, what, f"{wanted}, and not {groups}, with a warning")
+
+
 def judge_all(judgement, programs, count, began):
     """Progress goes to standard error."""
     found = 0
@@ -159,6 +188,9 @@ def run(count, program):
         for what, wanted, groups in phrases(programs, tool):
             print(f"{what}: {groups}")
             judgement.require(groups == wanted, "heat-pump.md", f"{what}: {wanted}")
+        for what, wanted, groups in pages(programs, tool):
+            judgement.require(groups == wanted, "negation.md", f"{what}: {wanted}")
+        judge_levels(judgement, programs, tool)
     finally:
         tool.end()
     found = f"{len(judgement.faults)} things are not so" if judgement.faults else "all is so"

@@ -39,7 +39,7 @@ class Tool:
     """One process that is asked about one grammar after the other; what is made lies in a folder of its own."""
 
     def __init__(self, made):
-        self.made, self.path, self.asked = made, f"{made}:{class_path()}", 0
+        self.made, self.path, self.asked, self.generated = made, f"{made}:{class_path()}", 0, None
         shutil.rmtree(made, ignore_errors=True)
         (made / "asked").mkdir(parents=True)
         run("javac", "-cp", self.path, "-d", made, pathlib.Path(__file__).with_name("Judge.java"))
@@ -63,13 +63,15 @@ class Tool:
         return [error_of(line) for line in iter(self.line, ".")]
 
     def grouped(self, rules, words, rule, phrase):
-        """How the generated parser groups a phrase."""
-        folder = self.made / "parser"
-        shutil.rmtree(folder, ignore_errors=True)
-        folder.mkdir()
-        (folder / "Phrase.g4").write_text(g4.written("Phrase", rules, words), encoding="utf-8")
-        run("java", "-cp", self.path, "org.antlr.v4.Tool", "-o", folder, folder / "Phrase.g4")
-        run("javac", "-cp", self.path, "-d", folder, *folder.glob("*.java"))
+        """How the generated parser groups a phrase. Phrases of one grammar that follow each other share the parser."""
+        folder, text = self.made / "parser", g4.written("Phrase", rules, words)
+        if text != self.generated:
+            shutil.rmtree(folder, ignore_errors=True)
+            folder.mkdir()
+            (folder / "Phrase.g4").write_text(text, encoding="utf-8")
+            run("java", "-cp", self.path, "org.antlr.v4.Tool", "-o", folder, folder / "Phrase.g4")
+            run("javac", "-cp", self.path, "-d", folder, *folder.glob("*.java"))
+            self.generated = text
         return run("java", "-cp", f"{folder}:{self.path}", "Judge", "phrase", "Phrase", rule, phrase).decode().strip()
 
     def end(self):

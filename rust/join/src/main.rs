@@ -28,10 +28,11 @@ use crate::stop::{Status, Stop};
 /// ./join prints it too, before anything is built.
 const HELP: &str = include_str!("../help.txt");
 const VERSION: &str = env!("CARGO_PKG_VERSION");
-/// The kit that proved the pass, as it is told beside the archives that were linked.
-const KIT: &str = env!("PROVED_BY");
-/// The digest of what they were made of.
-const SOURCES: &str = env!("MADE_OF");
+/// What is told beside the archives that were linked: where they were proved, by which kit, and the digest of what they were
+/// made of.
+const MADE: &str = env!("PASS_MADE");
+const KIT: &str = env!("PASS_KIT");
+const SOURCES: &str = env!("PASS_SOURCES");
 
 fn main() -> ExitCode {
     let done = match options::asked(std::env::args_os().skip(1)) {
@@ -53,6 +54,9 @@ fn main() -> ExitCode {
 fn run(options: &Options) -> Result<(), Stop> {
     let input = input::read(options)?;
     files::apart(options, !input.is_text)?;
+    if options.check {
+        return Ok(());
+    }
     let joined = match join(&input.bytes, options.reading) {
         Ok(joined) => joined,
         Err(refusal) => return Err(refused(refusal, &input, options)?),

@@ -22,6 +22,8 @@ pub struct Options {
     pub reading: Reading,
     pub listing: bool,
     pub strict: bool,
+    /// Words and grammar are looked at, and nothing is joined.
+    pub check: bool,
     pub sheet: Option<PathBuf>,
     pub trail: Option<PathBuf>,
     pub names: Option<PathBuf>,
@@ -60,6 +62,7 @@ pub fn asked(words: impl Iterator<Item = OsString>) -> Result<Asked, Stop> {
             "--textbook" if value.is_none() => options.reading = Reading::Textbook,
             "--listing" if value.is_none() => options.listing = true,
             "--strict" if value.is_none() => options.strict = true,
+            "--check" if value.is_none() => options.check = true,
             "--sheet" => file("--sheet", value, &mut words, &mut options.sheet)?,
             "--trail" => file("--trail", value, &mut words, &mut options.trail)?,
             "--names" => file("--names", value, &mut words, &mut options.names)?,
@@ -128,12 +131,13 @@ mod tests {
             reading: Reading::Textbook,
             listing: true,
             strict: true,
+            check: true,
             sheet: Some("s".into()),
             trail: Some("t".into()),
             names: Some("n=m".into()),
         };
         let words = options.words();
-        let line = "--sheet s --textbook g --trail=t --names=n=m --listing --strict";
+        let line = "--sheet s --textbook g --trail=t --names=n=m --listing --strict --check";
         assert_eq!(of(line), Ok(Asked::Join(options)));
         let all = "--textbook --listing --strict --sheet --trail --names";
         assert_eq!(words.join(" "), all);

@@ -200,7 +200,7 @@ fn the_same_file_gives_the_same_bytes() {
     let printed = join(&[&grammar]).answer();
     assert_eq!(join(&[&same]).answer(), printed);
     let version = env!("CARGO_PKG_VERSION");
-    assert!(printed.starts_with(&format!("// join {version}, kit ")));
+    assert!(printed.starts_with(&format!("// join {version}\n// cycles joined: 1; ")));
 }
 
 #[test]
