@@ -1,9 +1,9 @@
 /* The pass for callers in C and C++: it joins the left-recursive cycles of a grammar. The grammar comes and goes as a sheet,
- * which is bytes (docs/SPECIFICATION.md, section 2). Link libpass.a, which `tools/archives pass` makes in target/staticlib;
- * tests/c/pass.c shows a call.
+ * which is bytes (docs/SPECIFICATION.md, section 2). Link libpass.a of dist/; examples/c shows a call. Beside it are sheet.h,
+ * facts.h and plans.h, each with an archive of its name, for what is known of a sheet and decided for its cycles.
  *
- * The archive uses no function but memcpy, memmove, memset and memcmp, and has no variables: nothing stays from one call to the
- * next, and calls with buffers of their own may run side by side. */
+ * An archive defines the functions that its header declares and no other, uses none but memcpy, memmove, memset and memcmp, and
+ * has no variables: nothing stays from one call to the next, and calls with buffers of their own may run side by side. */
 #ifndef MUTUAL_RECURSION_PASS_H
 #define MUTUAL_RECURSION_PASS_H
 
@@ -13,6 +13,9 @@
 #ifdef __cplusplus
 extern "C" {
 #endif
+
+/* The version of the project. */
+#define PASS_VERSION "0.1.0"
 
 /* A sheet has at least and at most so many bytes. */
 #define PASS_SHEET_LEAST_BYTES 32
@@ -36,28 +39,46 @@ enum pass_place {
 /* Why a sheet is refused. Of the first six the lowest that holds is given. Then the pass runs, and the first of the others that
  * it meets ends it. A cycle that cannot be joined is no reason: it stays as it is. */
 enum pass_refusal {
-    /* the sheet's length is under 32 bytes, over 32,768 or not a multiple of 4 */
     PASS_BAD_LENGTH = 1,
-    /* a lent buffer is too short: the result under 32,768 bytes, the trail or the work area under 65,536 */
     PASS_SHORT_BUFFER = 2,
-    /* the trailer is bad: a unit kind other than 1, 2 and 3, a first distance that is not the number of words in front of the
-     * trailer, or a second distance above the first */
     PASS_BAD_TRAILER = 3,
-    /* a record is bad: cut short or running into the preserved list, a value outside its list, a name outside 1 to 65,535, a
-     * label id without a label name, blocks over 8 deep, over 128 rules, or preserved ids that do not rise */
     PASS_BAD_RECORD = 4,
-    /* two rules share an id or a name, or two alternatives, elements, labels, actions or predicates share an id */
     PASS_SHARED_NUMBER = 5,
-    /* an id of an alternative, element, label, action or predicate is not below its counter */
     PASS_ID_PAST_COUNTER = 6,
-    /* after a substitution step a planned list has over 1,024 alternatives, 8,192 outermost elements or 2,048 options of its
-     * alternatives */
     PASS_PLAN_TOO_LARGE = 7,
-    /* applying a plan would take a counter above 4,294,967,295 */
     PASS_COUNTER_PAST_END = 8,
-    /* applying a plan would give a sheet over 32,768 bytes or a trail over 4,096 entries */
     PASS_RESULT_TOO_LARGE = 9
 };
+
+/* A refusal in words, or NULL where no refusal has this number. */
+static inline const char *pass_refusal_text(uint32_t refusal) {
+    switch (refusal) {
+    case PASS_BAD_LENGTH:
+        return "the sheet's length is under 32 bytes, over 32,768 or not a multiple of 4";
+    case PASS_SHORT_BUFFER:
+        return "a lent buffer is too short: the result under 32,768 bytes, the trail or the work area under 65,536";
+    case PASS_BAD_TRAILER:
+        return "the trailer is bad: a unit kind other than 1, 2 and 3, a first distance that is not the number of words in "
+               "front of the trailer, or a second distance above the first";
+    case PASS_BAD_RECORD:
+        return "a record is bad: cut short or running into the preserved list, a value outside its list, a name outside 1 to "
+               "65,535, a label id without a label name, blocks over 8 deep, over 128 rules, or preserved ids that do not "
+               "rise";
+    case PASS_SHARED_NUMBER:
+        return "two rules share an id or a name, or two alternatives, elements, labels, actions or predicates share an id";
+    case PASS_ID_PAST_COUNTER:
+        return "an id of an alternative, element, label, action or predicate is not below its counter";
+    case PASS_PLAN_TOO_LARGE:
+        return "after a substitution step a planned list has over 1,024 alternatives, 8,192 outermost elements or 2,048 "
+               "options of its alternatives";
+    case PASS_COUNTER_PAST_END:
+        return "applying a plan would take a counter above 4,294,967,295";
+    case PASS_RESULT_TOO_LARGE:
+        return "applying a plan would give a sheet over 32,768 bytes or a trail over 4,096 entries";
+    default:
+        return NULL;
+    }
+}
 
 /* The trail says where each new node comes from, in entries of four words, each with its low byte first: kind, id, reason, and
  * the owner, which is an id of the same kind. */

@@ -1,28 +1,20 @@
 #!/usr/bin/env python3
-"""Holds include/pass.h to the source: its numbers, names and texts to the crates, to docs/SPECIFICATION.md and to the Rust
-crate; what it says of symbols and buffers to the archive, by C programs that are compiled with it.
+"""Holds the headers of include/ to the source: their numbers, names and texts to the crates, to docs/SPECIFICATION.md and to the
+Rust crate; what they say of symbols and buffers to the archives, by C programs that are compiled with them, the example among them.
 
-The archive is libpass.a of the folder that ARCHIVES names, else of target/staticlib (`tools/archives pass` makes it). Compiled
+The archives are those of the folder that ARCHIVES names, else of target/staticlib (`tools/archives` makes them). Compiled
 with gcc, and with g++ where it is at hand. The last line is 'N passed, 0 failed' where nothing failed.
 
 usage: header.py
 """
 
-import os
 import pathlib
 import re
-import shutil
-import struct
-import subprocess
 import sys
 import tempfile
 
-from answers import stored
-
-ROOT = pathlib.Path(__file__).resolve().parent.parent
-ARCHIVE = pathlib.Path(os.environ.get("ARCHIVES", ROOT / "target" / "staticlib")) / "libpass.a"
-WARNINGS = ["-Wall", "-Wextra", "-Werror", "-pedantic"]
-LONGEST_RUN = 60
+from compiled import NAMES, ROOT, make_checks, program_checks, symbol_checks, told
+from declared import Header, constants, entries, figures, paragraph, rust_texts
 
 # Of each number of the header the constant in the crates.
 CONSTANTS = {
@@ -39,100 +31,44 @@ CONSTANTS = {
 }
 # The paragraphs of the specification whose numbers a refusal's text may have.
 PARAGRAPHS = {1: ["4.1"], 2: ["3.1"], 3: ["2.3"], 4: ["2.15", "2.19"], 5: [], 6: [], 7: ["4.7"], 8: ["4.8"], 9: ["4.9"]}
-# What the header says that the archive may use.
-USED = {"memcpy", "memmove", "memset", "memcmp"}
-
-
-def flat(text):
-    """A text in one line, without the stars of a comment."""
-    return " ".join(re.sub(r"\n\s*\* ?", " ", text).split())
-
-
-def figures(text):
-    """The numbers in a text, without those of refusals and of what is cited, as 2.15."""
-    plain = re.sub(r"\d+\.\d+|Refusal \d", "", text)
-    return {int(figure.replace(",", "")) for figure in re.findall(r"\d[\d,]*\d|\d", plain)}
-
-
-class Header:
-    def __init__(self, text):
-        self.text = text
-        self.values = {name: int(value) for name, value in re.findall(r"#define (PASS_\w+) (\d+)", text)}
-        self.texts = {}
-        self.enums = {}
-        for enum, body in re.findall(r"enum (pass_\w+) \{(.*?)\n\};", text, re.S):
-            self.enums[enum] = self.enumerators(body)
-
-    def enumerators(self, body):
-        names, value = [], -1
-        for comment, name, given in re.findall(r"(?:/\*(.*?)\*/\s*)?(PASS_\w+)(?: = (\d+))?(?=,|\s|$)", body, re.S):
-            value = int(given) if given else value + 1
-            names.append(name)
-            self.values[name], self.texts[name] = value, flat(comment)
-        return names
-
-    def prototypes(self):
-        """Of each function the types of its parameters, as C writes them."""
-        found = {}
-        for name, parameters in re.findall(r"^void (pass\w*)\((.*?)\);", self.text, re.S | re.M):
-            kinds = [" ".join(one.split()) for one in parameters.split(",")]
-            found[name] = [re.sub(r"\w+(\[\d+\])?$", r"\1", kind) for kind in kinds]
-        return found
-
-
-def constants(sources):
-    """The associated constants of Rattle sources, as Type::NAME."""
-    found = {}
-    for source in sources:
-        for owner, body in re.findall(r"^impl (\w+) \{\n(.*?)^\}", source, re.S | re.M):
-            for name, value in re.findall(r"pub const (\w+): \w+ = (\d+);", body):
-                found[f"{owner}::{name}"] = int(value)
-    return found
-
-
-def entries(sources):
-    """The parameters of the exported functions of Rattle sources, as C writes them."""
-    crossing = {"&[u8]": ["const uint8_t *", "size_t "], "&mut [u8]": ["uint8_t *", "size_t "]}
-    found = {}
-    for source in sources:
-        for name, parameters in re.findall(r'pub extern "C" fn (\w+)\((.*?)\)', source, re.S):
-            kinds = [one.split(":", 1)[1].strip() for one in parameters.split(",") if ":" in one]
-            array = re.compile(r"&mut \[u32; (\d+)\]")
-            found[name] = [c for kind in kinds for c in crossing.get(kind, [array.sub(r"uint32_t [\1]", kind)])]
-    return found
-
-
-def paragraph(specification, number):
-    start = specification.index(f"**{number}** ")
-    return flat(specification[start:].split("\n\n")[0].split("** ", 1)[1])
-
-
-def rust_texts(source):
-    """The texts of the Rust crate's refusals, by their names in the header."""
-    body = source[source.index("const fn text") :]
-    found = {}
-    for name, text in re.findall(r'Refusal::(\w+) => \{?\s*"((?:[^"\\]|\\.)*)"', body, re.S):
-        found["PASS" + re.sub(r"([A-Z])", r"_\1", name).upper()] = re.sub(r"\\\n\s*", "", text)
-    return found
+# Where the numbers of a sheet stand, by their names in the crate.
+PLACES = {
+    "parts.kind": "SHEET_KIND",
+    "parts.preserved": "SHEET_PRESERVED",
+    "parts.count": "SHEET_PRESERVED_COUNT",
+    **{f"parts.counters.{sort}": f"SHEET_{sort.upper()}_COUNTER" for sort in ("alternative", "element", "label", "action", "predicate")},
+    **{f"sizes.{sort}s": f"SHEET_{sort.upper()}_COUNT" for sort in ("rule", "alternative", "element")},
+}
 
 
 class Sources:
-    """What the header is held to."""
+    """What a header is held to."""
 
-    def __init__(self, root=ROOT):
+    def __init__(self, name="pass", root=ROOT):
         read = lambda path: path.read_text(encoding="utf-8")
-        own = sorted((root / "crates" / "pass" / "src").glob("*.rt"))
-        self.crates = [read(path) for path in [root / "crates" / "words" / "src" / "numbers.rt", *own]]
+        own = sorted((root / "crates" / name / "src").glob("*.rt"))
+        shared = [root / "crates" / "words" / "src" / "numbers.rt", root / "crates" / "reach" / "src" / "rows.rt"]
+        self.crates = [read(path) for path in [*shared, *own]]
         self.specification = read(root / "docs" / "SPECIFICATION.md")
         rust = root / "rust" / "mutual-recursion" / "src"
-        self.refusals, self.rust = read(rust / "refusal.rs"), read(rust / "lib.rs")
+        self.refusals, self.clauses, self.rust = read(rust / "refusal.rs"), read(rust / "clause.rs"), read(rust / "lib.rs")
+        self.version = re.search(r'^version = "(.*)"', read(root / "rust" / "Cargo.toml"), re.M)[1]
+
+
+def read_header(name, root=ROOT):
+    return Header((root / "include" / f"{name}.h").read_text(encoding="utf-8"))
+
+
+def constant_checks(header, sources, wanted):
+    known = constants(sources.crates)
+    for name, constant in wanted.items():
+        yield f"{name} is {constant}", name in header.values and header.values[name] == known.get(constant)
 
 
 def number_checks(header, sources):
-    """Each number against the crates, the specification and the Rust crate."""
-    known = constants(sources.crates)
-    for name, constant in CONSTANTS.items():
-        yield f"{name} is {constant}", name in header.values and header.values[name] == known.get(constant)
+    """Each number of pass.h against the crates, the specification and the Rust crate."""
+    yield from constant_checks(header, sources, CONSTANTS)
+    yield "the version is the Rust crate's", header.version() == sources.version
     for name in ("SHEET_LEAST_BYTES", "SHEET_MOST_BYTES", "RESULT_BYTES", "TRAIL_BYTES", "WORK_BYTES"):
         given = re.search(rf"pub const {name}: usize = ([\d_]+);", sources.rust)
         yield f"PASS_{name} is the Rust crate's", given is not None and int(given[1]) == header.values.get(f"PASS_{name}")
@@ -157,16 +93,53 @@ def number_checks(header, sources):
 
 def text_checks(header, sources):
     """Each refusal's text against the Rust crate's, and its numbers against the specification."""
-    names, texts = header.enums["pass_refusal"], rust_texts(sources.refusals)
+    names, texts = header.enums["pass_refusal"], rust_texts(sources.refusals, "Refusal", "PASS")
     yield "refusals 1 to 9", [header.values[name] for name in names] == list(range(1, 10))
     yield "the Rust crate has the same refusals", list(texts) == names
     for name, number in zip(names, range(1, 10)):
-        text = header.texts[name]
+        text = header.texts.get(name, "")
         yield f"{name} has the Rust crate's text", bool(text) and texts.get(name) == text
         said = set().union(*(figures(paragraph(sources.specification, one)) for one in PARAGRAPHS[number]))
         exact = PARAGRAPHS[number] == [f"4.{number}"]
         yield f"{name} has the specification's numbers", figures(text) == said if exact else figures(text) <= said
         yield f"{name} is refusal {number}", paragraph(sources.specification, f"4.{number}").startswith(f"Refusal {number}")
+
+
+def further_checks(name, header, sources):
+    """The headers beside pass.h: limits, and the order of an answer's numbers."""
+    prefix = name.upper()
+    rows = {f"{prefix}_RULES": "Row::RULES", **({} if name == "sheet" else {f"{prefix}_ROW_WORDS": "Row::WORDS"})}
+    yield from constant_checks(header, sources, rows)
+    places = header.enums[f"{name}_place"]
+    sizes = {int(size) for size in re.findall(r"uint32_t numbers\[(\d+)\]", header.text)}
+    yield f"{name}.h has a name for each number", sizes == {len(places) - 1} and places[-1] == f"{prefix}_NUMBERS"
+    yield f"{name}.h has the refusal first", places[0] == f"{prefix}_REFUSAL"
+    if name == "sheet":
+        yield from constant_checks(header, sources, {f"SHEET_{kind}": f"UnitKind::{kind}" for kind in ("LEXER", "PARSER", "COMBINED")})
+        told = re.findall(r"fn sheet_numbers.*?\[\n\s*0,(.*?)\]\n", "".join(sources.crates), re.S)
+        in_order = [[PLACES.get(one.strip()) for one in numbers.split(",")[:-1]] for numbers in told]
+        yield "sheet.h has the numbers in the order of the crate", in_order == [places[1:-1]]
+    if name == "facts":
+        said = "the number of rules and the number of cycles; a row of the nullable rules and a row of those that cannot be inlined"
+        yield "facts.h has the numbers and rows of 3.10", said in paragraph(sources.specification, "3.10") and (
+            places[1:3] + header.enums["facts_mark"] == ["FACTS_RULE_COUNT", "FACTS_CYCLE_COUNT", "FACTS_NULLABLE", "FACTS_NOT_INLINABLE"]
+            and header.values["FACTS_NOT_INLINABLE"] == header.values["FACTS_ROW_WORDS"]
+        )
+    if name == "plans":
+        yield from clause_checks(header, sources)
+
+
+def clause_checks(header, sources):
+    """Each clause's number and text against the Rust crate's and the specification's."""
+    names, texts = header.enums["plans_clause"], rust_texts(sources.clauses, "Clause", "PLANS")
+    yield "clauses 1 to 11", [header.values[name] for name in names] == list(range(1, 12))
+    yield "the Rust crate has the same clauses", list(texts) == names
+    for number, name in enumerate(names, 1):
+        text = header.texts.get(name, "")
+        yield f"{name} has the Rust crate's text", bool(text) and texts.get(name) == text
+        said = paragraph(sources.specification, f"10.{number}").split(": ")
+        begins = text.split(":")[0] == re.split(r" \(", said[1])[0].rstrip(".")
+        yield f"{name} is clause {number}", said[0] == f"Clause {number}" and begins
 
 
 def signature_checks(header, sources):
@@ -176,116 +149,15 @@ def signature_checks(header, sources):
         yield f"{name} takes what the crate's function takes", made.get(name) == wanted[name]
 
 
-def symbol_checks():
-    """The archive uses what the header says, and has no variables."""
-    said = run("nm", "--format=posix", ARCHIVE).stdout.decode()
-    symbols = [line.split()[:2] for line in said.splitlines() if len(line.split()) > 1]
-    yield "the archive has both functions", {"pass", "pass_textbook"} == {name for name, sort in symbols if sort == "T"}
-    yield "the archive uses no other function", {name for name, sort in symbols if sort == "U"} <= USED
-    yield "the archive has no variables", {sort for _, sort in symbols} <= set("TtUr")
-
-
-def run(*words, given=b""):
-    return subprocess.run([str(word) for word in words], input=given, capture_output=True, timeout=LONGEST_RUN)
-
-
-def build(compiler, name, room):
-    """A program of tests/c, or what the compiler says."""
-    made = room / f"{name}-{compiler}"
-    language = ["-x", "c++", "-std=c++11"] if compiler == "g++" else ["-std=c11"]
-    source = ROOT / "tests" / "c" / f"{name}.c"
-    words = [*language, *WARNINGS, "-O1", "-I", ROOT / "include", source, "-x", "none", ARCHIVE, "-o", made]
-    said = run(compiler, *words)
-    return made, said.stderr.decode()
-
-
-def packed(record):
-    """What tests/c/ends.c writes for a stored answer."""
-    result, trail = (b"".join(struct.pack("<I", word) for word in words) for words in (record.result, record.trail))
-    if record.refused is not None:
-        return struct.pack("<5I", record.refused, 0, 0, 0, 0)
-    return struct.pack("<5I", 0, record.plans, record.steps, len(result), len(trail)) + result + trail
-
-
-def example_checks(program, records, room):
-    """The example's output and status for sheets, and for what is no sheet."""
-    sheet = room / "sheet"
-
-    def answer(record, *words):
-        sheet.write_bytes(record.sheet)
-        return run(program, sheet, *words)
-
-    def right(record):
-        said = answer(record)
-        lines = said.stdout.decode().splitlines()
-        numbers = struct.unpack("<5I", packed(record)[:20])
-        trail = ["t " + " ".join(map(str, record.trail[at : at + 4])) for at in range(0, len(record.trail), 4)]
-        refused = record.refused is not None
-        return (
-            lines == [" ".join(map(str, numbers)), *trail]
-            and said.returncode == int(refused)
-            and bool(said.stderr) == refused
-            and b"no such" not in said.stderr
-        )
-
-    yield "the example answers stored sheets", all(right(record) for record in records)
-    yield "of all refusals but 2", {record.refused for record in records} >= {None, 1, 3, 4, 5, 6, 7, 8, 9}
-    # SPECIFICATION 14.2
-    parting = next(record for record in records if record.name == "written.txt: written 1")
-    both = [answer(parting, *words).stdout.split()[:3] for words in ([], ["textbook"])]
-    yield "the readings part as in 14.2", both == [[b"0", b"1", b"1"], [b"0", b"0", b"0"]]
-    yield "a file that is not there", run(program, room / "none").returncode == 2
-    yield "a folder", run(program, room).returncode == 2
-    yield "no file", run(program).returncode == 2
-    with open("/dev/full", "wb") as full:
-        yield "a full disk", subprocess.run([program, sheet], stdout=full, stderr=subprocess.PIPE).returncode == 2
-
-
-def chosen(records):
-    """The grammars written by hand, and some of each other answer."""
-    some = {}
-    for record in records:
-        some.setdefault((record.refused, record.plans), []).append(record)
-    written = [record for record in records if record.name.startswith("written.txt")]
-    return written + [record for own in some.values() for record in own[:3]]
-
-
-def program_checks(room):
-    records = stored.gather([ROOT / "harness" / "answers"])
-    every = b"".join(struct.pack("<I", len(record.sheet)) + record.sheet for record in records)
-    for compiler in ("gcc", "g++"):
-        if compiler == "g++" and shutil.which(compiler) is None:
-            print("header: no g++ here, so the header is not tried with it")
-            continue
-        programs = {}
-        for name in ("pass", "ends"):
-            programs[name], said = build(compiler, name, room)
-            yield f"{compiler} compiles tests/c/{name}.c{said and ': ' + said}", not said
-        if not all(made.exists() for made in programs.values()):
-            continue
-        for what, so in example_checks(programs["pass"], chosen(records), room):
-            yield f"{compiler}: {what}", so
-        said = run(programs["ends"], given=every)
-        yield f"{compiler}: buffers end as promised {said.stderr.decode()}", said.returncode == 0
-        yield f"{compiler}: every stored answer", said.stdout == b"".join(map(packed, records))
-
-
-def told(name, checks):
-    """Prints what is not so, and how many are; the status of a script."""
-    passed, failed = 0, 0
-    for what, so in checks:
-        passed, failed = passed + so, failed + (not so)
-        if not so:
-            print(f"{name}: not so: {what}")
-    print(f"{passed} passed, {failed} failed")
-    return 1 if failed else 0
-
-
 def main():
-    header, sources = Header((ROOT / "include" / "pass.h").read_text(encoding="utf-8")), Sources()
+    header, checks = read_header("pass"), []
+    checks += [number_checks(header, Sources()), text_checks(header, Sources())]
+    for name in NAMES:
+        header, sources = read_header(name), Sources(name)
+        checks += [signature_checks(header, sources), symbol_checks(name, header)]
+        checks += [further_checks(name, header, sources)] if name != "pass" else []
     with tempfile.TemporaryDirectory() as room:
-        checks = [number_checks(header, sources), text_checks(header, sources), signature_checks(header, sources)]
-        checks += [symbol_checks(), program_checks(pathlib.Path(room))]
+        checks += [program_checks(pathlib.Path(room)), make_checks(pathlib.Path(room))]
         return told("header", (check for part in checks for check in part))
 
 

@@ -9,11 +9,10 @@ usage: memory.py
 
 import pathlib
 import shutil
-import struct
 import sys
 import tempfile
 
-import header
+import compiled
 from answers import stored
 
 FOUND = 9   # the status by which valgrind tells that it found something
@@ -22,21 +21,21 @@ FOUND = 9   # the status by which valgrind tells that it found something
 def built(room, name, *words):
     """The program of tests/c/heap.c."""
     made = room / name
-    source = header.ROOT / "tests" / "c" / "heap.c"
-    said = header.run("gcc", "-std=c11", *header.WARNINGS, *words, "-I", header.ROOT / "include", source, header.ARCHIVE, "-o", made)
+    source = compiled.ROOT / "tests" / "c" / "heap.c"
+    said = compiled.run("gcc", "-std=c11", *compiled.WARNINGS, *words, "-I", compiled.ROOT / "include", source, compiled.ARCHIVES / "libpass.a", "-o", made)
     if said.returncode != 0:
         raise SystemExit(said.stderr.decode())
     return made
 
 
 def checks(room, watch):
-    records = stored.gather([header.ROOT / "harness" / "answers"])
-    sheets = b"".join(struct.pack("<I", len(record.sheet)) + record.sheet for record in records)
-    said = header.run(*watch, built(room, "heap"), given=sheets)
+    records = stored.gather([compiled.ROOT / "harness" / "answers"])
+    sheets = compiled.in_line(records)
+    said = compiled.run(*watch, built(room, "heap"), given=sheets)
     yield f"nothing is found on {len(records)} sheets {said.stderr.decode()[-800:]}", said.returncode == 0
-    yield "the numbers of each answer", said.stdout == b"".join(header.packed(record)[:20] for record in records)
+    yield "the numbers of each answer", said.stdout == b"".join(compiled.packed(record)[:20] for record in records)
     if watch:
-        said = header.run(*watch, built(room, "fault", "-DFAULT=1"), given=sheets)
+        said = compiled.run(*watch, built(room, "fault", "-DFAULT=1"), given=sheets)
         yield "a work area that is a byte too short is found", said.returncode == FOUND
 
 
@@ -45,7 +44,7 @@ def main():
     if not watch:
         print("memory: no valgrind here, so nothing watches")
     with tempfile.TemporaryDirectory() as room:
-        return header.told("memory", checks(pathlib.Path(room), watch))
+        return compiled.told("memory", checks(pathlib.Path(room), watch))
 
 
 if __name__ == "__main__":

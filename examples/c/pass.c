@@ -16,21 +16,6 @@ static uint32_t word(const uint8_t *at) {
     return at[0] | (uint32_t)at[1] << 8 | (uint32_t)at[2] << 16 | (uint32_t)at[3] << 24;
 }
 
-static const char *cause(uint32_t refusal) {
-    switch (refusal) {
-    case PASS_BAD_LENGTH: return "the file's length is not that of a sheet";
-    case PASS_SHORT_BUFFER: return "a buffer is too short";
-    case PASS_BAD_TRAILER: return "the file does not end as a sheet does";
-    case PASS_BAD_RECORD: return "a record of the sheet is bad";
-    case PASS_SHARED_NUMBER: return "an id or a rule's name is there twice";
-    case PASS_ID_PAST_COUNTER: return "an id is not below its counter";
-    case PASS_PLAN_TOO_LARGE: return "a joined rule would grow too large";
-    case PASS_COUNTER_PAST_END: return "there are not enough ids left";
-    case PASS_RESULT_TOO_LARGE: return "the joined grammar or its trail would be too large";
-    default: return "no such refusal";
-    }
-}
-
 /* The number of bytes, or -1. */
 static long read_sheet_file(const char *path) {
     FILE *file = fopen(path, "rb");
@@ -72,6 +57,6 @@ int main(int argc, char **argv) {
         return 2;
     }
     if (numbers[PASS_REFUSAL] == 0) return 0;
-    fprintf(stderr, "refused: %s\n", cause(numbers[PASS_REFUSAL]));
+    fprintf(stderr, "refused: %s\n", pass_refusal_text(numbers[PASS_REFUSAL]));
     return 1;
 }
