@@ -16,20 +16,32 @@ use std::fmt;
 /// ```
 #[derive(Clone, Copy, Debug, PartialEq, Eq, Hash, PartialOrd, Ord)]
 pub enum Clause {
+    /// No member has an alternative that begins outside the cycle, so that none can take the others in.
     NoHub = 1,
+    /// The hub has arguments.
     HubWithArguments,
+    /// A satellite has arguments or something else of its own, a labelled alternative, an action or a predicate.
     SatelliteNotInlinable,
+    /// The substitution does not end within its steps.
     BeyondBudget,
+    /// An action or predicate refers to a rule whose call would be replaced.
     DanglingReference,
+    /// A call at the front of an alternative has more on it than its rule's name.
     BlockedCorner,
+    /// Two labels of one name would meet in an alternative.
     LabelCollision,
+    /// A reference would come to mean another element.
     BindingCollision,
+    /// Two values of one option would meet in an alternative.
     OptionCollision,
+    /// Nothing of the hub begins with a satellite.
     NoSteps,
+    /// What the hub would be is not of the form that direct left recursion needs.
     NotRewritable,
 }
 
 impl Clause {
+    /// All clauses, in the order of their numbers.
     pub const ALL: [Clause; 11] = [
         Clause::NoHub,
         Clause::HubWithArguments,
@@ -49,6 +61,7 @@ impl Clause {
         self as u32
     }
 
+    /// The clause of a number from 1 to 11.
     pub fn of_number(number: u32) -> Option<Clause> {
         Clause::ALL
             .into_iter()

@@ -11,13 +11,16 @@ use crate::{RULES, WORK_BYTES};
 pub struct CycleLeft {
     /// The ids of its members, rising.
     pub members: Vec<u32>,
+    /// What the pass would do about it.
     pub decision: Decision,
 }
 
 /// What is decided for a cycle.
 #[derive(Clone, Debug, PartialEq, Eq)]
 pub enum Decision {
+    /// It would be joined.
     Planned(Plan),
+    /// It would be left as it is.
     Declined(Clause),
     /// A planned list grows beyond the limits of [`Refusal::PlanTooLarge`].
     TooLarge,
@@ -28,6 +31,7 @@ pub enum Decision {
 pub struct Plan {
     /// The id of the rule that takes the others in.
     pub hub: u32,
+    /// The substitution steps that it takes.
     pub steps: u32,
     /// How many alternatives the hub would have.
     pub alternatives: u32,

@@ -27,6 +27,7 @@ impl Reading {
 pub struct Joined {
     /// The new sheet.
     pub sheet: Vec<u8>,
+    /// Where each new node came from.
     pub trail: Vec<Entry>,
     /// How many plans were applied, each of which joins a cycle.
     pub plans: u32,
@@ -47,13 +48,18 @@ impl Joined {
 /// The same as [`Joined`], in the buffers that were lent for it.
 #[derive(Clone, Copy, Debug, PartialEq, Eq)]
 pub struct View<'a> {
+    /// The new sheet.
     pub sheet: &'a [u8],
+    /// Where each new node came from.
     pub trail: Trail<'a>,
+    /// How many plans were applied, each of which joins a cycle.
     pub plans: u32,
+    /// The substitution steps of these plans together.
     pub steps: u32,
 }
 
 impl View<'_> {
+    /// A copy that is owned.
     pub fn to_joined(self) -> Joined {
         Joined {
             sheet: self.sheet.to_vec(),
@@ -73,6 +79,7 @@ pub struct Buffers {
 }
 
 impl Buffers {
+    /// Buffers of the lengths that the pass asks for: 160 KB together.
     pub fn new() -> Buffers {
         let zeros = |length| vec![0; length].into_boxed_slice();
         Buffers {

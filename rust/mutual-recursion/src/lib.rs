@@ -4,10 +4,12 @@
 //! left-recursive cycle that can be joined into one rule that calls itself, and hands back the new sheet with the *trail*, which
 //! says where each new node came from. [`join_in`] does the same in [`Buffers`] that are made once. A sheet that is refused is
 //! answered with a [`Refusal`], which has the cause in words. [`cycles`] lists the cycles of a sheet as it stands, each with its
-//! plan or with the [`Clause`] by which it is declined. [`lent`] has the archives' functions as they are.
+//! plan or with the [`Clause`] by which it is declined; [`origins`] tells of each alternative of the result whose place it fills
+//! and where it was taken from. [`lent`] has the archives' functions as they are.
 //!
 //! What the pass does is proved of the archives that this crate links; here their numbers are only put into types. No function
-//! panics, whatever the bytes.
+//! panics, whatever the bytes. The archives are for x86-64 Linux and stand in dist/ of the repository, so that a dependency
+//! by way of git needs no prover; [`ARCHIVES`] says what is known of those that are linked.
 //!
 //! ```
 //! use mutual_recursion::{Decision, Reading, cycles, join};
@@ -34,17 +36,22 @@
 //! ```
 
 #![deny(missing_debug_implementations, unsafe_op_in_unsafe_fn)]
+#![warn(missing_docs)]
 
 mod clause;
 mod cycles;
 mod join;
 pub mod lent;
+mod origins;
+mod provenance;
 mod refusal;
 mod trail;
 
 pub use clause::Clause;
 pub use cycles::{CycleLeft, Decision, Plan, cycles};
 pub use join::{Buffers, Joined, Reading, View, join, join_in};
+pub use origins::{Origin, origins};
+pub use provenance::{ARCHIVES, Made, Provenance};
 pub use refusal::Refusal;
 pub use trail::{Entries, Entry, Kind, Reason, Trail};
 

@@ -17,19 +17,28 @@ use std::fmt;
 /// ```
 #[derive(Clone, Copy, Debug, PartialEq, Eq, Hash, PartialOrd, Ord)]
 pub enum Refusal {
+    /// The sheet is too short, too long or not made of whole words.
     BadLength = 1,
-    /// Not by [`join`](crate::join), [`join_in`](crate::join_in) and [`cycles`](crate::cycles), whose buffers are long enough.
+    /// A lent buffer is too short. Not by [`join`](crate::join), [`join_in`](crate::join_in) and [`cycles`](crate::cycles), whose buffers are long enough.
     ShortBuffer,
+    /// The sheet does not end as a sheet does.
     BadTrailer,
+    /// A record of the sheet is not of its form.
     BadRecord,
+    /// An id or a rule's name is there twice.
     SharedNumber,
+    /// An id is not below its counter, so that it would be given a second time.
     IdPastCounter,
+    /// A joined rule would grow too large while it is planned.
     PlanTooLarge,
+    /// There are not enough ids left.
     CounterPastEnd,
+    /// The new sheet or its trail would be too large.
     ResultTooLarge,
 }
 
 impl Refusal {
+    /// All refusals, in the order of their numbers.
     pub const ALL: [Refusal; 9] = [
         Refusal::BadLength,
         Refusal::ShortBuffer,
@@ -47,6 +56,7 @@ impl Refusal {
         self as u32
     }
 
+    /// The refusal of a number from 1 to 9.
     pub fn of_number(number: u32) -> Option<Refusal> {
         Refusal::ALL
             .into_iter()

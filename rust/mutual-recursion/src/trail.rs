@@ -6,15 +6,22 @@ use std::slice::ChunksExact;
 /// What an entry is about; its id and its owner are of this kind.
 #[derive(Clone, Copy, Debug, PartialEq, Eq, Hash, PartialOrd, Ord)]
 pub enum Kind {
+    /// A rule.
     Rule = 1,
+    /// An alternative of a rule or of a block.
     Alternative,
+    /// An element of an alternative.
     Element,
+    /// The label of an element.
     Label,
+    /// An action.
     Action,
+    /// A predicate.
     Predicate,
 }
 
 impl Kind {
+    /// All kinds, in the order of their numbers.
     pub const ALL: [Kind; 6] = [
         Kind::Rule,
         Kind::Alternative,
@@ -29,6 +36,7 @@ impl Kind {
         self as u32
     }
 
+    /// The kind of a number from 1 to 6.
     pub fn of_number(number: u32) -> Option<Kind> {
         Kind::ALL.into_iter().find(|kind| kind.number() == number)
     }
@@ -57,6 +65,7 @@ pub enum Reason {
 }
 
 impl Reason {
+    /// Both reasons, in the order of their numbers.
     pub const ALL: [Reason; 2] = [Reason::RuleBoundary, Reason::BlockBoundary];
 
     /// 1 or 2.
@@ -64,6 +73,7 @@ impl Reason {
         self as u32
     }
 
+    /// The reason of the number 1 or 2.
     pub fn of_number(number: u32) -> Option<Reason> {
         Reason::ALL
             .into_iter()
@@ -74,13 +84,18 @@ impl Reason {
 /// One entry of the trail (SPECIFICATION 12).
 #[derive(Clone, Copy, Debug, PartialEq, Eq, Hash)]
 pub struct Entry {
+    /// What it is about.
     pub kind: Kind,
+    /// The id of the new node.
     pub id: u32,
+    /// Why it was recorded.
     pub reason: Reason,
+    /// The id of the node that it came from.
     pub owner: u32,
 }
 
 impl Entry {
+    /// An entry has so many bytes in a trail.
     pub const BYTES: usize = 16;
 
     /// Kind, id, reason, owner, each with its low byte first.
@@ -124,18 +139,22 @@ impl<'a> Trail<'a> {
         Trail { bytes }
     }
 
+    /// As the pass wrote it.
     pub fn bytes(self) -> &'a [u8] {
         self.bytes
     }
 
+    /// How many entries there are.
     pub fn len(self) -> usize {
         self.bytes.len() / Entry::BYTES
     }
 
+    /// Whether nothing was recorded, as where nothing is joined.
     pub fn is_empty(self) -> bool {
         self.bytes.is_empty()
     }
 
+    /// The entries, in the order of recording.
     pub fn iter(self) -> Entries<'a> {
         Entries {
             rest: self.bytes.chunks_exact(Entry::BYTES),
