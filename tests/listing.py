@@ -4,8 +4,8 @@
 - Of every stored answer of the original: the listing, byte for byte; of a refusal its sentence on standard error, else nothing.
 - Of every sheet of tests/reading: the line that the stored one says where the reader refuses.
 - What is no sheet is refused, 200 MB too, in little memory and at once.
-- A directory, an input or output that is closed, and a full disk: a message on standard error and status 3.
-- The status of ./listing is 1 where a sheet is refused; the program itself has none.
+- A directory, an input or output that is closed, and a full disk: a message on standard error and the status 3.
+- The script by a link, from another folder and with no prover on the path; its help; words that it does not know.
 
 usage: listing.py [PROGRAM SCRIPT]   (target/bin/listing and ./listing if none is named)
 """
@@ -58,10 +58,10 @@ def few_addresses():
     resource.setrlimit(resource.RLIMIT_AS, (MEMORY, MEMORY))
 
 
-def run(program, **options):
+def run(program, *words, **options):
     """The status, standard output and standard error of a run, or what went wrong with it."""
     try:
-        done = subprocess.run([program], capture_output="stdout" not in options, timeout=LONGEST_RUN, **options)
+        done = subprocess.run([program, *words], capture_output="stdout" not in options, timeout=LONGEST_RUN, **options)
     except (OSError, subprocess.TimeoutExpired) as error:
         return -1, "", str(error)
     return done.returncode, (done.stdout or b"").decode(), (done.stderr or b"").decode()
@@ -93,14 +93,14 @@ def of_reading(program):
 
 
 def answered(program, name, number, refused, **options):
-    """What is wrong with an input that is refused by a number, which is an answer, with its status."""
+    """What is wrong with an input that is refused by a number, which is an answer; the script's status tells, as that of join."""
     status, out, err = run(program, **options)
     good = status == refused and out == f"refused {number}\n" and is_said(out, err)
     return None if good else f"{name}: status {status}, {out[:60]!r}, {err[:60]!r}"
 
 
 def failed(script, name, **options):
-    """What is wrong with a run that cannot read or write: a message, no listing, and its status."""
+    """What is wrong with a run that cannot read or write: a message, no listing, and the status of join."""
     status, out, err = run(script, **options)
     good = status == 3 and out == "" and re.match(r"listing: standard (in|out)put cannot be (read|written): [^\n]+\n", err)
     return None if good else f"{name}: status {status}, {out[:60]!r}, {err[:60]!r}"
@@ -112,14 +112,14 @@ def of_no_sheets(program, script, folder):
     long = folder / "long"
     with open(long, "wb") as file:
         file.truncate(LONG)
-    for it, refused in ((program, 0), (script, 1)):
-        yield answered(it, "an empty input", 1, refused, input=b"")
-        yield answered(it, "a grammar's text", 1, refused, input=TEXT.encode())
-        yield answered(it, "a grammar's text in whole words", 3, refused, input=padded.encode())
+    for it, status in ((program, 0), (script, 1)):
+        yield answered(it, "an empty input", 1, status, input=b"")
+        yield answered(it, "a grammar's text", 1, status, input=TEXT.encode())
+        yield answered(it, "a grammar's text in whole words", 3, status, input=padded.encode())
         with open(long, "rb") as file:
-            yield answered(it, "200 MB", 1, refused, stdin=file, preexec_fn=few_addresses)
+            yield answered(it, "200 MB", 1, status, stdin=file, preexec_fn=few_addresses)
         with subprocess.Popen(["cat", long], stdout=subprocess.PIPE) as cat:
-            yield answered(it, "200 MB in a pipe", 1, refused, stdin=cat.stdout, preexec_fn=few_addresses)
+            yield answered(it, "200 MB in a pipe", 1, status, stdin=cat.stdout, preexec_fn=few_addresses)
             cat.stdout.close()
 
 
@@ -135,6 +135,25 @@ def of_failures(script, folder):
         yield failed(script, "a full disk", input=case, stdout=full, stderr=subprocess.PIPE)
 
 
+def of_uses(script, folder):
+    """The script as it is called: by a link, without a prover, with a file or `-`, and with words that mean nothing."""
+    sheet = ROOT / "examples" / "case-1.sheet"
+    expected = (ROOT / "examples" / "case-1.listing").read_text(encoding="utf-8")
+    (folder / "link").symlink_to(script)
+    (folder / "again").symlink_to("link")
+    path = ":".join(own for own in os.environ["PATH"].split(":") if not os.path.exists(os.path.join(own, "rt")))
+    for name, words, given in (("a file", [sheet], None), ("a dash", ["-"], sheet.read_bytes()), ("no word", [], sheet.read_bytes())):
+        done = run(folder / "again", *words, input=given, cwd=folder, env={**os.environ, "PATH": path})
+        yield None if done == (0, expected, "") else f"{name}, by a link and without rt: {done}"
+    for word in ("-h", "--help"):
+        status, out, err = run(script, word)
+        yield None if (status, err) == (0, "") and "usage: listing" in out and "exit status" in out else f"{word}: {status}, {err}"
+    for what, words in (("no option", ["--other"]), ("more than one sheet", [sheet, sheet]), ("none cannot be read", ["none"]), ("cannot be read", ["."])):
+        status, out, err = run(script, *words, cwd=folder)
+        good = (status, out) == (3, "") and err.startswith("listing: ") and what in err
+        yield None if good else f"{words}: status {status}, {err[:60]!r}"
+
+
 def main():
     named = sys.argv[1:] or [str(ROOT / "target" / "bin" / "listing"), str(ROOT / "listing")]
     if len(named) != 2 or not all(os.access(it, os.X_OK) for it in named):
@@ -144,8 +163,9 @@ def main():
     passed, wrong = 0, 0
     with tempfile.TemporaryDirectory() as made:
         folder = pathlib.Path(made)
-        for checks in (of_stored(program), of_reading(program), of_no_sheets(program, script, folder), of_failures(script, folder)):
-            for complaint in checks:
+        checks = [of_stored(program), of_reading(program), of_no_sheets(program, script, folder), of_failures(script, folder)]
+        for check in (*checks, of_uses(script, folder)):
+            for complaint in check:
                 passed += complaint is None
                 wrong += complaint is not None
                 if complaint:
