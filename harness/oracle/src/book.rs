@@ -193,7 +193,7 @@ pub fn record(asked: &Question, answer: &Answer) -> String {
         let _ = writeln!(out, "grammar {grammar}");
     }
     let words = words_of(&asked.bytes);
-    if asked.bytes.len() % 4 == 0 {
+    if asked.bytes.len().is_multiple_of(4) {
         let _ = writeln!(out, "{}", format!("in {}", text::words(&words)).trim_end());
     } else {
         let hex: String = asked

@@ -138,7 +138,7 @@ fn end_of_input_counts_as_a_symbol_that_is_consumed() {
 
 #[test]
 fn seven_stands_where_the_original_would_decline_later() {
-    let looped = vec!["a PLUS PLUS PLUS PLUS PLUS"; 5].join(" | ");
+    let looped = ["a PLUS PLUS PLUS PLUS PLUS"; 5].join(" | ");
     let given = sheet(&format!("e: a | INT; a: {looped} | e MINUS;"));
     assert_eq!(ask_sheet(&given).err(), Some(7));
     let no_limits = traced::Limits {

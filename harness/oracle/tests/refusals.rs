@@ -13,8 +13,8 @@ fn refusal(sheet: &Sheet) -> Option<u32> {
 
 /// A hub whose one corner is spliced into 10 x 10 alternatives with this tail.
 fn beyond_9(counters: &str, tail: &str) -> Sheet {
-    let b = vec!["b X"; 10].join(" | ");
-    let e = vec!["e Y"; 10].join(" | ");
+    let b = ["b X"; 10].join(" | ");
+    let e = ["e Y"; 10].join(" | ");
     sheet(&format!(
         "%counters {counters}; e: a {tail} | INT; a: {b}; b: {e};"
     ))
@@ -37,8 +37,8 @@ fn seven_comes_before_eight() {
 #[test]
 fn a_first_plan_beyond_nine_hides_a_second_beyond_eight() {
     let second = "f: g {} | INT; g: f PLUS;";
-    let b = vec!["b X"; 10].join(" | ");
-    let e = vec!["e Y"; 10].join(" | ");
+    let b = ["b X"; 10].join(" | ");
+    let e = ["e Y"; 10].join(" | ");
     let first = format!("e: a . . . . . . . . . . | INT; a: {b}; b: {e};");
     let counters = "%counters 100 100 0 4294967295 0;";
     assert_eq!(

@@ -176,7 +176,7 @@ fn label(source: tree::Label) -> Label {
     Label {
         id: LabelId::new(source.id),
         name: source.name.to_string(),
-        kind: if source.id % 2 == 0 {
+        kind: if source.id.is_multiple_of(2) {
             LabelKind::Single
         } else {
             LabelKind::List

@@ -96,7 +96,7 @@ pub fn read(bytes: &[u8]) -> Result<Sheet, Refusal> {
 
 /// The tree that stands in the bytes, or the lowest refusal of 1, 3 and 4 that holds; 5 and 6 are not asked.
 pub fn tree(bytes: &[u8]) -> Result<Sheet, Refusal> {
-    if bytes.len() < 4 * TRAILER || bytes.len() > MOST_BYTES || bytes.len() % 4 != 0 {
+    if bytes.len() < 4 * TRAILER || bytes.len() > MOST_BYTES || !bytes.len().is_multiple_of(4) {
         return Err(1);
     }
     let words = words_of(bytes);

@@ -11,6 +11,7 @@ impl Rng {
         rng
     }
 
+    #[allow(clippy::should_implement_trait)] // it never ends, so that it is no iterator to its users
     pub fn next(&mut self) -> u64 {
         self.0 = self.0.wrapping_add(0x9e37_79b9_7f4a_7c15);
         let mut z = self.0;
