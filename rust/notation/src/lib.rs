@@ -23,11 +23,13 @@
 //! | `~7` in front of an alternative, behind an element | its carried number |
 //! | `%counters 13 25 0 0 0;` | the counters |
 //!
+//! docs/NOTATION.md of the repository has all of it, with what to write for what ANTLR's own texts have.
+//!
 //! Names are numbered as they appear, from 1 on; every spelling is a name of its own. `r%7`, `T%7`, `x%7` and
-//! `o%7` are the name of number 7, for sheets whose names have no text. An id left out is one more than the last of its sort; alternatives
-//! begin at 10, elements at 20, rules at 1, the others at 0. A counter left out is one more than the
-//! highest id of its sort, or 0 where there is none. A sheet has no place for attributes, the `text` of
-//! `$x.text`; where they are not known `?` is written.
+//! `o%7` are the name of number 7, for sheets whose names have no text. An id left out is one more than the
+//! last of its sort; alternatives begin at 10, elements at 20, rules at 1, the others at 0. A counter left out
+//! is one more than the highest id of its sort, or 0 where there is none. A sheet has no place for attributes,
+//! the `text` of `$x.text`; where they are not known `?` is written.
 //!
 //! ```
 //! let grammar = notation::parse("e: a | INT; a: e PLUS e;").unwrap();

@@ -67,9 +67,10 @@ const MARKS: [&str; 26] = [
     "::", ":", ";", "|", "?", "*", "+", "(", ")", "[", "]", "<", ">", "{", "}", "&", "$", "@", "~",
     "^", "#", "!", "=", ",", ".", "-",
 ];
-/// The most characters of a literal, of what stands in brackets, and of a body that is code.
+/// The most characters of a literal and of what stands in brackets.
 const LONGEST_LITERAL: usize = 200;
-const LONGEST_BODY: usize = 2_000;
+/// The most bytes that are looked through for the ends of bodies, in all.
+const MOST_LOOKED: usize = 4 << 20;
 /// What a name of a number begins with (`Place::letter`).
 const LETTERS: [&str; 4] = ["r", "T", "x", "o"];
 
@@ -79,6 +80,7 @@ pub(crate) fn scan(text: &str) -> (Vec<Token<'_>>, Vec<Fault>) {
         rest: text.strip_prefix('\u{feff}').unwrap_or(text),
         line: 1,
         column: 1,
+        looked: 0,
     };
     let (mut tokens, mut faults) = (Vec::new(), Vec::new());
     loop {
@@ -107,6 +109,8 @@ struct Cursor<'a> {
     rest: &'a str,
     line: usize,
     column: usize,
+    /// How many bytes were looked through for the ends of bodies.
+    looked: usize,
 }
 
 impl<'a> Cursor<'a> {
@@ -207,7 +211,7 @@ impl<'a> Cursor<'a> {
     }
 
     /// How many bytes a thing of ANTLR's own texts has that stands here.
-    fn foreign(&self, first: char) -> Option<usize> {
+    fn foreign(&mut self, first: char) -> Option<usize> {
         match first {
             '\'' | '"' => self.literal(first),
             '[' => self.bracket(),
@@ -238,10 +242,13 @@ impl<'a> Cursor<'a> {
         (!is_number).then_some(end)
     }
 
-    /// A body that has more in it than references; a longer one is not looked for.
-    fn code(&self) -> Option<usize> {
+    /// A body that has more in it than references.
+    fn code(&mut self) -> Option<usize> {
+        if self.looked > MOST_LOOKED {
+            return None;
+        }
         let mut depth = 0;
-        let ends = |(_, letter): &(usize, char)| {
+        let ends = |letter: char| {
             match letter {
                 '{' => depth += 1,
                 '}' => depth -= 1,
@@ -249,12 +256,12 @@ impl<'a> Cursor<'a> {
             }
             depth == 0
         };
-        let mut letters = self.rest.char_indices().take(LONGEST_BODY);
-        let end = letters.find(ends)?.0 + 1;
+        let end = self.rest.find(ends).map(|place| place + 1);
+        self.looked += end.unwrap_or(self.rest.len());
+        let body = &self.rest[1..end? - 1];
         let own =
             |letter: char| is_inner(letter) || letter.is_whitespace() || "$.:@%?".contains(letter);
-        let is_own = self.rest[1..end - 1].chars().all(own);
-        (!is_own).then_some(end)
+        (!body.chars().all(own)).then_some(end?)
     }
 
     /// How many bytes of such characters stand behind the first ones.

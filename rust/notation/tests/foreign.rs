@@ -68,6 +68,29 @@ fn each_is_told_with_what_to_write() {
     }
 }
 
+/// Words that ANTLR has for itself are names of rules too.
+#[test]
+fn words_are_names() {
+    for name in [
+        "grammar", "options", "catch", "finally", "mode", "import", "fragment", "returns",
+    ] {
+        let text = format!("{name}: X | e {name}; e: {name} Y;");
+        assert!(read(text.as_bytes()).is_ok(), "{text}");
+    }
+}
+
+/// Long texts of nothing but openings take no time to speak of.
+#[test]
+fn openings_without_ends() {
+    for opening in ["{", "[", "'", "(", "/*", "#", "{ ;"] {
+        let text = format!("e: {}", opening.repeat(200_000 / opening.len()));
+        assert!(read(text.as_bytes()).is_err(), "{opening}");
+    }
+    let labels: String = (0..20_000).map(|at| format!("# A{at} |")).collect();
+    let found = read(format!("e: {labels} X;").as_bytes()).expect("the notation");
+    assert_eq!(found.warnings.len(), 20_000);
+}
+
 /// What stands in front of a colon is told one by one, and the alternatives behind it are read.
 #[test]
 fn all_of_a_rules_own() {

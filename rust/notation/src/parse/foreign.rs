@@ -1,5 +1,7 @@
 //! What ANTLR's own texts have and the notation writes otherwise: each is told with what to write, and passed over.
 
+use std::collections::BTreeMap;
+
 use super::Parser;
 use crate::fault::Warning;
 use crate::scan::What;
@@ -30,6 +32,11 @@ impl Parser<'_> {
             Some(What::Foreign(text)) => text.starts_with('{'),
             _ => self.mark(place, "{"),
         }
+    }
+
+    fn is_bracket(&self, place: usize) -> bool {
+        let what = self.tokens.get(place).map(|token| token.what);
+        matches!(what, Some(What::Foreign(text)) if text.starts_with('['))
     }
 
     fn skip_body(&mut self) {
@@ -63,7 +70,7 @@ impl Parser<'_> {
             ("options" | "tokens" | "channels" | "finally", _) if self.is_body(1) => {
                 return self.skip_with_body(rule, 1);
             }
-            ("catch", _) => return self.skip_with_body(rule, 2),
+            ("catch", _) if self.is_bracket(1) => return self.skip_with_body(rule, 2),
             _ if self.mark(0, "@") && !second.is_empty() => {
                 let more = if self.mark(2, "::") { 4 } else { 2 };
                 return self.skip_with_body(rule, more);
@@ -187,9 +194,14 @@ impl Parser<'_> {
 
     /// A name behind `#` that stands nowhere else is a label's, and was read as an element.
     pub(super) fn judge_labels(&mut self) {
+        let mut counts: BTreeMap<&str, usize> = BTreeMap::new();
+        for token in self.all {
+            if let What::Name(text) = token.what {
+                *counts.entry(text).or_default() += 1;
+            }
+        }
         for (text, (line, column)) in std::mem::take(&mut self.behind_labels) {
-            let same = |token: &&crate::scan::Token| token.what == What::Name(text);
-            if self.all.iter().filter(same).count() == 1 {
+            if counts.get(text) == Some(&1) {
                 let text = format!(
                     "`{text}` behind `#` is read as an element; `#` alone marks a labelled alternative, and has no name behind it"
                 );
