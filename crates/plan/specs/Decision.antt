@@ -19,7 +19,7 @@ use Rattle.planned.specs.List.{Laid, AllIn}
 use Rattle.turns.specs.Midway.{limitsOf}
 use Rattle.steps.specs.Decide.{DeclinedBy}
 use Rattle.turns.specs.declared.state.Limits.{Limits}
-use Rattle.substitution.specs.declared.run.Done.{Done}
+use Rattle.substitution.specs.declared.turning.Done.{Done}
 use Rattle.plan.specs.declared.plan.Plan.{Plan}
 use Rattle.plan.specs.declared.plan.Decision.{Decision}
 use Rattle.plan.specs.declared.plan.Decision.the-variants.{Planned, Declined, Overfull}

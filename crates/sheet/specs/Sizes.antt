@@ -10,13 +10,13 @@ use Rattle.grammar.specs.Ids.{bodyIds, ruleIds, ruleNames}
 use Rattle.grammar.specs.Reading as reading
 use Rattle.grammar.specs.Reading.{refused, sheet}
 use Rattle.sheet.specs.declared.answer.Parts.{Parts}
-use Rattle.sheet.specs.declared.sizes.Sizes.{Sizes}
+use Rattle.sheet.specs.declared.counts.Sizes.{Sizes}
 use Rattle.grammar.specs.Found.{FoundRules}
 use Rattle.words.specs.Room.{Room}
 use Rattle.records.specs.Rules.{row, placesFrom}
 use Rattle.sheet.specs.Answer.{partsOf, numberIn}
-use Rattle.sheet.specs.declared.sizes.Summary.{Summary}
-use Rattle.sheet.specs.declared.sizes.Summary.the-variants.{Refused, Sheet}
+use Rattle.sheet.specs.declared.counts.Summary.{Summary}
+use Rattle.sheet.specs.declared.counts.Summary.the-variants.{Refused, Sheet}
 
 abbrev pub sizesOf : tree.Sheet → Sizes
 sizesOf s =

@@ -1,7 +1,7 @@
 // The sheet reader: any bytes are refused by a number (SPECIFICATION 4.1 to 4.6), or known to be one tree's encoding.
 pub mod answer;
+mod counts;
 mod judge;
-mod sizes;
 
 pub use answer::Answer;
 pub use answer::Parts;
@@ -9,11 +9,11 @@ pub use answer::Reading;
 use answer::examine;
 use answer::is_length;
 use answer::refused;
-pub use sizes::Sizes;
-pub use sizes::Summary;
-use sizes::counted;
-use sizes::refusal_numbers;
-use sizes::sheet_numbers;
+pub use counts::Sizes;
+pub use counts::Summary;
+use counts::counted;
+use counts::refusal_numbers;
+use counts::sheet_numbers;
 use words::numbers::Refusal;
 use words::numbers::Work;
 use words::words::clear;

@@ -26,7 +26,7 @@ use Rattle.substitution.specs.Run.{MadeOf}
 use Rattle.steps.specs.declared.corner.Cycle.{Cycle}
 use Rattle.steps.specs.declared.corner.Place.{Place}
 use Rattle.turns.specs.declared.state.Limits.{Limits}
-use Rattle.substitution.specs.declared.run.Made.{Made}
+use Rattle.substitution.specs.declared.turning.Made.{Made}
 use Rattle.substitution.specs.declared.over.Look.{Look}
 use Rattle.substitution.specs.declared.over.Look.the-variants.{Settled, Declines, Goes}
 

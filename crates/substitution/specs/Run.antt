@@ -17,9 +17,9 @@ use Rattle.turns.specs.Midway.{limitsOf, Ready, Midway}
 use Rattle.steps.specs.declared.corner.Cycle.{Cycle}
 use Rattle.turns.specs.declared.state.Limits.{Limits}
 use Rattle.turns.specs.declared.state.State.{State}
-use Rattle.substitution.specs.declared.run.Done.{Done}
-use Rattle.substitution.specs.declared.run.Made.{Made}
-use Rattle.substitution.specs.declared.run.Made.the-variants as M
+use Rattle.substitution.specs.declared.turning.Done.{Done}
+use Rattle.substitution.specs.declared.turning.Made.{Made}
+use Rattle.substitution.specs.declared.turning.Made.the-variants as M
 
 -- The list that is left, in which all is settled, is the definition's.
 pub record DoneWith (ws : List ℕ) (end : ℕ) (bs : List ℕ) (m : Decided (Substituted innerDepth)) (r : Done) : Type 0 where

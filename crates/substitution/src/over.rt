@@ -1,6 +1,6 @@
 // A hub's list that is beyond its limits before a step (SPECIFICATION 4.7): it is looked through in the sheet and never stored,
 // since a step that goes leaves it beyond them.
-use crate::run::Made;
+use crate::turning::Made;
 use analysis::names::index;
 use ends::ends::alternative_end;
 use planned::list::Listed;

@@ -21,7 +21,7 @@ use Rattle.planned.specs.Layout.{settled}
 use Rattle.planned.specs.List.{Laid, AllIn}
 use Rattle.rewritable.specs.Judge.{AreJudged, JudgedFound}
 use Rattle.rewritable.specs.declared.judge.Judged.{Judged}
-use Rattle.substitution.specs.declared.run.Done.{Done}
+use Rattle.substitution.specs.declared.turning.Done.{Done}
 use Rattle.plan.specs.declared.plan.Decision.the-variants.{Planned, Declined}
 use Rattle.plan.specs.Known.{CycleKnown, knownRules, knownGrammar}
 use Rattle.plan.specs.Decision.{PlanLast}

@@ -27,9 +27,9 @@ use Rattle.turns.specs.Ground.{Ground}
 use Rattle.turns.specs.Midway.{limitsOf}
 use Rattle.substitution.specs.Run.{MadeTo, MadeOf}
 use Rattle.turns.specs.declared.state.Limits.{Limits}
-use Rattle.substitution.specs.declared.run.Done.{Done}
-use Rattle.substitution.specs.declared.run.Made.{Made}
-use Rattle.substitution.specs.declared.run.Made.the-variants as M
+use Rattle.substitution.specs.declared.turning.Done.{Done}
+use Rattle.substitution.specs.declared.turning.Made.{Made}
+use Rattle.substitution.specs.declared.turning.Made.the-variants as M
 use Rattle.plan.specs.declared.plan.Decision.{Decision}
 use Rattle.plan.specs.declared.plan.Decision.the-variants.{Declined, Overfull}
 use Rattle.plan.specs.Known.{HubKnown, knownRules, knownGrammar}

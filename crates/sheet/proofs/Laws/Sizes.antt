@@ -24,10 +24,10 @@ use Rattle.grammar.specs.Found.{FoundRules, RulesSpan}
 use Rattle.ids.specs.declared.survey.Survey.{Survey}
 use Rattle.ids.specs.Survey.{Surveyed}
 use Rattle.sheet.specs.declared.answer.Reading.{Reading}
-use Rattle.sheet.specs.declared.sizes.Summary.{Summary}
-use Rattle.sheet.specs.declared.sizes.Sizes.{Sizes}
-use Rattle.sheet.specs.declared.sizes.Summary as summary
-use Rattle.sheet.specs.declared.sizes.Summary.the-variants as summary-of
+use Rattle.sheet.specs.declared.counts.Summary.{Summary}
+use Rattle.sheet.specs.declared.counts.Sizes.{Sizes}
+use Rattle.sheet.specs.declared.counts.Summary as summary
+use Rattle.sheet.specs.declared.counts.Summary.the-variants as summary-of
 use Rattle.records.specs.Rules.{RowsOf}
 use Rattle.sheet.specs.Answer.{answerOf, partsOf, numberIn, readLent, workAfter, ReadAs, RowsIn, Lent}
 use Rattle.sheet.specs.Sizes.{Standing, Counted, sizesOf, summaryOf, numbersFrom, numbersOf, idsOf, namesOf, placesOf}

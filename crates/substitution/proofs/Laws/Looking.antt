@@ -34,8 +34,8 @@ use Rattle.substitution.specs.Run.{Untouched, MadeOf}
 use Rattle.substitution.specs.Over.{HubBeyond, InNeed, LookedAt, Unstored}
 use Rattle.steps.specs.declared.corner.Cycle.{Cycle}
 use Rattle.turns.specs.declared.state.Limits.{Limits}
-use Rattle.substitution.specs.declared.run.Made.{Made}
-use Rattle.substitution.specs.declared.run.Made.the-variants as M
+use Rattle.substitution.specs.declared.turning.Made.{Made}
+use Rattle.substitution.specs.declared.turning.Made.the-variants as M
 use Rattle.substitution.specs.declared.over.Look.{Look}
 use Rattle.substitution.specs.declared.over.Look.the-variants.{Settled, Declines, Goes}
 use Rattle.substitution.proofs.Laws.Grown.{stays-beyond}

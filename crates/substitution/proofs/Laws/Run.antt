@@ -22,7 +22,7 @@ use Rattle.substitution.specs.Run.{DoneWith, MadeOf, Going}
 use Rattle.steps.specs.declared.corner.Cycle.{Cycle}
 use Rattle.turns.specs.declared.state.Limits.{Limits}
 use Rattle.turns.specs.declared.state.State.{State}
-use Rattle.substitution.specs.declared.run.Made.the-variants as M
+use Rattle.substitution.specs.declared.turning.Made.the-variants as M
 use Rattle.turns.specs.declared.turn.Turn.{Turn}
 use Rattle.turns.specs.declared.turn.Turn.the-variants.{On, Declined, Overfull}
 use Rattle.turns.proofs.Laws.Turns.{substituted}

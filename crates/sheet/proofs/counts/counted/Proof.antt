@@ -1,8 +1,8 @@
--- `sheet::sizes::counted` meets its contract.
+-- `sheet::counts::counted` meets its contract.
 use borrow.Author.Needs.{needs}
 use Rattle.sheet.proofs.Laws.Sizes.{sizes-counted}
-use Rattle.sheet.proofs.sizes.counted.Statement.{statement}
-use Rattle.sheet.proofs.sizes.counted.Tie as tie
+use Rattle.sheet.proofs.counts.counted.Statement.{statement}
+use Rattle.sheet.proofs.counts.counted.Tie as tie
 
 pub counted-spec : {M : Type 1} → statement M
 counted-spec =

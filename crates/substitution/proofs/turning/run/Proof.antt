@@ -1,9 +1,9 @@
--- `substitution::run::run` meets its contract.
+-- `substitution::turning::run` meets its contract.
 use borrow.Author.Needs.{needs}
 use Rattle.substitution.proofs.Laws.Begin.{begun-ready, begun-going, beginning}
 use Rattle.substitution.proofs.Laws.Looking.{unstored}
-use Rattle.substitution.proofs.run.run.Statement.{statement}
-use Rattle.substitution.proofs.run.run.Tie as tie
+use Rattle.substitution.proofs.turning.run.Statement.{statement}
+use Rattle.substitution.proofs.turning.run.Tie as tie
 
 pub run-spec : {M : Type 1} → statement M
 run-spec =

@@ -1,8 +1,8 @@
--- `substitution::run::substitute` meets its contract.
+-- `substitution::turning::substitute` meets its contract.
 use borrow.Author.Needs.{needs}
 use Rattle.substitution.proofs.Laws.Begin.{ground-shut}
-use Rattle.substitution.proofs.run.substitute.Statement.{statement}
-use Rattle.substitution.proofs.run.substitute.Tie as tie
+use Rattle.substitution.proofs.turning.substitute.Statement.{statement}
+use Rattle.substitution.proofs.turning.substitute.Tie as tie
 
 pub substitute-spec : {M : Type 1} → statement M
 substitute-spec =

@@ -1,4 +1,4 @@
--- `substitution::run::stored` meets its contract: what is left of the substitution is all of it.
+-- `substitution::turning::stored` meets its contract: what is left of the substitution is all of it.
 use borrow.Author.Needs.{needs}
 use mathlib.Core.Path.{_≡_}
 use lib.ListN.{length}
@@ -7,8 +7,8 @@ use Rattle.turns.specs.Midway.{Shut, Ready}
 use Rattle.turns.specs.Turn.{turnsLeft}
 use Rattle.substitution.specs.Run.{Going}
 use Rattle.substitution.proofs.Laws.Run.{running}
-use Rattle.substitution.proofs.run.stored.Statement.{statement}
-use Rattle.substitution.proofs.run.stored.Tie as tie
+use Rattle.substitution.proofs.turning.stored.Statement.{statement}
+use Rattle.substitution.proofs.turning.stored.Tie as tie
 
 abbrev Inv-loop : tie.InvT-loop
 Inv-loop s end names places c limits budget work₀ st₀ work st =
