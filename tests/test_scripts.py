@@ -135,6 +135,11 @@ class Join(unittest.TestCase):
         self.assertEqual((status, out), (4, ""))
         self.assertIn("join: cargo is not on the path, and the program is not built of what stands here\n", said)
 
+    def test_closed_output(self):
+        words = ["sh", "-c", f'exec "{self.root}/join" g >&-']
+        done = subprocess.run(words, env={"PATH": str(self.bin), "ROOM": str(self.room)}, stderr=subprocess.PIPE, text=True)
+        self.assertEqual((done.returncode, done.stderr), (3, "join: cannot write to standard output: it is closed\n"))
+
     def test_words(self):
         self.assertEqual(self.run_join(), (3, "", "join: no grammar; ./join --help tells how it is used\n", []))
         for word in ("-h", "--help"):
