@@ -30,8 +30,8 @@ fn main() {
         found.link(name);
     }
     println!("cargo::rustc-link-search=native={}", found.folder.display());
-    for (word, unknown) in [("made", "elsewhere"), ("sources", ""), ("kit", "")] {
-        let told = found.told(word).unwrap_or(unknown);
+    for word in ["made", "sources", "kit"] {
+        let told = found.told(word).unwrap_or("unknown");
         println!("cargo::rustc-env=ARCHIVES_{}={told}", word.to_uppercase());
     }
 }

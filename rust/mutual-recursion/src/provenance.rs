@@ -14,9 +14,9 @@ use std::fmt;
 pub struct Provenance {
     /// How they came here.
     pub made: Made,
-    /// The kit that proved and built them, by its own name for itself; empty where that is not known.
+    /// The kit that proved and built them, by its own name for itself; `unknown` where that is so.
     pub kit: &'static str,
-    /// The digest of the proved crates, as `tools/archives --sources` prints it; empty where that is not known.
+    /// The digest of the proved crates, as `tools/archives --sources` prints it; `unknown` where that is so.
     pub sources: &'static str,
 }
 
