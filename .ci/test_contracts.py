@@ -1,104 +1,12 @@
 #!/usr/bin/env python3
 """Shows contracts.py passing a good tree and failing on each kind of breach."""
 
-import pathlib
-import subprocess
-import sys
-import tempfile
 import unittest
 
-HERE = pathlib.Path(__file__).resolve().parent
-TARGET = HERE.parent / "target"
-
-LIB = """// A library's root.
-mod inner;
-
-pub fn twice(x: u32) -> u64
-    ensures { λ r. ⌜ r ≡ x + x ⌝ }
-{
-    inner::sum(x, x)
-}
-
-#[no_mangle]
-pub extern "C" fn tree_at(table: &[u8; 4], x: u8) -> [u8; 2]
-    // requires { nothing: a comment }
-    ensures named { λ r. do ⌜ f {n = 2} r ≡ "}" ⌝ -- a } in a comment
-    }
-{
-    [b'}', b'{']
-}
-
-impl Counter {
-    pub fn next(self) -> Counter
-        ensures { λ r. ⌜ r .n ≡ suc (self .n) ⌝ }
-    {
-        Counter { n: self.n + 1 }
-    }
-}
-
-fn private(x: u32) -> u32
-    requires { ⌜ x < 4 ⌝ }
-{
-    x
-}
-"""
-INNER = """pub fn sum(x: u32, y: u32) -> u64
-    requires { ⌜ x ≤ y ⌝ }
-    ensures { λ r. ⌜ r ≡ x + y ⌝ }
-{
-    x as u64 + y as u64
-}
-"""
-SPEC = """use Prim.Native.Nat.{ℕ}
--- why not? an axiom ? no
-{- ? {- axiom -} ?h -}
-abbrev pub even? : ℕ → ℕ
-even? n? = n?
-
-axioms : String
-axioms = "is it ? an axiom"
-"""
-VERDICT = "fn tree::twice: proved\nlogic=proved functions=5 sum=0 native=nat\n"
+from tree import Tree
 
 
-class Tree(unittest.TestCase):
-    """A small repository, good at first; each test spoils one thing."""
-
-    def setUp(self):
-        TARGET.mkdir(exist_ok=True)
-        self.folder = tempfile.TemporaryDirectory(prefix="contracts-", dir=TARGET)
-        self.addCleanup(self.folder.cleanup)
-        self.root = pathlib.Path(self.folder.name)
-        self.write("crates/tree/src/lib.rt", LIB)
-        self.write("crates/tree/src/inner.rt", INNER)
-        self.write("crates/tree/specs/Spec.antt", SPEC)
-        self.write("crates/tree/proofs/twice/Proof.antt", "t = search needs\n")
-        self.write("crates/show/src/main.rt", "pub fn bare() {}\nfn main() {}\n")
-        self.write("crates.txt", "tree:\nshow: tree io libc\n")
-        self.write("target/log/tree.say", VERDICT)
-        self.write("target/log/show.say", "logic=proved functions=1 axioms=2 sum=0\n")
-
-    def write(self, name, text):
-        file = self.root / name
-        file.parent.mkdir(parents=True, exist_ok=True)
-        file.write_text(text, encoding="utf-8")
-
-    def edit(self, name, old, new):
-        text = (self.root / name).read_text(encoding="utf-8")
-        self.assertIn(old, text)
-        self.write(name, text.replace(old, new))
-
-    def check(self):
-        command = [sys.executable, str(HERE / "contracts.py"), str(self.root)]
-        run = subprocess.run(command, capture_output=True, text=True, check=False)
-        return run.returncode, run.stdout
-
-    def assert_breach(self, *lines):
-        """The check fails, and these lines are all that it complains of."""
-        status, out = self.check()
-        self.assertEqual(status, 1, out)
-        self.assertEqual(out.splitlines()[:-1], list(lines))
-
+class Contracts(Tree):
     def test_good(self):
         status, out = self.check()
         self.assertEqual(out, "contracts: 4 functions and 4 files looked at, nothing wrong\n")
@@ -148,73 +56,22 @@ class Tree(unittest.TestCase):
                 self.edit("crates/tree/src/lib.rt", clause, "λ r. ⌜ r ≡ x + x ⌝")
                 self.assertEqual(status, 0, out)
 
-    def test_requires_in_the_root_file(self):
-        old = "    ensures { λ r. ⌜ r ≡ x + x ⌝ }\n"
-        self.edit("crates/tree/src/lib.rt", old, "    requires { ⌜ x < 9 ⌝ }\n" + old)
-        self.assert_breach(
-            "crates/tree/src/lib.rt:4: fn twice is at the outer boundary and has a requires"
-        )
+    def test_ensures_of_what_is_handed_in_alone(self):
+        self.edit("crates/tree/src/lib.rt", "λ r. ⌜ r ≡ x + x ⌝", "λ r. ⌜ x < 4 ⌝")
+        self.assert_breach("crates/tree/src/lib.rt:4: fn twice has an ensures that speaks neither of the result nor of a buffer at exit")
 
-    def test_requires_behind_the_ensures(self):
-        self.edit("crates/tree/src/lib.rt", "{\n    [b'}'", "    requires { ⌜ x < 9 ⌝ }\n{\n    [b'}'")
-        self.assert_breach(
-            "crates/tree/src/lib.rt:11: fn tree_at is at the outer boundary and has a requires"
-        )
+    def test_lent_buffer_that_nothing_is_said_of(self):
+        for lent in ("out: &mut [u8]", "mut out: &mut [[u64; 2]; 4]", "out: &'a mut [u8]"):
+            with self.subTest(lent):
+                self.edit("crates/tree/src/lib.rt", "twice(x: u32)", f"twice(x: u32, {lent})")
+                self.assert_breach("crates/tree/src/lib.rt:4: fn twice is lent out, and no ensures speaks of it at exit")
+                self.edit("crates/tree/src/lib.rt", f"twice(x: u32, {lent})", "twice(x: u32)")
 
-    def test_requires_of_an_export_in_a_module(self):
-        self.edit("crates/tree/src/inner.rt", "pub fn", 'pub extern "C" fn')
-        self.assert_breach(
-            "crates/tree/src/inner.rt:1: fn sum is at the outer boundary and has a requires"
-        )
-
-    def test_requires_of_a_function_handed_on(self):
-        self.edit("crates/tree/src/lib.rt", "mod inner;", "mod inner;\npub use inner::sum;")
-        self.assert_breach(
-            "crates/tree/src/inner.rt:1: fn sum is at the outer boundary and has a requires"
-        )
-
-    def test_requires_handed_on_in_other_ways(self):
-        for line in (
-            "pub use inner::sum as add;",
-            "pub use inner::*;",
-            "pub use crate::{inner::{sum as add}, other};",
-            "pub use crate::{other, inner::{self as all, *}};",
-        ):
-            with self.subTest(line):
-                self.edit("crates/tree/src/lib.rt", "mod inner;", f"mod inner;\n{line}")
-                self.assert_breach("crates/tree/src/inner.rt:1: fn sum is at the outer boundary and has a requires")
-                self.edit("crates/tree/src/lib.rt", f"mod inner;\n{line}", "mod inner;")
-
-    def test_requires_handed_on_twice(self):
-        for first, second in (
-            ("pub use crate::inner::sum as add;", "pub use between::add as plus;"),
-            ("pub use crate::inner::*;", "pub use between::*;"),
-            ("pub use crate::inner::sum as add;", "pub use between::*;"),
-        ):
-            with self.subTest(f"{first} {second}"):
-                self.write("crates/tree/src/between.rt", first + "\n")
-                self.edit("crates/tree/src/lib.rt", "mod inner;", f"mod inner;\nmod between;\n{second}")
-                self.assert_breach("crates/tree/src/inner.rt:1: fn sum is at the outer boundary and has a requires")
-                self.edit("crates/tree/src/lib.rt", f"mod inner;\nmod between;\n{second}", "mod inner;")
-
-    def test_requires_of_a_generic_type_s_method(self):
-        for head in ("impl<T> Sum<T>", "impl<const N: usize> crate::sum::Sum<[u8; N]>", "impl<T> Adds<T> for Sum<T>"):
-            with self.subTest(head):
-                method = "pub fn add(self) -> T\n    requires { ⌜ y < 4 ⌝ }\n    ensures { λ r. ⌜ r ≡ self .n ⌝ }\n{ self.n }\n"
-                self.write("crates/tree/src/sum.rt", f"pub struct Sum<T> {{ n: T }}\n\n{head} {{\n{method}}}\n")
-                self.edit("crates/tree/src/lib.rt", "mod inner;", "mod inner;\nmod sum;\npub use sum::Sum;")
-                self.assert_breach("crates/tree/src/sum.rt:4: fn add is at the outer boundary and has a requires")
-                self.edit("crates/tree/src/lib.rt", "\nmod sum;\npub use sum::Sum;", "")
-
-    def test_requires_of_a_method_handed_on(self):
-        method = "pub fn add(self, y: u32) -> Sum\n    requires { ⌜ y < 4 ⌝ }\n    ensures { λ r. ⌜ r .n ≡ y ⌝ }\n{ self }\n"
-        self.write("crates/tree/src/sum.rt", f"struct Sum {{ n: u32 }}\n\nimpl Sum {{\n{method}}}\n")
-        self.edit("crates/tree/src/lib.rt", "mod inner;", "mod inner;\nmod sum;")
-        self.assertEqual(self.check()[0], 0)
-        self.edit("crates/tree/src/lib.rt", "mod sum;", "mod sum;\npub use sum::{Other, Sum};")
-        self.assert_breach(
-            "crates/tree/src/sum.rt:4: fn add is at the outer boundary and has a requires"
-        )
+    def test_lent_buffer_with_its_length_at_exit(self):
+        self.edit("crates/tree/src/lib.rt", "twice(x: u32)", "twice(x: u32, out: &mut [u8])")
+        clause = "    ensures { λ _. ⌜ length (now (out .exit)) ≡ length (now (out .entry)) ⌝ }\n"
+        self.edit("crates/tree/src/lib.rt", "{\n    inner::sum", clause + "{\n    inner::sum")
+        self.assertEqual(self.check()[0], 0, self.check()[1])
 
     def test_pub_fn_in_a_folder_named_target(self):
         self.write("crates/tree/src/target/deep.rt", "pub fn bare() {}\n")
