@@ -5,6 +5,7 @@ import pathlib
 import tempfile
 import unittest
 
+import promises
 import theorems
 
 TARGET = pathlib.Path(__file__).resolve().parent.parent / "target"
@@ -24,6 +25,46 @@ theorems =
       one = 1;
     }
 """
+RUN = """module _ (s : Sheet) where
+  -- What is promised of a run.
+  pub record Demand3 (stages : List Stage)
+      : Type 0 where
+    pub strings : SameStrings (s .rules)
+    -- Of each stage.
+    pub shape : (t : Stage) → List·Memᴰ t stages
+        → Shaped t
+
+  abbrev pub other : ℕ
+  other = 0
+"""
+KEPT = """pub record Kept (bs : List ℕ) : Type 0 where
+  pub before after : Sheet
+pub record KeptRust : Type 0 where
+  pub kept : Kept
+pub record BoughtRust : Type 0 where
+  pub everywhere : o .number ≡ 0 → Kept
+pub record BoughtTextbook : Type 0 where
+  pub everywhere : o .number ≡ 0 → Kept
+pub record EveryCall (bs : List ℕ) : Type 0 where
+  pub row : Row bs
+  pub otherUnits : Lent bs → (s : Sheet) → read bs ≡ sheet s → (s .kind ≡ parser → ⊥) → same bs ≡ bs
+
+pub record Lent (bs : List ℕ) : Type 0 where
+  pub long : 4 ≤ length bs
+"""
+HANDED = """pub record Handed : Type 0 where
+  pub means : EveryCall
+pub record HandedOver : Type 0 where
+  pub handed : Handed
+"""
+ENDS = """
+abbrev pub Ends : Sheet → Type 0
+Ends s = (valid s ≡ true) × Ended s
+
+pub record Theorems : Type 0 where
+  pub one : ℕ
+  pub runs : (s : Sheet) → Ends s → Demand3 s
+"""
 PROVED = "logic=proved functions=0 sum=0 native=nat logic-built=trusted\n"
 
 
@@ -39,7 +80,27 @@ class Crate(unittest.TestCase):
         self.write("Demands.antt", DEMANDS)
         self.write("Proved.antt", "-- The proof.\npub mod All\n")
         self.write("Proved/All.antt", ALL)
+        self.write("Demands/Run.antt", RUN)
+        self.write("Demands/Kept.antt", KEPT)
         self.log(PROVED)
+        self.promise("crates/laws/specs/Demands/Theorems.antt", DEMANDS)
+        self.promise("crates/pass/specs/Handed.antt", HANDED)
+        self.store()
+
+    def promise(self, name, text):
+        file = self.root / name
+        file.parent.mkdir(parents=True, exist_ok=True)
+        file.write_text(text, encoding="utf-8")
+
+    def store(self):
+        (self.root / ".ci").mkdir(exist_ok=True)
+        (self.root / theorems.LIST).write_text("# A list.\n\n" + "\n".join(promises.listed(self.root)) + "\n", encoding="utf-8")
+
+    def change(self, name, old, new):
+        file = self.root / name
+        text = file.read_text(encoding="utf-8")
+        self.assertIn(old, text)
+        file.write_text(text.replace(old, new), encoding="utf-8")
 
     def write(self, name, text):
         file = self.root / SPECS / name
@@ -124,6 +185,68 @@ class Crate(unittest.TestCase):
     def test_no_verdict(self):
         (self.root / "target/log/laws.say").unlink()
         self.refused("no verdict")
+
+    def test_list(self):
+        self.assertEqual(
+            promises.listed(self.root)[:5],
+            [
+                "Theorems, crates/laws/specs/Demands/Theorems.antt",
+                "  one : ℕ",
+                "Demand3, crates/laws/specs/Demands/Run.antt",
+                "  strings : SameStrings (s .rules)",
+                "  shape : List·Memᴰ t stages → Shaped t",
+            ],
+        )
+        self.assertIn("  before : Sheet", promises.listed(self.root))
+        self.assertIn("  after : Sheet", promises.listed(self.root))
+
+    def test_a_field_that_has_gone(self):
+        self.change("crates/laws/specs/Demands/Run.antt", "    pub strings : SameStrings (s .rules)\n", "")
+        self.refused("-   strings : SameStrings (s .rules)", "--write")
+
+    def test_a_field_that_is_new(self):
+        self.change("crates/pass/specs/Handed.antt", "  pub means", "  pub is : answer\n  pub means")
+        self.refused("+   is : answer", "--write")
+        self.store()
+        self.refused()
+
+    def test_a_field_that_says_something_else(self):
+        for old, new in (("Shaped t", "Unit"), ("List·Memᴰ t stages\n", "t ≡ t\n"), ("SameStrings (s .rules)", "SameStrings []")):
+            with self.subTest(new):
+                self.change("crates/laws/specs/Demands/Run.antt", old, new)
+                found = list(theorems.breaches(self.root))
+                self.change("crates/laws/specs/Demands/Run.antt", new, old)
+                self.assertEqual([line[0] for line in found if line[0] in "+-"], ["-", "+"], found)
+
+    def test_a_record_that_has_gone(self):
+        self.change("crates/laws/specs/Demands/Kept.antt", "record Kept ", "record Held ")
+        self.refused("-   before : Sheet", "-   after : Sheet", "--write")
+
+    def test_suppositions(self):
+        for old, new, expected in (
+            ("Ends s = (valid", "Ends s = ⊥ × (valid", "Theorems.runs supposes what cannot be: Ends s"),
+            ("(valid s ≡ true)", "(true ≡ false)", "Theorems.runs supposes what cannot be: Ends s"),
+            ("(s : Sheet) → Ends s", "(s : Sheet) → ⊥ → Ends s", "Theorems.runs supposes what cannot be: ⊥"),
+            ("× Ended s", "× Never s\n\nabbrev pub Never : Sheet → Type 0\nNever s = length s < 0", "cannot be: Ends s"),
+        ):
+            with self.subTest(new):
+                self.promise("crates/laws/specs/Demands/Theorems.antt", ENDS.replace(old, new))
+                self.write("Demands.antt", "pub mod Theorems\npub mod Run\npub mod Kept\n")
+                self.write("Proved/All.antt", ALL.replace("Demands.{", "Demands.Theorems.{"))
+                self.store()
+                self.refused(expected)
+
+    def test_suppositions_that_can_be(self):
+        self.promise("crates/laws/specs/Demands/Theorems.antt", ENDS)
+        self.write("Demands.antt", "pub mod Theorems\npub mod Run\npub mod Kept\n")
+        self.write("Proved/All.antt", ALL.replace("Demands.{", "Demands.Theorems.{"))
+        self.store()
+        self.refused()
+
+    def test_a_record_that_cannot_be(self):
+        self.change("crates/laws/specs/Demands/Kept.antt", "4 ≤ length bs", "⊥")
+        self.write("Demands.antt", DEMANDS + "pub mod Kept\n")
+        self.refused("EveryCall.otherUnits supposes what cannot be: Lent bs")
 
 
 if __name__ == "__main__":

@@ -4,20 +4,29 @@
 - The crate `laws` declares one record `Theorems`, without parameters, in `Demands` or below it.
 - A file that the crate's `mod` lines reach declares, at the outermost level, `theorems : Theorems`,
   and gives it a body; the `Theorems` there is that record.
+- The fields of the records in which what is promised stands, in that crate and in `pass`, are those of
+  the list in .ci/promises.txt: none has gone or says something else, and one that is new is seen there.
+- Nothing that such a field supposes fails by its form, and so no promise is empty.
 - The verdicts that `rt` kept of the crate say that it is proved.
 
-One line for each breach. usage: theorems.py [ROOT]
+One line for each breach. usage: theorems.py [--write] [ROOT]; --write makes the list anew.
 """
 
+import difflib
 import pathlib
 import re
 import sys
 
 from contracts import verdicts
 from lexer import antt_words
+from promises import RECORDS, Meanings, listed, records, shown, suppositions
 
 CRATE = "laws"
 DEMANDS = "Demands"
+LIST = ".ci/promises.txt"
+HEAD = """# What is promised: the fields of the records that `theorems` and the entries' contracts consist of, without the names that
+# they bind. .ci/theorems.py holds the records to this list; `python3 .ci/theorems.py --write` makes it anew from them.
+"""
 
 
 def declarations(text):
@@ -79,6 +88,26 @@ def is_proved(text):
     return False
 
 
+def breaches_of_list(root):
+    """Where the records and the stored list differ: `-` is what the list has and the records have not, `+` the other way round."""
+    stored = [line for line in (root / LIST).read_text(encoding="utf-8").splitlines() if line and line[0] != "#"]
+    differing = [line for line in difflib.ndiff(stored, listed(root)) if line[0] in "+-"]
+    if differing:
+        yield from differing
+        yield f"{LIST}: the records are not those of the list. If that is meant: python3 .ci/theorems.py --write"
+
+
+def breaches_of_suppositions(root, modules):
+    """The suppositions of what is promised that nothing can meet, by their form."""
+    meanings = Meanings(modules.values())
+    for record, file in RECORDS.items():
+        text = (root / file).read_text(encoding="utf-8") if (root / file).is_file() else ""
+        for name, words in records(text).get(record, {}).items():
+            for supposed in suppositions(words):
+                if meanings.cannot_be(supposed):
+                    yield f"{file}: {record}.{name} supposes what cannot be: {shown(supposed)}"
+
+
 def breaches(root):
     specs = root / "crates" / CRATE / "specs"
     modules = reached(specs)
@@ -91,6 +120,8 @@ def breaches(root):
     for name in proofs:
         if imported_from(modules[name]) != records or declares_another(modules[name]):
             yield f"{specs}: Theorems in {name} is not the record of {DEMANDS}"
+    yield from breaches_of_list(root)
+    yield from breaches_of_suppositions(root, modules)
     lines = list(verdicts(root, CRATE))
     if not lines:
         yield f"{root / 'target/log'}: no verdict on {CRATE}: run rt ci first"
@@ -100,7 +131,10 @@ def breaches(root):
 
 
 def main():
-    root = pathlib.Path(sys.argv[1] if len(sys.argv) > 1 else pathlib.Path(__file__).resolve().parent.parent)
+    arguments = [argument for argument in sys.argv[1:] if argument != "--write"]
+    root = pathlib.Path(arguments[0] if arguments else pathlib.Path(__file__).resolve().parent.parent)
+    if "--write" in sys.argv[1:]:
+        (root / LIST).write_text(HEAD + "".join(f"{line}\n" for line in listed(root)), encoding="utf-8")
     found = list(breaches(root))
     print("\n".join(found) if found else "theorems: all that is promised of the definition is proved")
     return 1 if found else 0
