@@ -178,5 +178,27 @@ class Telling(Tree):
         self.assertFalse(wrong.told(self.edit(), True, 'f-law in L.antt', None, equal=True)[1])
 
 
+class Promised(unittest.TestCase):
+    """The programs that must fail to meet the statements (SPECIFICATION 1.11)."""
+
+    NAMES = (
+        'pass/hands_each_sheet_back',
+        'run/first_plan_alone',
+        'plan/declines_before_a_substitution',
+        'plan/7_before_a_substitution',
+        'run/invented_steps',
+        'pass/always_refuses',
+        'pass/always_one_sheet',
+    )
+
+    def test_none_waits_to_be_asked_for(self):
+        found = {str(edit): edit for edit in edits.read(wrong.HERE / 'wrong')}
+        for name in self.NAMES:
+            with self.subTest(name):
+                self.assertIn(name, found)
+                self.assertTrue(found[name].is_code())
+                self.assertEqual(found[name].when, '')
+
+
 if __name__ == '__main__':
     unittest.main()
