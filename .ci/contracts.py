@@ -1,8 +1,9 @@
 #!/usr/bin/env python3
 """The project's own check of what its crates promise and rest on.
 
-- Every `pub fn` and every `extern "C"` function of a library has an `ensures`; none says nothing, whole
-  or in a part: clauses.py has what that is. What such a function may write to is named at exit.
+- Every `pub fn` and every `extern "C"` function of a library has an `ensures`, and no part of it holds by
+  its form alone: clauses.py has what that is. Where callers in other crates can reach the function, each
+  `ensures` speaks of the result or of a buffer at exit, and what the function may write to is named there.
 - Every function at the outer boundary has no `requires`: reached.py has what lies there. Functions of
   open modules may rest on what the reader states, and have one.
 - No `axiom` and no hole stands in an .antt file.
@@ -14,7 +15,6 @@
 One line for each breach, with file and line. usage: contracts.py [ROOT]
 """
 
-import functools
 import pathlib
 import sys
 
@@ -27,7 +27,7 @@ from reached import Boundary, Library, module_of
 TRUSTING = ("pinned=no", "cache=", "incremental=", "crate-checked=")
 
 
-def breaches_of_clauses(function):
+def breaches_of_clauses(function, is_reached):
     """What is wrong with an open function's `ensures`."""
     clauses = [clause for kind, clause, _ in function.clauses if kind == "ensures"]
     if not clauses:
@@ -35,20 +35,20 @@ def breaches_of_clauses(function):
     for clause in clauses:
         if says_nothing(clause):
             yield f"has an ensures that says nothing: {says_nothing(clause)}"
-        elif not speaks_of_outcome(clause):
+        elif is_reached and not speaks_of_outcome(clause):
             yield "has an ensures that speaks neither of the result nor of a buffer at exit"
-    for name in lent(function) if clauses else ():
+    for name in lent(function) if clauses and is_reached else ():
         if not any(speaks_of_exit(clause, name) for clause in clauses):
             yield f"is lent {name}, and no ensures speaks of it at exit"
 
 
-def breaches_of_functions(where, text, is_outer):
-    """What is wrong with the open functions of a library's file, and how many there are."""
+def breaches_of_functions(where, text, boundary, place):
+    """What is wrong with the open functions of a library's file, and how many there are; `place` has its crate and module."""
     wrong, seen = [], 0
     for function in filter(lambda function: function.open(), functions(text)):
         seen += 1
-        found = list(breaches_of_clauses(function))
-        if is_outer(function) and function.has("requires"):
+        found = list(breaches_of_clauses(function, boundary.can_reach(*place, function)))
+        if boundary.has(*place, function) and function.has("requires"):
             found.append("is at the outer boundary and has a requires")
         wrong += [f"{where}:{line_of(text, function.place)}: fn {function.name} {what}" for what in found]
     return wrong, seen
@@ -117,8 +117,7 @@ def breaches(root):
     boundary = Boundary(sources)
     for crate, library in sources.items():
         for file, text in library.texts.items():
-            is_outer = functools.partial(boundary.has, crate, module_of(file))
-            bad, count = breaches_of_functions(file.relative_to(root), text, is_outer)
+            bad, count = breaches_of_functions(file.relative_to(root), text, boundary, (crate, module_of(file)))
             wrong, seen, read = wrong + bad, seen + count, read + 1
         wrong += breaches_of_verdicts(root, crate)
     wrong += breaches_of_uses(root)

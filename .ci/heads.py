@@ -160,6 +160,12 @@ def branches(words, front=()):
     return [(path, name or path[-1]) for path, name in found + [(path, other)] if path and path != list(front)]
 
 
+def open_modules(text):
+    """The modules that a file declares with `pub mod`."""
+    words = [word for word, _ in rattle_words(text)]
+    return {words[at + 2] for at in range(len(words) - 2) if words[at : at + 2] == ["pub", "mod"]}
+
+
 def uses(text):
     """What a file's `use` lines bring in: each path, the name that it has here, and whether it is handed on."""
     words = [word for word, _ in rattle_words(text)]

@@ -6,7 +6,7 @@ functions and in the fields of such types, with their open methods, since a call
 is told by the `use` lines; where they leave it open, all that it may mean is at the boundary.
 """
 
-from heads import functions, paths, types, uses
+from heads import functions, open_modules, paths, types, uses
 from lexer import files
 
 
@@ -23,6 +23,12 @@ class Library:
         self.types = [(module_of(file), *declared) for file, text in self.texts.items() for declared in types(text).items()]
         self.uses = [(module_of(file), *use) for file, text in self.texts.items() for use in uses(text)]
         self.modules = {module_of(file) for file in self.texts}
+        self.open = self.opened({"lib"})
+
+    def opened(self, modules):
+        """Some modules, and those that they open to other crates."""
+        inner = {name for file, text in self.texts.items() if module_of(file) in modules for name in open_modules(text)}
+        return modules if inner <= modules else self.opened(modules | inner)
 
 
 class Boundary:
@@ -36,6 +42,10 @@ class Boundary:
             for _, function in library.functions:
                 if function.exported:
                     self.add_types(crate, paths(function.words))
+
+    def can_reach(self, crate, module, function):
+        """Whether a function can be called from another crate: it lies in an open module, or at the boundary."""
+        return module in self.libraries[crate].open or self.has(crate, module, function)
 
     def has(self, crate, module, function):
         is_named = (crate, function.owner or function.name) in self.names

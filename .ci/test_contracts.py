@@ -67,6 +67,18 @@ class Contracts(Tree):
                 self.assert_breach("crates/tree/src/lib.rt:4: fn twice is lent out, and no ensures speaks of it at exit")
                 self.edit("crates/tree/src/lib.rt", f"twice(x: u32, {lent})", "twice(x: u32)")
 
+    def test_lent_buffer_in_a_module(self):
+        self.edit("crates/tree/src/inner.rt", "sum(x: u32, y: u32)", "sum(x: u32, y: u32, out: &mut [u8])")
+        self.assertEqual(self.check()[0], 0, self.check()[1])
+        self.edit("crates/tree/src/lib.rt", "mod inner;", "pub mod inner;")
+        self.assert_breach("crates/tree/src/inner.rt:1: fn sum is lent out, and no ensures speaks of it at exit")
+
+    def test_lent_buffer_in_a_module_of_an_open_module(self):
+        self.edit("crates/tree/src/inner.rt", "λ r. ⌜ r ≡ x + y ⌝", "λ r. ⌜ x ≤ y + y ⌝")
+        self.write("crates/tree/src/outer.rt", "pub mod inner;\n")
+        self.edit("crates/tree/src/lib.rt", "mod inner;", "mod inner;\npub mod outer;")
+        self.assert_breach("crates/tree/src/inner.rt:1: fn sum has an ensures that speaks neither of the result nor of a buffer at exit")
+
     def test_lent_buffer_with_its_length_at_exit(self):
         self.edit("crates/tree/src/lib.rt", "twice(x: u32)", "twice(x: u32, out: &mut [u8])")
         clause = "    ensures { λ _. ⌜ length (now (out .exit)) ≡ length (now (out .entry)) ⌝ }\n"
