@@ -16,6 +16,13 @@ RECORDS = {
     "Handed": "crates/pass/specs/Handed.antt",
     "HandedOver": "crates/pass/specs/Handed.antt",
 }
+# The record of cases that meet what the others suppose, and what is written there in other words.
+MET, MET_FILE = "Met", "crates/laws/specs/Demands/Met.antt"
+OTHERWISE = {
+    "List·Memᴰ q (rulesOf stages)": "List·Memᴰ q (rulesOf s stages)",
+    "front ++ (t ∷ (middle ++ rest)) ≡ kept .stages": "front ++ (t ∷ (middle ++ rest)) ≡ stages",
+    "o .number ≡ 0": "outcome limits c bs result trail work .number ≡ 0",
+}
 RECORD = re.compile(r"\s*(?:pub )?record (\S+)\s[^=]*?\bwhere\b", re.S)
 
 
@@ -78,14 +85,37 @@ def shown(words):
     return re.sub(r"(?<=[({]) | (?=[)}.,])(?!\.\w)", "", text)
 
 
+def fields_of(root, record, file):
+    """The fields of a record in a file; none where the file is not there."""
+    text = (root / file).read_text(encoding="utf-8") if (root / file).is_file() else ""
+    return records(text).get(record, {})
+
+
 def listed(root):
     """The lines of the stored list, as the records have them now."""
     lines = []
-    for record, file in RECORDS.items():
-        text = (root / file).read_text(encoding="utf-8") if (root / file).is_file() else ""
+    for record, file in [*RECORDS.items(), (MET, MET_FILE)]:
         lines.append(f"{record}, {file}")
-        lines += [f"  {name} : {shown(words)}" for name, words in records(text).get(record, {}).items()]
+        lines += [f"  {name} : {shown(words)}" for name, words in fields_of(root, record, file).items()]
     return lines
+
+
+def supposed(root):
+    """Each field of the records with each thing that it supposes."""
+    for record, file in RECORDS.items():
+        for name, words in fields_of(root, record, file).items():
+            for supposition in suppositions(words):
+                yield file, f"{record}.{name}", supposition
+
+
+def unmet(root):
+    """The fields that suppose something of which the record of cases has no case, where there is that record."""
+    cases = [split(words, {"×"}) for words in fields_of(root, MET, MET_FILE).values()]
+    met = {shown(bare(part)) for parts in cases for part in parts}
+    for file, name, supposition in supposed(root) if cases else ():
+        text = shown(bare(supposition))
+        if OTHERWISE.get(text, text) not in met:
+            yield f"{file}: {name} supposes what {MET} has no case of: {text}"
 
 
 class Meanings:

@@ -65,6 +65,11 @@ pub record Theorems : Type 0 where
   pub one : ℕ
   pub runs : (s : Sheet) → Ends s → Demand3 s
 """
+CASES = """  pub aRun : (s : Sheet) × (stages : List Stage) × Ends s × (t : Stage)
+      × List·Memᴰ t stages
+  pub bytes : (bs : List ℕ) × Lent bs × (s : Sheet) × (read bs ≡ sheet s) × (s .kind ≡ parser → ⊥)
+      × (outcome limits c bs result trail work .number ≡ 0)
+"""
 PROVED = "logic=proved functions=0 sum=0 native=nat logic-built=trusted\n"
 
 
@@ -247,6 +252,27 @@ class Crate(unittest.TestCase):
         self.change("crates/laws/specs/Demands/Kept.antt", "4 ≤ length bs", "⊥")
         self.write("Demands.antt", DEMANDS + "pub mod Kept\n")
         self.refused("EveryCall.otherUnits supposes what cannot be: Lent bs")
+
+    def add_cases(self, cases):
+        self.promise("crates/laws/specs/Demands/Theorems.antt", ENDS)
+        self.write("Demands.antt", "pub mod Theorems\npub mod Run\npub mod Kept\npub mod Met\n")
+        self.write("Demands/Met.antt", f"pub record Met : Type 0 where\n{cases}")
+        proof = ALL.replace("Demands.{", "Demands.Theorems.{") + "\npub met : Met\nmet = record { all = cases }\n"
+        self.write("Proved/All.antt", proof)
+        self.store()
+
+    def test_cases(self):
+        self.add_cases(CASES)
+        self.refused()
+
+    def test_a_supposition_without_a_case(self):
+        self.add_cases(CASES.replace(" × Ends s", ""))
+        self.refused("Theorems.runs supposes what Met has no case of: Ends s")
+
+    def test_cases_not_proved(self):
+        self.add_cases(CASES)
+        self.change(f"{SPECS}/Proved/All.antt", "met = record", "other = record")
+        self.refused("met : Met is proved in no module that is reached")
 
 
 if __name__ == "__main__":

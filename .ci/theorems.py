@@ -6,7 +6,8 @@
   and gives it a body; the `Theorems` there is that record.
 - The fields of the records in which what is promised stands, in that crate and in `pass`, are those of
   the list in .ci/promises.txt: none has gone or says something else, and one that is new is seen there.
-- Nothing that such a field supposes fails by its form, and so no promise is empty.
+- Nothing that such a field supposes fails by its form; and where the record `Met` is declared, in the same
+  crate, it has a case of each of these suppositions, and `met : Met` is proved. So no promise is empty.
 - The verdicts that `rt` kept of the crate say that it is proved.
 
 One line for each breach. usage: theorems.py [--write] [ROOT]; --write makes the list anew.
@@ -19,7 +20,7 @@ import sys
 
 from contracts import verdicts
 from lexer import antt_words
-from promises import RECORDS, Meanings, listed, records, shown, suppositions
+from promises import MET, MET_FILE, Meanings, listed, records, shown, supposed, unmet
 
 CRATE = "laws"
 DEMANDS = "Demands"
@@ -79,12 +80,12 @@ def imported_from(text):
     return [module for module, names in uses if "Theorems" in [name.strip() for name in names.split(",")]]
 
 
-def is_proved(text):
+def is_proved(text, name="theorems", record="Theorems"):
     """Whether a file has the signature, bare, and a clause with a body behind it."""
     found = [bare(words) for words in declarations(text)]
     for at, words in enumerate(found):
-        if words == ["theorems", ":", "Theorems"]:
-            return any(clause[:2] == ["theorems", "="] and len(clause) > 2 for clause in found[at + 1 :])
+        if words == [name, ":", record]:
+            return any(clause[:2] == [name, "="] and len(clause) > 2 for clause in found[at + 1 :])
     return False
 
 
@@ -98,14 +99,16 @@ def breaches_of_list(root):
 
 
 def breaches_of_suppositions(root, modules):
-    """The suppositions of what is promised that nothing can meet, by their form."""
+    """The suppositions of what is promised that nothing can meet, by their form, or that no case meets."""
     meanings = Meanings(modules.values())
-    for record, file in RECORDS.items():
-        text = (root / file).read_text(encoding="utf-8") if (root / file).is_file() else ""
-        for name, words in records(text).get(record, {}).items():
-            for supposed in suppositions(words):
-                if meanings.cannot_be(supposed):
-                    yield f"{file}: {record}.{name} supposes what cannot be: {shown(supposed)}"
+    for file, name, supposition in supposed(root):
+        if meanings.cannot_be(supposition):
+            yield f"{file}: {name} supposes what cannot be: {shown(supposition)}"
+    yield from unmet(root)
+    cases = [name for name, text in modules.items() if MET in records(text)]
+    proofs = [name for name, text in modules.items() if is_proved(text, "met", MET)]
+    if cases and len(proofs) != 1:
+        yield f"{MET_FILE}: met : {MET} is proved in {proofs or 'no module that is reached'}, not in one"
 
 
 def breaches(root):
