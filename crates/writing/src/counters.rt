@@ -1,6 +1,13 @@
 // The next free id of each sort. A fresh id is its sort's counter, which moves on by one (SPECIFICATION 11.5).
-ghost use Prim.Native.Nat.{_+_, _<_, _^_};
-ghost use Rattle.writing.specs.Taken.{TookAlternative, TookElement, TookLabel, TookAction, TookPredicate};
+ghost use mathlib.Core.Path.{_≡_};
+ghost use Rattle.writing.specs.Taken.{following, TookAlternative, TookElement, TookLabel, TookAction, TookPredicate};
+
+// The largest number that a word holds.
+pub struct Last;
+
+impl Last {
+    pub const NUMBER: u32 = 4294967295;
+}
 
 pub struct Counters {
     pub alternative: u32,
@@ -16,49 +23,55 @@ pub struct Taken {
     pub counters: Counters,
 }
 
+// The number behind a number. Behind the last there is none, and a counter stays there: who hands out ids sees to it that it is
+// not reached (SPECIFICATION 4.8).
+fn next(id: u32) -> u32
+    ensures { λ r. ⌜ r ≡ following id ⌝ }
+{
+    if id < Last::NUMBER {
+        return id + 1;
+    }
+    id
+}
+
 impl Counters {
     pub fn take_alternative(mut self) -> Taken
-        requires { ⌜ self .alternative + 1 < 2 ^ 32 ⌝ }
         ensures { λ r. ⌜ TookAlternative self (r .id) (r .counters) ⌝ }
     {
         let id = self.alternative;
-        self.alternative = id + 1;
+        self.alternative = next(id);
         Taken { id, counters: self }
     }
 
     pub fn take_element(mut self) -> Taken
-        requires { ⌜ self .element + 1 < 2 ^ 32 ⌝ }
         ensures { λ r. ⌜ TookElement self (r .id) (r .counters) ⌝ }
     {
         let id = self.element;
-        self.element = id + 1;
+        self.element = next(id);
         Taken { id, counters: self }
     }
 
     pub fn take_label(mut self) -> Taken
-        requires { ⌜ self .label + 1 < 2 ^ 32 ⌝ }
         ensures { λ r. ⌜ TookLabel self (r .id) (r .counters) ⌝ }
     {
         let id = self.label;
-        self.label = id + 1;
+        self.label = next(id);
         Taken { id, counters: self }
     }
 
     pub fn take_action(mut self) -> Taken
-        requires { ⌜ self .action + 1 < 2 ^ 32 ⌝ }
         ensures { λ r. ⌜ TookAction self (r .id) (r .counters) ⌝ }
     {
         let id = self.action;
-        self.action = id + 1;
+        self.action = next(id);
         Taken { id, counters: self }
     }
 
     pub fn take_predicate(mut self) -> Taken
-        requires { ⌜ self .predicate + 1 < 2 ^ 32 ⌝ }
         ensures { λ r. ⌜ TookPredicate self (r .id) (r .counters) ⌝ }
     {
         let id = self.predicate;
-        self.predicate = id + 1;
+        self.predicate = next(id);
         Taken { id, counters: self }
     }
 }
