@@ -58,9 +58,13 @@ module _ (ws : List ℕ) (end : ℕ) where
     abbrev pub bodyEntries : List ℕ
     bodyEntries = each encodeEntry (newBody .entries)
 
-    -- The hub at a place has room, and is drawn.
+    -- The hub at a place has room.
     pub record HubFits (at : ℕ) (t : List ℕ) : Type 0 where
       pub fits : Space (ruleHead at (l .outa) ++ bodyWords) (bodyEntries ++ closing (getD ws at 0)) (newBody .counters) bs t p
+
+    -- Its fixed words and its alternatives are drawn, with their entries; and all of it, with its own.
+    pub record BodyDrawn (at : ℕ) (after t t′ : List ℕ) (p′ : Pen) : Type 0 where
+      pub drawn : Drawn (ruleHead at (l .outa) ++ bodyWords) bodyEntries (newBody .counters) bs after t t′ p p′
 
     pub record HubDrawn (at : ℕ) (after t t′ : List ℕ) (p′ : Pen) : Type 0 where
       pub drawn : Drawn (ruleHead at (l .outa) ++ bodyWords) (bodyEntries ++ closing (getD ws at 0)) (newBody .counters) bs after t t′ p p′

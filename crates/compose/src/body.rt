@@ -15,7 +15,7 @@ ghost use Rattle.grammar.specs.Words.{words};
 ghost use Rattle.words.specs.Room.{Room};
 ghost use Rattle.planned.specs.List.{Laid, AllIn};
 ghost use Rattle.heads.specs.Front.{composeAt};
-ghost use Rattle.compose.specs.Hub.{Moved, ruleHead, Closed, HubFits, HubDrawn};
+ghost use Rattle.compose.specs.Hub.{Moved, ruleHead, Closed, HubFits, BodyDrawn, HubDrawn};
 
 // Id, name and flags of the rule at `at`, and how many alternatives it has now.
 fn begin_rule(s: &[u8], end: usize, at: usize, n: u32, work: &mut [u8], pen: Pen) -> Pen
@@ -46,6 +46,26 @@ fn close(trail: &mut [u8], pen: Pen, id: u32) -> Pen
     }
 }
 
+// The rule's fixed words and its alternatives, and their entries.
+fn write_body(
+    s: &[u8],
+    end: usize,
+    at: usize,
+    l: Sizes,
+    work: &mut [u8],
+    trail: &mut [u8],
+    pen: Pen,
+) -> Pen
+    requires { ⌜ Room (now s) end × (at + 4 ≤ end) × (composeAt ≤ pen .to) ⌝ }
+    requires { ⌜ Laid (now work) l × AllIn (words (now s)) end innerDepth (now work) l ⌝ }
+    requires { ⌜ HubFits (words (now s)) end (now work) l pen at (now trail) ⌝ }
+    ensures { λ r. ⌜ BodyDrawn (words (now (s .entry))) end (now (work .entry)) l pen at (now (work .exit))
+        (now (trail .entry)) (now (trail .exit)) r ⌝ }
+{
+    let inside = begin_rule(s, end, at, l.outa as u32, work, pen);
+    write_planned(s, end, work, l, trail, inside)
+}
+
 // The whole rule, and its entries.
 pub fn write_hub(
     s: &[u8],
@@ -62,7 +82,6 @@ pub fn write_hub(
     ensures { λ r. ⌜ HubDrawn (words (now (s .entry))) end (now (work .entry)) l pen at (now (work .exit))
         (now (trail .entry)) (now (trail .exit)) r ⌝ }
 {
-    let inside = begin_rule(s, end, at, l.outa as u32, work, pen);
-    let behind = write_planned(s, end, work, l, trail, inside);
+    let behind = write_body(s, end, at, l, work, trail, pen);
     close(trail, behind, word(s, at))
 }

@@ -20,7 +20,7 @@ use Rattle.copies.specs.Laws.Drawn.{drawn-words, drawn-then, space-front, space
 use Rattle.heads.specs.Front.{composeAt}
 use Rattle.heads.specs.Laws.Front.{front-wrote, front-laid, front-settled, front-all-in}
 use Rattle.written.specs.Planned.{drawnList}
-use Rattle.compose.specs.Hub.{Moved, ruleHead, closing, Closed, newBody, bodyWords, bodyEntries, HubFits, HubDrawn}
+use Rattle.compose.specs.Hub.{Moved, ruleHead, closing, Closed, newBody, bodyWords, bodyEntries, HubFits, BodyDrawn, HubDrawn}
 
 pub rule-begun : (ws : List ℕ) (end at n : ℕ) {p : Pen} {b m a : List ℕ} {x y z : ℕ} → x ≡ getD ws at 0 → y ≡ getD ws (at + 1) 0
     → z ≡ getD ws (at + 2) 0 → Wrote b m (p .to) (x ∷ y ∷ z ∷ []) → Wrote m a (p .to + 3) (n ∷ [])
@@ -66,27 +66,34 @@ module _ {ws : List ℕ} {end at : ℕ} {b m t : List ℕ} {l : Sizes} {n : ℕ}
     drew : Drawn (bodyWords ws end b l p) (bodyEntries ws end b l p) (newBody ws end b l p .counters) m a t t′ inside q
     drew = subst (λ g. Drew (each (encodeAlternative (encodeBlock innerDepth))) g m a t t′ inside q) same-body d
 
-    pub close-room : 4 * (q .trail + 4) ≤ length t′
-    close-room =
-        let e = behind .entries in
-        let n = length-append (bodyEntries ws end b l p) (closing (getD ws at 0)) in
-        let g = drew .trail in
-        let k = drew .told .long in
-        omega arith
+    pub body-drawn : BodyDrawn ws end b l p at a t t′ q
+    body-drawn = record { drawn = drawn-then refl refl head drew }
 
-    pub hub-drawn : {t″ : List ℕ} {r : Pen} {id : ℕ} → id ≡ getD ws at 0 → Closed id t′ t″ q r → HubDrawn ws end b l p at a t t″ r
-    hub-drawn {t″} {r} {id} e c =
-        record {
-          drawn =
-              drawn-then refl refl head
-              (drawn-then (sym (append-nil (bodyWords ws end b l p))) refl drew
-              (record {
-                wrote = wrote-nothing a (q .to);
-                told = subst (λ i. Wrote t′ t″ (q .trail) (closing i)) e (c .told);
-                to = let z = c .to in omega arith;
-                trail = c .trail;
-                counters = c .counters ∙ drew .counters;
-              }));
-        }
+-- The entry of the hub behind the others.
+module _ {ws : List ℕ} {end at : ℕ} {b a t t′ : List ℕ} {l : Sizes} {p q : Pen} (f : HubFits ws end b l p at t)
+    (d : BodyDrawn ws end b l p at a t t′ q) where
+  pub close-room : 4 * (q .trail + 4) ≤ length t′
+  close-room =
+      let e = f .fits .entries in
+      let n = length-append (bodyEntries ws end b l p) (closing (getD ws at 0)) in
+      let g = d .drawn .trail in
+      let k = d .drawn .told .long in
+      omega arith
 
-pub ruleset bodies = (moved-laid, moved-in, body-fits, close-room, hub-drawn)
+  pub hub-drawn : {t″ : List ℕ} {r : Pen} {id : ℕ} → id ≡ getD ws at 0 → Closed id t′ t″ q r → HubDrawn ws end b l p at a t t″ r
+  hub-drawn {t″} {r} {id} e c =
+      record {
+        drawn =
+            drawn-then (sym (append-nil (ruleHead ws end at (l .outa) ++ bodyWords ws end b l p))) refl (d .drawn)
+            (record {
+              wrote = wrote-nothing a (q .to);
+              told = subst (λ i. Wrote t′ t″ (q .trail) (closing i)) e (c .told);
+              to = let z = c .to in omega arith;
+              trail = c .trail;
+              counters = c .counters ∙ d .drawn .counters;
+            });
+      }
+
+pub ruleset bodies = (moved-laid, moved-in, body-fits, body-drawn)
+
+pub ruleset closings = (close-room, hub-drawn)

@@ -1,27 +1,16 @@
 -- `compose::body::write_hub` meets its contract.
 use borrow.Author.Needs.{needs}
-use Rattle.compose.proofs.Laws.Body.{bodies}
+use Rattle.compose.proofs.Laws.Body.{closings}
 use Rattle.compose.proofs.body.write_hub.Statement.{statement}
 use Rattle.compose.proofs.body.write_hub.Tie as tie
-
--- What was asked lies too far back for the search.
-abbrev entry : tie.After-write-planned-arg2 → tie.Start
-entry c = c .before .before .before .before .before .before .before .before .before .before
-
-abbrev planned : tie.After-close-arg → tie.After-write-planned-arg2
-planned c = c .before .before .before .before .before .before
 
 pub write-hub-spec : {M : Type 1} → statement M
 write-hub-spec =
     tie.close
     (tie.spec
-    (λ c. search needs)
     (λ c κs. search needs)
-    (λ c κs.
-    let asked = entry c .pre in
-    ((search needs, search needs), ((search bodies, search bodies), search bodies)))
-    (λ c κs. let asked = entry (planned c) .pre in search needs)
-    (λ c κs. let asked = entry (planned (c .before)) .pre in search bodies)
+    (λ c κs. search needs)
+    (λ c κs. search (needs, closings))
     (λ c. search needs)
     (λ c. search needs)
-    (λ c. let asked = entry (planned (c .before .before .before .before)) .pre in search bodies))
+    (λ c. search (needs, closings)))
