@@ -7,7 +7,7 @@ ghost use Prim.Native.Nat.{_+_, _*_, _≤_, _^_};
 ghost use lib.ListN.{length, take, drop};
 ghost use Rattle.grammar.specs.Words.{words};
 ghost use Rattle.grammar.specs.Lists.{rising, distinct};
-ghost use Rattle.ids.specs.Distinct.{InRange};
+ghost use Rattle.ids.specs.Distinct.{InRange, Untouched};
 
 // Whether the n words from `at` on rise strictly.
 pub fn is_rising(s: &[u8], at: usize, n: usize) -> bool
@@ -46,11 +46,13 @@ fn past_all(s: &[u8], n: usize) -> u64
     past
 }
 
-// Whether no two of the first n words are equal; among these the words may have moved. They are parted by value only
-// where they do not rise.
+// Whether no two of the first n words are equal. They are parted by value only where they do not rise: then they may have moved,
+// nobody knows how, and no other word has.
 pub fn is_distinct(s: &mut [u8], n: usize) -> bool
     requires { ⌜ 4 * n ≤ length (now s) ⌝ }
     ensures { λ r. ⌜ r ≡ distinct (take n (words (now (s .entry)))) ⌝ }
+    ensures { λ _. ⌜ Untouched (words (now (s .entry))) (words (now (s .exit))) 0 n ⌝ }
+    ensures { λ _. ⌜ length (now (s .exit)) ≡ length (now (s .entry)) ⌝ }
 {
     if is_rising(s, 0, n) {
         return true;

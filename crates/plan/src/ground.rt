@@ -12,6 +12,7 @@ ghost use lib.ListN.{length};
 ghost use Rattle.grammar.specs.Numbers.{ruleLimit, mostName};
 ghost use Rattle.grammar.specs.Words.{words};
 ghost use Rattle.words.specs.Room.{Room};
+ghost use Rattle.analysis.specs.Names.{tableWith};
 ghost use Rattle.analysis.specs.Facts.{Standing, FactsFound};
 ghost use Rattle.plan.specs.Ground.{IsStandard, KeptAt, KeptOf};
 
@@ -39,7 +40,8 @@ pub struct Ground {
     pub kept: [u64; Row::WORDS],
 }
 
-// What is found out about rules whose preserved ids stand from their end up to `to`; calls and left corners are put into the rows.
+// What is found out about rules whose preserved ids stand from their end up to `to`; calls and left corners are put into the rows,
+// and the places of the names into the work area.
 pub fn find_out(
     s: &[u8],
     end: usize,
@@ -56,6 +58,7 @@ pub fn find_out(
     ensures { λ r. ⌜ FactsFound (words (now (s .entry))) end rules past (now (calls .exit)) (now (corners .exit)) (r .marks) ⌝ }
     ensures { λ r. ⌜ KeptOf (words (now (s .entry))) end to rules (r .kept) ⌝ }
     ensures { λ _. ⌜ (length (now (calls .exit)) ≡ ruleLimit) × (length (now (corners .exit)) ≡ ruleLimit) ⌝ }
+    ensures { λ _. ⌜ now (work .exit) ≡ tableWith (rules .names) (rules .n) (now (work .entry)) ⌝ }
 {
     let marks = find_rows(s, end, rules, past, calls, corners, work);
     let kept = preserved_rows(s, rules, end, to);

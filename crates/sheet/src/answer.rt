@@ -127,10 +127,11 @@ fn judged(s: &[u8], t: usize, end: usize, rules: Rules, work: &mut [u8]) -> Read
     }
 }
 
-// The whole reading of a sheet of good length; the work area is left in any state.
+// The whole reading of a sheet of good length. Of the work area its length stays, and nothing else is known.
 pub fn examine(s: &[u8], work: &mut [u8]) -> Reading
     requires { ⌜ Lent (now s) (now work) ⌝ }
     ensures { λ r. ⌜ ReadAs (readWords (words (now (s .entry)))) r ⌝ }
+    ensures { λ _. ⌜ length (now (work .exit)) ≡ length (now (work .entry)) ⌝ }
 {
     let t = s.len() / 4 - Sheet::TRAILER_WORDS;
     if !is_trailer(s, t) {

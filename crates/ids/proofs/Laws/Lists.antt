@@ -15,6 +15,7 @@ use Rattle.grammar.specs.Lists.{rising, member, distinct}
 use Rattle.grammar.specs.Laws.Words.{length-words}
 use Rattle.grammar.specs.Laws.Parse.{left-true, right-true}
 use Rattle.ids.specs.Distinct.{Injective, InRange, Judged}
+use Rattle.ids.proofs.Laws.Distinct.{untouched}
 
 -- strictly rising
 two-rise : (ws : List ℕ) (at m : ℕ) → at + m + 2 ≤ length ws
@@ -245,7 +246,7 @@ pub rising-distinct : (bs : List ℕ) (n : ℕ) {b : Bool} → b ≡ rising (tak
     → true ≡ distinct (take n (words bs))
 rising-distinct bs n e f = sym (rising-apart (take n (words bs)) (sym e ∙ f))
 
-pub ruleset distincts = (judged-distinct, rising-distinct)
+pub ruleset distincts = (judged-distinct, rising-distinct, untouched)
 
 -- a row copied into words is as distinct as they are
 pub row-distinct : (xs row : List ℕ) (n : ℕ) {r : Bool} → r ≡ distinct (take n xs) → take n xs ≡ take n row → r ≡ distinct (take n row)

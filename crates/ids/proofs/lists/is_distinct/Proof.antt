@@ -10,8 +10,8 @@ is-distinct-spec =
     (tie.spec
     (λ c κs. search (needs, distincts))
     (λ c. search (needs, distincts))
-    (λ c. search (needs, distincts))
+    (λ c. (search (needs, distincts), (search distincts, search needs)))
     (λ c κs. search (needs, distincts))
     (λ c κs. search (needs, distincts))
     (λ c. search (needs, distincts))
-    (λ c. search (needs, distincts)))
+    (λ c. (search (needs, distincts), (search needs, search needs))))

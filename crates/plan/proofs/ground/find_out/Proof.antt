@@ -11,4 +11,4 @@ find-out-spec =
     (λ c κs. search needs)
     (λ c κs. search needs)
     (λ c. search needs)
-    (λ c. (search needs, (search grounds, (search needs, search needs)))))
+    (λ c. (search needs, (search grounds, ((search needs, search needs), search needs)))))
