@@ -137,6 +137,9 @@ def all_files_or_none(program, folder, made):
         words = [grammar, "--sheet", old, "--trail", place / "t", "--names", last]
         Run(program, words).stopped(3, f"cannot write {last}: ")
         require(old.read_text() == "old" and list(place.iterdir()) == [old], f"left behind: {list(place.iterdir())}")
+    old.chmod(0o440)
+    if os.geteuid() != 0:
+        Run(program, [grammar, "--sheet", old]).stopped(3, f"cannot write {old}: ")
     old.chmod(0o640)
     (made / "link").symlink_to(old)
     Run(program, [grammar, "--sheet", made / "link", "--trail", place / "t", "--names", "/dev/null"]).text()

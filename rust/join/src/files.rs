@@ -168,9 +168,13 @@ impl Drop for Beside {
 /// The bytes in a new file in the folder of their place, with the rights of the file that was there.
 fn beside(path: &Path, number: usize, bytes: &[u8]) -> io::Result<Option<Beside>> {
     let found = fs::metadata(path);
-    if found.as_ref().is_ok_and(|found| !found.is_file()) {
-        OpenOptions::new().write(true).open(path)?;
-        return Ok(None);
+    if let Ok(found) = &found {
+        if found.is_file() || found.is_dir() {
+            // A folder, or a file that may not be written, has its fault here.
+            OpenOptions::new().write(true).open(path)?;
+        } else {
+            return Ok(None);
+        }
     }
     let place = match &found {
         Ok(_) => fs::canonicalize(path)?,
