@@ -2,11 +2,9 @@
 -- where it has a tree, and two trees are different where they choose differently.
 use Prim.Native.Nat.{ℕ}
 use mathlib.Core.Path.{_≡_}
-use mathlib.Core.List.{List, [], _∷_, _++_, map}
+use mathlib.Core.List.{List, [], _∷_, _++_}
 use mathlib.Core.Option.{none, some}
-use mathlib.Core.Bool.{Bool, _&&_, not}
 use Rattle.grammar.specs.Tree.{Block, RuleOf}
-use Rattle.grammar.specs.Lists.{member}
 use Rattle.language.specs.Shape.{Symbol, unknownSymbol, Word, Shape, eps, symbol, callOf, seq, alt, opt, star, plus, Shapes, find}
 use Rattle.language.specs.Shape.{eraseRules, bodiesBy}
 
@@ -35,11 +33,3 @@ pub record RuleDerives (d : ℕ) (rs : List (RuleOf (Block d))) (i : ℕ) (w : W
   pub body : Shape
   pub found : find (bodiesBy d (λ r. r .id) rs) i ≡ some body
   pub tree : Der (eraseRules d rs) body w
-
-module _ {B : Type 0} (before after : List (RuleOf B)) (i : ℕ) where
-  -- Whether the rule with an id is kept, and whether it is removed (SPECIFICATION 13.12).
-  abbrev pub isKept : Bool
-  isKept = member i (map (λ r. r .id) before) && member i (map (λ r. r .id) after)
-
-  abbrev pub isRemoved : Bool
-  isRemoved = member i (map (λ r. r .id) before) && not (member i (map (λ r. r .id) after))

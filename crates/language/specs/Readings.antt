@@ -4,12 +4,11 @@ use Prim.Native.Nat.{ℕ}
 use mathlib.Core.Path.{_≡_}
 use mathlib.Core.List.{List, [], _∷_, _++_, List·Memᴰ}
 use mathlib.Core.Option.{none, some}
-use mathlib.Core.Bool.{false}
 use Rattle.grammar.specs.Tree.{Block, RuleOf}
 use Rattle.language.specs.Shape.{Symbol, unknownSymbol, Word, Shape, eps, symbol, callOf, seq, alt, opt, star, plus, Shapes, find}
 use Rattle.language.specs.Shape.{eraseRules}
 use Rattle.language.specs.Derive.{Der, d-eps, d-symbol, d-call, d-unknown, d-seq, d-left, d-right, d-absent, d-present, d-none}
-use Rattle.language.specs.Derive.{d-more, d-some, RuleDerives, isRemoved}
+use Rattle.language.specs.Derive.{d-more, d-some, RuleDerives}
 
 -- The constructors of `Der`, without words. The slot of an alternative in a choice of several is how often `t-right` stands in
 -- front of its `t-left`.
@@ -87,6 +86,6 @@ pub record CallTree {d : ℕ} {rs : List (RuleOf (Block d))} {i : ℕ} {w : Word
   pub found : find (eraseRules d rs) name ≡ some (x .body)
   pub isTree : z ≡ t-call found (treeOf (x .tree))
 
--- A name stays: no rule that is removed has it (SPECIFICATION 13.12).
+-- A name stays: each rule that has it is kept (SPECIFICATION 13.12).
 abbrev pub Stays : {B : Type 0} → (before after : List (RuleOf B)) → ℕ → Type 0
-Stays {B} before after n = (r : RuleOf B) → List·Memᴰ r before → r .name ≡ n → isRemoved before after (r .id) ≡ false
+Stays {B} before after n = (r : RuleOf B) → List·Memᴰ r before → r .name ≡ n → (q : RuleOf B) × List·Memᴰ q after × (q .id ≡ r .id)

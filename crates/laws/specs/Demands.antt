@@ -1,11 +1,20 @@
--- What is promised of the definition: properties, numbered 1 to 17, and sheets that show where a promise ends or what is meant;
--- Theorems says of what each property holds. The proof is in Proved.
+-- What is promised of the definition: properties, numbered 1 to 17, words told a second time, and sheets that show where a promise
+-- ends or what is meant; Theorems says of what each property holds. The proof is in Proved.
+pub mod Lists
 pub mod Numbers
+pub mod Format
+pub mod Derivation
+pub mod Strings
+pub mod Counted
+pub mod Corners
 pub mod Analysis
 pub mod Shape
 pub mod Readings
 pub mod Run
 pub mod Step
+pub mod Collisions
+pub mod Declines
+pub mod Rewritable
 pub mod Substitution
 pub mod Hub
 pub mod Inlinable

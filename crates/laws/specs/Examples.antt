@@ -89,14 +89,19 @@ everySort =
     ∷ rule 2 10 []
     ∷ [])
 
--- e: a? DOTS | INT; a: e PLUS | ; where e is 1, a 2, INT 3, PLUS 4, DOTS 5.
-abbrev pub doubling : Sheet
-doubling =
-    unit (counted 14 25) []
-    (rule 1 1
+-- e: a? DOTS | INT; where e is 1, a 2, INT 3, DOTS 5.
+abbrev pub doublingHub : Rule
+doublingHub =
+    rule 1 1
     (alternative 10 (element 20 optionalGreedy (callTo 2) ∷ element 21 once (token 5) ∷ [])
     ∷ alternative 11 (element 22 once (token 3) ∷ [])
     ∷ [])
+
+-- The same with a: e PLUS | ; where PLUS is 4.
+abbrev pub doubling : Sheet
+doubling =
+    unit (counted 14 25) []
+    (doublingHub
     ∷ rule 2 2 (alternative 12 (element 23 once (callTo 1) ∷ element 24 once (token 4) ∷ []) ∷ alternative 13 [] ∷ [])
     ∷ [])
 

@@ -1,6 +1,8 @@
 pub mod Examples
 pub mod Demands
 pub mod Lists
+pub mod Derivation
+pub mod Format
 pub mod Analysis
 pub mod Planning
 pub mod Running

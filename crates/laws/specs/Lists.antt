@@ -4,3 +4,4 @@ pub mod Every
 pub mod Lookup
 pub mod Mapped
 pub mod Few
+pub mod Told

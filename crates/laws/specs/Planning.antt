@@ -2,6 +2,7 @@
 pub mod Decisions
 pub mod Corner
 pub mod Options
+pub mod OtherValues
 pub mod Steps
 pub mod Turns
 pub mod Halts
@@ -11,6 +12,11 @@ pub mod PlanCycle
 pub mod HubCorners
 pub mod Hub
 pub mod Inlinable
+pub mod Collisions
+pub mod Lines
+pub mod Declines
+pub mod Sorts
+pub mod Rewritable
 pub mod Plans
 pub mod Calls
 pub mod Bodied

@@ -9,11 +9,10 @@ use Rattle.grammar.specs.Lists.{member}
 use Rattle.grammar.specs.Numbers.{alternativeSort, elementSort, labelSort, actionSort, predicateSort}
 use Rattle.grammar.specs.Tree.{Alternative, Rule, bodyDepth, Counters, Sheet, withRuleBody}
 use Rattle.grammar.specs.Ids.{blockIds}
-use Rattle.language.specs.Shape.{eraseBlock, EachCall}
-use Rattle.language.specs.Derive.{isRemoved}
 use Rattle.language.specs.Laws.Copies.{changeBlock, dropIds}
 use Rattle.reference.specs.Substitute.{Planned}
 use Rattle.reference.specs.Run.{innerDepth, Stage, sheetAfter, entriesOf}
+use Rattle.laws.specs.Demands.Shape.{Removed, Calls}
 use Rattle.laws.specs.Demands.Trail.{numbersAt, inPlace}
 
 -- With every id 0, nested ones too, the rule joined has the planned alternatives as its body (SPECIFICATION 11.1 to 11.3).
@@ -28,7 +27,7 @@ pub record RemovesMost (preserved : List ℕ) (t : Stage) : Type 0 where
   pub noneLeft : (set : List ℕ)
       → ((i : ℕ) → member i set ≡ true → (member i (t .cycle) ≡ true) × (i ≡ t .plan .hub → ⊥) × (member i preserved ≡ false))
       → ((q : Rule) → List·Memᴰ q (t .after .node) → member (q .id) set ≡ false → (r : Rule) → List·Memᴰ r (t .after .node)
-      → member (r .id) set ≡ true → EachCall (λ n. n ≡ r .name → ⊥) (eraseBlock bodyDepth (q .body)))
+      → member (r .id) set ≡ true → Calls innerDepth (q .body) (r .name) → ⊥)
       → (r : Rule) → List·Memᴰ r (t .after .node) → member (r .id) set ≡ false
 
 -- The sorts of ids with a counter, numbered as in the trail.
@@ -77,8 +76,8 @@ module _ (s : Sheet) (stages : List Stage) where
   -- A rule neither joined nor removed comes back word for word (SPECIFICATION 5.5). The rules of the result, bodies aside,
   -- are rules handed in, in their order. A rule removed was a satellite.
   pub record RulesStay : Type 0 where
-    pub untouched : (r : Rule) → List·Memᴰ r (s .rules) → isRemoved (s .rules) (sheetAfter s stages .rules) (r .id) ≡ false
+    pub untouched : (r q : Rule) → List·Memᴰ r (s .rules) → List·Memᴰ q (sheetAfter s stages .rules) → q .id ≡ r .id
         → member (r .id) (map (λ t. t .plan .hub) stages) ≡ false → List·Memᴰ r (sheetAfter s stages .rules)
     pub inOrder : Sublistᴰ (map (withRuleBody []) (sheetAfter s stages .rules)) (map (withRuleBody []) (s .rules))
-    pub removed : (r : Rule) → List·Memᴰ r (s .rules) → isRemoved (s .rules) (sheetAfter s stages .rules) (r .id) ≡ true
+    pub removed : (r : Rule) → List·Memᴰ r (s .rules) → Removed r (sheetAfter s stages .rules)
         → (t : Stage) × List·Memᴰ t stages × (member (r .id) (t .cycle) ≡ true) × (r .id ≡ t .plan .hub → ⊥)

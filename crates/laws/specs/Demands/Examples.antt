@@ -12,7 +12,7 @@ use Rattle.grammar.specs.Tree.{bodyDepth, Rule}
 use Rattle.grammar.specs.Encode.{encode}
 use Rattle.grammar.specs.Valid.{valid}
 use Rattle.language.specs.Shape.{tokenSymbol, Word, Shape, Shapes, eraseRules}
-use Rattle.language.specs.Derive.{Der, RuleDerives, isKept}
+use Rattle.language.specs.Derive.{Der, RuleDerives}
 use Rattle.language.specs.Readings.{Tree, t-eps, t-symbol, t-call, t-unknown, t-seq, t-left, t-right, t-absent, t-present, t-none}
 use Rattle.language.specs.Readings.{t-more, t-some, yield, Choice, first, next, absent, present, enough, again, choices, treeOf}
 use Rattle.grammar.specs.Corners.{Corners, rust, textbook}
@@ -20,8 +20,8 @@ use Rattle.language.specs.Cycles.{LeftCorner}
 use Rattle.reference.specs.Analysis.{grammarOf, leftCornerCycles}
 use Rattle.reference.specs.Substitute.{standard}
 use Rattle.reference.specs.Run.{innerDepth, Stage, ended, eliminateMutualLeftRecursion, answer}
-use Rattle.laws.specs.Examples.{parting, behindName, parted, returning, returned, everySort, doubling, doubled, merged, single}
-use Rattle.laws.specs.Examples.{rowTwice, rowOnce}
+use Rattle.laws.specs.Examples.{parting, behindName, parted, returning, returned, everySort, doublingHub, doubling, doubled, merged}
+use Rattle.laws.specs.Examples.{single, rowTwice, rowOnce}
 use Rattle.laws.specs.Demands.Shape.{NoLeftCorner, NoCorner, SameReadings, SameStrings}
 use Rattle.laws.specs.Demands.Run.{Demand3, rulesOf}
 use Rattle.laws.specs.Demands.Marks.{onSheet, namesIn}
@@ -135,12 +135,12 @@ pub record TwoReadings (corners : Corners) : Type 0 where
   pub emptyChooses : choices (treeOf (empty .tree)) ≡ first ∷ present ∷ next ∷ first ∷ []
   pub noMore : (x : RuleDerives bodyDepth (doubling .rules) 1 dots) → (x ≡ without) ⊎ (x ≡ empty)
   -- What demand 3 pairs with each of them.
-  pub withoutPaired : (d : Demand3 doubling standard corners (NoCorner corners) stages)
-      (k : isKept (doubling .rules) (rulesOf doubling stages) 1 ≡ true)
-      → choices (treeOf (d .sameReadings .pairs 1 k dots .fun without .tree)) ≡ next ∷ next ∷ first ∷ []
-  pub emptyPaired : (d : Demand3 doubling standard corners (NoCorner corners) stages)
-      (k : isKept (doubling .rules) (rulesOf doubling stages) 1 ≡ true)
-      → choices (treeOf (d .sameReadings .pairs 1 k dots .fun empty .tree)) ≡ next ∷ first ∷ []
+  pub withoutPaired : (d : Demand3 doubling standard corners (NoCorner corners) stages) (m : List·Memᴰ doublingHub (doubling .rules))
+      (q : Rule) (n : List·Memᴰ q (rulesOf doubling stages)) (e : q .id ≡ 1)
+      → choices (treeOf (d .sameReadings .pairs doublingHub q m n e dots .fun without .tree)) ≡ next ∷ next ∷ first ∷ []
+  pub emptyPaired : (d : Demand3 doubling standard corners (NoCorner corners) stages) (m : List·Memᴰ doublingHub (doubling .rules))
+      (q : Rule) (n : List·Memᴰ q (rulesOf doubling stages)) (e : q .id ≡ 1)
+      → choices (treeOf (d .sameReadings .pairs doublingHub q m n e dots .fun empty .tree)) ≡ next ∷ first ∷ []
 
 -- What cannot be said instead, on the same sheet.
 pub record NoOtherReadings : Type 0 where

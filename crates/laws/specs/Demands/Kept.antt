@@ -1,6 +1,6 @@
 -- What a call means, of the bytes handed in and the outcome handed back: 14. Number 0 buys demand 3 (SPECIFICATION 1.5 to 1.8) of
 -- the sheet that stands in the one and the sheet that stands in the other.
-use Prim.Native.Nat.{ℕ}
+use Prim.Native.Nat.{ℕ, _≤_}
 use mathlib.Core.Path.{_≡_}
 use mathlib.Core.List.{List, _∷_, _++_}
 use lib.ListN.{length, take}
@@ -13,10 +13,11 @@ use Rattle.grammar.specs.Numbers.{parser}
 use Rattle.reference.specs.Substitute.{Limits}
 use Rattle.reference.specs.Run.{Stage, ended, eliminateMutualLeftRecursion, sheetAfter, stepsOf, encodeEntry, entriesOf, Outcome, filled}
 use Rattle.reference.specs.Run.{outcome}
-use Rattle.laws.specs.Demands.Shape.{Closed, Elements, LaterPastSymbols, NoLeftCorner, NoOptionalSymbol, OnlyPastSymbols, SameStrings}
-use Rattle.laws.specs.Demands.Shape.{SameReadings}
+use Rattle.laws.specs.Demands.Shape.{Closed, Elements, LaterPastSymbols, NoLeftCorner, NoOptionalSymbol, OnlyPastSymbols}
+use Rattle.laws.specs.Demands.Shape.{SameReadings, SameStrings}
 use Rattle.laws.specs.Demands.Run.{Bound, Demand3, PreservedStay, rulesOf}
 use Rattle.laws.specs.Demands.Trail.{OneOrigin, OriginsTold}
+use Rattle.laws.specs.Demands.Refusals.{RefusedSo}
 use Rattle.laws.specs.Demands.Table.{Lent, Row, zeros}
 
 -- The outcome that has the bytes handed in, no plan, no step and no entry.
@@ -83,9 +84,11 @@ module _ (limits : Limits) where
   Bought rust = BoughtRust
   Bought textbook = BoughtTextbook
 
-  -- A whole call: its row of the table, what its number buys, and that a lexer or combined unit comes back (SPECIFICATION 5.1).
+  -- A whole call: its row of the table, what its number buys, why it is refused by 3 to 9 (4.3 to 4.9), and that a lexer or combined
+  -- unit comes back (SPECIFICATION 5.1).
   pub record EveryCall (c : Corners) (bs result trail work : List ℕ) (o : Outcome) : Type 0 where
     pub row : Row limits c bs result trail work o
     pub bought : Bought c bs o
+    pub refusedSo : 3 ≤ o .number → RefusedSo limits c bs (o .number)
     pub otherUnits : Lent result trail work → (s : Sheet) → read bs ≡ sheet s → (s .kind ≡ parser → ⊥)
         → o ≡ sameBytes bs result trail work

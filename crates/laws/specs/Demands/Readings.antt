@@ -4,10 +4,9 @@ use mathlib.Core.Path.{_≡_, _∙_}
 use mathlib.Core.List.{List, [], _∷_, _++_, map, List·Memᴰ}
 use mathlib.Core.Equiv.{Iso}
 use mathlib.Core.Option.{some}
-use mathlib.Core.Bool.{true}
 use Rattle.grammar.specs.Tree.{Rule, bodyDepth}
 use Rattle.language.specs.Shape.{Word, Shape, callOf, seqs, alts, Shapes, find, eraseRules, EachCall}
-use Rattle.language.specs.Derive.{Der, RuleDerives, isKept}
+use Rattle.language.specs.Derive.{Der, RuleDerives}
 use Rattle.language.specs.Readings.{Tree, t-call, t-seq, t-left, t-right, t-absent, t-present, choices, Reading, treeOf, CallTree, Stays}
 use Rattle.language.specs.Laws.Cover.{ButFor}
 use Rattle.language.specs.Laws.Trees.Carry.{carry, Pairs}
@@ -101,25 +100,24 @@ unfolding StaysOver
 over (none {rs = rs}) n s = paired-refl (shapesOf rs) (callOf n)
 over (next p ps) n s = paired-trans (joined (p .trees) (callOf n) (s .0)) (over ps n (s .1))
 
--- Of a rule that is kept, by its id: a pairing of its derivations is a pairing of the trees of its call.
+-- Of a rule that is kept, two rules with one id: a pairing of its derivations is a pairing of the trees of its call.
 pub record RuleTold (before after : List Rule) (P : ℕ → Type 0)
-    (by : (n : ℕ) → P n → Paired (shapesOf before) (callOf n) (shapesOf after) (callOf n)) (i : ℕ)
-    (pairs : (w : Word) → Iso (RuleDerives bodyDepth before i w) (RuleDerives bodyDepth after i w)) : Type 0 where
-  pub rule : Rule
-  pub isLeft : List·Memᴰ rule after
-  pub isRule : rule .id ≡ i
-  pub stays : P (rule .name)
-  pub becomes : (w : Word) (x : RuleDerives bodyDepth before i w)
-      → (z : Tree (shapesOf before) (callOf (rule .name))) × CallTree x (rule .name) z
-      × CallTree (pairs w .fun x) (rule .name) (by (rule .name) stays .to z)
+    (by : (n : ℕ) → P n → Paired (shapesOf before) (callOf n) (shapesOf after) (callOf n)) (r q : Rule)
+    (pairs : (w : Word) → Iso (RuleDerives bodyDepth before (r .id) w) (RuleDerives bodyDepth after (q .id) w)) : Type 0 where
+  pub sameName : q .name ≡ r .name
+  pub stays : P (q .name)
+  pub becomes : (w : Word) (x : RuleDerives bodyDepth before (r .id) w)
+      → (z : Tree (shapesOf before) (callOf (q .name))) × CallTree x (q .name) z
+      × CallTree (pairs w .fun x) (q .name) (by (q .name) stays .to z)
 
 -- 4b. Which derivations are paired, over stages: those that the plans pair, one plan after the other.
-pub record ReadingsTold (before : List Rule) (ts : List Stage) (after : List Rule) (r : SameReadings before after) : Type 0 where
+pub record ReadingsTold (before : List Rule) (ts : List Stage) (after : List Rule) (same : SameReadings before after) : Type 0 where
   pub plans : Plans before ts after
-  pub rules : (i : ℕ) (k : isKept before after i ≡ true) → RuleTold before after (StaysOver plans) (over plans) i (r .pairs i k)
+  pub rules : (r q : Rule) (m : List·Memᴰ r before) (n : List·Memᴰ q after) (e : q .id ≡ r .id)
+      → RuleTold before after (StaysOver plans) (over plans) r q (same .pairs r q m n e)
 
 -- The same over one stage.
-pub record PlanReadings (before : List Rule) (t : Stage) (after : List Rule) (r : SameReadings before after) : Type 0 where
+pub record PlanReadings (before : List Rule) (t : Stage) (after : List Rule) (same : SameReadings before after) : Type 0 where
   pub plan : PlanTrees before t after
-  pub rules : (i : ℕ) (k : isKept before after i ≡ true)
-      → RuleTold before after (Stays before after) (λ n. joined (plan .trees) (callOf n)) i (r .pairs i k)
+  pub rules : (r q : Rule) (m : List·Memᴰ r before) (n : List·Memᴰ q after) (e : q .id ≡ r .id)
+      → RuleTold before after (Stays before after) (λ n. joined (plan .trees) (callOf n)) r q (same .pairs r q m n e)

@@ -6,7 +6,6 @@ use mathlib.Core.Bool.{true, false}
 use lib.ListN.{length}
 use Rattle.grammar.specs.Lists.{member, distinct}
 use Rattle.grammar.specs.Tree.{Sheet, Rule, bodyDepth}
-use Rattle.language.specs.Derive.{isRemoved}
 use Rattle.grammar.specs.Corners.{Corners}
 use Rattle.grammar.specs.Numbers.{parser}
 use Rattle.reference.specs.Analysis.{grammarOf, leftCornerCycles}
@@ -75,4 +74,5 @@ module _ (s : Sheet) where
   pub record PreservedStay (stages : List Stage) : Type 0 where
     pub kind : sheetAfter s stages .kind ≡ s .kind
     pub copied : sheetAfter s stages .preserved ≡ s .preserved
-    pub stay : (i : ℕ) → member i (s .preserved) ≡ true → isRemoved (s .rules) (rulesOf stages) i ≡ false
+    pub stay : (r : Rule) → List·Memᴰ r (s .rules) → member (r .id) (s .preserved) ≡ true
+        → (q : Rule) × List·Memᴰ q (rulesOf stages) × (q .id ≡ r .id)

@@ -1,6 +1,6 @@
 -- What is promised of one plan and of what it leaves: the language, what is removed, the shape of the rule joined, later
 -- cycles: 4 to 7.
-use Prim.Native.Nat.{ℕ}
+use Prim.Native.Nat.{ℕ, suc}
 use mathlib.Core.Path.{_≡_}
 use mathlib.Core.Logic.{_↔_, _⊎_}
 use mathlib.Core.List.{List, [], _∷_, _++_, List·Memᴰ}
@@ -8,9 +8,10 @@ use mathlib.Core.Equiv.{Iso}
 use mathlib.Core.Option.{none}
 use mathlib.Core.Bool.{true, false}
 use Rattle.grammar.specs.Lists.{AnyOf, member}
-use Rattle.grammar.specs.Tree.{ElementHead, Call, Element, leaf, block, call, Block, Leaf, Alternative, Rule, bodyDepth, Sheet}
-use Rattle.language.specs.Shape.{eraseElements, eraseBlock, Shapes, eraseRules, Word, EachCall, OnBlock}
-use Rattle.language.specs.Derive.{CanBeEmpty, RuleDerives, isKept, isRemoved}
+use Rattle.grammar.specs.Tree.{ElementHead, Call, Element, leaf, block, call, AlternativeOf, Block, Leaf, Alternative, Rule, bodyDepth}
+use Rattle.grammar.specs.Tree.{Sheet}
+use Rattle.language.specs.Shape.{eraseElements, eraseBlock, Shapes, eraseRules, Word, OnBlock}
+use Rattle.language.specs.Derive.{CanBeEmpty, RuleDerives}
 use Rattle.grammar.specs.Corners.{Corners, rust, textbook}
 use Rattle.grammar.specs.Numbers.{once}
 use Rattle.language.specs.LeftCorners.{IsSymbol, Corner}
@@ -25,20 +26,32 @@ use Rattle.reference.specs.Walks.{isOptional}
 abbrev pub Elements : Type 0
 Elements = List (Element (Block innerDepth))
 
--- 4. Every rule that is kept derives the same token strings before and after (SPECIFICATION 1.5 and 13.12).
+-- A rule is kept where a rule of the result has its id, and removed where none has (SPECIFICATION 13.12).
+abbrev pub Removed : Rule → List Rule → Type 0
+Removed r after = (q : Rule) → List·Memᴰ q after → q .id ≡ r .id → ⊥
+
+-- A call of a name stands in alternatives, or in a block of theirs at any depth.
+pub data Calls : (k : ℕ) → List (AlternativeOf (Block k)) → ℕ → Type 0 where
+  outermost : {k : ℕ} {as′ : List (AlternativeOf (Block k))} {a : AlternativeOf (Block k)} {h : ElementHead} {c : Call}
+      → List·Memᴰ a as′ → List·Memᴰ (leaf h (call c)) (a .elements) → Calls k as′ (c .name)
+  deeper : {k : ℕ} {as′ : List (AlternativeOf (Block (suc k)))} {a : AlternativeOf (Block (suc k))} {h : ElementHead} {b : Block (suc k)}
+      {n : ℕ} → List·Memᴰ a as′ → List·Memᴰ (block h b) (a .elements) → Calls k b n → Calls (suc k) as′ n
+
+-- 4. Every rule that is kept derives the same token strings before and after (SPECIFICATION 1.5): two rules with one id.
 pub record SameStrings (before after : List Rule) : Type 0 where
-  pub derives : (i : ℕ) → isKept before after i ≡ true → (w : Word) → RuleDerives bodyDepth before i w ↔ RuleDerives bodyDepth after i w
+  pub derives : (r q : Rule) → List·Memᴰ r before → List·Memᴰ q after → q .id ≡ r .id → (w : Word)
+      → RuleDerives bodyDepth before (r .id) w ↔ RuleDerives bodyDepth after (q .id) w
 
 -- 4a. The derivations of every rule that is kept pair off, string by string: no sentence gains or loses a reading
 -- (SPECIFICATION 1.14 and 13.17). Which is paired with which: 4b, in Readings.
 pub record SameReadings (before after : List Rule) : Type 0 where
-  pub pairs : (i : ℕ) → isKept before after i ≡ true → (w : Word)
-      → Iso (RuleDerives bodyDepth before i w) (RuleDerives bodyDepth after i w)
+  pub pairs : (r q : Rule) → List·Memᴰ r before → List·Memᴰ q after → q .id ≡ r .id → (w : Word)
+      → Iso (RuleDerives bodyDepth before (r .id) w) (RuleDerives bodyDepth after (q .id) w)
 
 -- 5. No rule that is kept calls one that is removed (SPECIFICATION 1.6).
 pub record Closed (before after : List Rule) : Type 0 where
-  pub uncalled : (r : Rule) → List·Memᴰ r before → isRemoved before after (r .id) ≡ true → (q : Rule) → List·Memᴰ q after
-      → EachCall (λ n. n ≡ r .name → ⊥) (eraseBlock bodyDepth (q .body))
+  pub uncalled : (r : Rule) → List·Memᴰ r before → Removed r after → (q : Rule) → List·Memᴰ q after
+      → Calls innerDepth (q .body) (r .name) → ⊥
 
 -- 6. The first sort of alternative (SPECIFICATION 1.7 and 13.10): it starts with the plain call of a rule, without arguments,
 -- and goes on with something that cannot be empty in a grammar.

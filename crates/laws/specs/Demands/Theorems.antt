@@ -5,8 +5,8 @@ use mathlib.Core.Logic.{_↔_}
 use mathlib.Core.List.{List, [], _∷_, _++_, map, List·Memᴰ}
 use mathlib.Core.Option.{some}
 use mathlib.Core.Bool.{true}
-use Rattle.grammar.specs.Lists.{AllOf}
-use Rattle.grammar.specs.Tree.{OptionDecl, ElementHead, Call, Element, leaf, call, Block, RuleOf, Rule, Sheet, bodyDepth, Alternative}
+use Rattle.grammar.specs.Lists.{AllOf, member}
+use Rattle.grammar.specs.Tree.{OptionDecl, ElementHead, Call, Element, leaf, call, Block, RuleOf, Sheet, bodyDepth, Alternative, Rule}
 use Rattle.grammar.specs.Valid.{valid, fits}
 use Rattle.grammar.specs.Reading.{sheet, read}
 use Rattle.grammar.specs.Laws.Words.{AreBytes}
@@ -17,17 +17,26 @@ use Rattle.grammar.specs.Numbers.{parser, once}
 use Rattle.reference.specs.Analysis.{Grammar, target, grammarOf}
 use Rattle.reference.specs.Substitute.{Limits, Planned, settled, plannedCorner, unionOptions}
 use Rattle.reference.specs.Apply.{Entry, Origins}
-use Rattle.reference.specs.Run.{innerDepth, Stage, ended, sheetWith, eliminateMutualLeftRecursion}
-use Rattle.reference.specs.Run.{sheetAfter, entriesOf, answer, refusal, answerTo, outcome}
+use Rattle.reference.specs.Run.{innerDepth, Stage, ended, sheetWith, eliminateMutualLeftRecursion, sheetAfter, entriesOf, answer, refusal}
+use Rattle.reference.specs.Run.{answerTo, outcome}
 use Rattle.reference.specs.Walks.{isEpsilonOnly}
-use Rattle.reference.specs.Plan.{chooseHub, satelliteIsInlinable, planCycle}
+use Rattle.reference.specs.Plan.{chooseHub, satelliteIsInlinable, plannedHubIsDirectlyRewritable, planCycle}
+use Rattle.laws.specs.Demands.Lists.{ListsTold}
 use Rattle.laws.specs.Demands.Numbers.{NumbersBought}
+use Rattle.laws.specs.Demands.Format.{FormatTold}
+use Rattle.laws.specs.Demands.Derivation.{DerivesTold}
+use Rattle.laws.specs.Demands.Strings.{StringsTold}
+use Rattle.laws.specs.Demands.Counted.{ReadingsCounted}
+use Rattle.laws.specs.Demands.Corners.{LeftCornersTold}
 use Rattle.laws.specs.Demands.Analysis.{CyclesListed, EmptyDerivation, LeftCornersListed, TextbookCorners}
 use Rattle.laws.specs.Demands.Shape.{LaterPastSymbols, NoCorner, NoLeftCorner, NoOptionalSymbol, OnlyPastSymbols}
 use Rattle.laws.specs.Demands.Readings.{TreesTold, TurnsTold, JoinedTold, PlanTrees, PlanReadings}
 use Rattle.laws.specs.Demands.Run.{SheetLeft, Bound, Demand3, EnoughTurns, PreservedStay, rulesOf}
 use Rattle.laws.specs.Demands.Inlinable.{Inlinable}
 use Rattle.laws.specs.Demands.Step.{JoinedOptions, StartTold, StepTold}
+use Rattle.laws.specs.Demands.Collisions.{CollisionsTold}
+use Rattle.laws.specs.Demands.Declines.{CornersTold, DeclinesTold}
+use Rattle.laws.specs.Demands.Rewritable.{Rewritable}
 use Rattle.laws.specs.Demands.Substitution.{SlotsKept}
 use Rattle.laws.specs.Demands.Trail.{OneOrigin, OriginsTold, RecordedSo, TrailTold}
 use Rattle.laws.specs.Demands.Applied.{CopiesAlike, FreshIds, RemovesMost, RulesStay}
@@ -49,10 +58,20 @@ Ends limits c s stages = (valid s ≡ true) × (eliminateMutualLeftRecursion lim
 
 -- The theorems. A sheet that the reader accepts is valid and fits (grammar, Laws/Codec), and so is what a plan leaves (11).
 pub record Theorems : Type 0 where
+  -- Words about lists that the others use.
+  pub listsTold : ListsTold
   pub numbersBought : NumbersBought
+  -- The format, and what is good in a sheet.
+  pub formatTold : FormatTold
+  -- What is derived, of every sheet that the reader accepts: the first wording agrees with a second. Strings of
+  -- small grammars, and how many derivations some have.
+  pub derivesTold : (s : Sheet) → valid s ≡ true → DerivesTold innerDepth (s .rules)
+  pub stringsTold : StringsTold
+  pub readingsCounted : ReadingsCounted
   -- 1 to 3, of every sheet that the reader accepts.
   pub emptyDerivation : (s : Sheet) → valid s ≡ true → EmptyDerivation bodyDepth (s .rules)
   pub leftCornersListed : (c : Corners) (s : Sheet) → valid s ≡ true → LeftCornersListed c bodyDepth (s .rules)
+  pub leftCornersTold : (s : Sheet) → valid s ≡ true → LeftCornersTold innerDepth (s .rules)
   pub textbookCorners : (G : Shapes) → TextbookCorners G
   pub cyclesListed : (c : Corners) (s : Sheet) → valid s ≡ true → CyclesListed c bodyDepth (s .rules)
   -- Of every sheet and all stages.
@@ -103,6 +122,16 @@ pub record Theorems : Type 0 where
   pub stepTold : (d : ℕ) (rs : List (RuleOf (Block (suc d)))) (cycle : List ℕ) (hub : ℕ) (ps : List (Planned d))
       → StepTold d rs (grammarOf (suc d) rs) cycle hub ps
   pub optionsJoined : (os more ws : List OptionDecl) → (unionOptions os more ≡ some ws) ↔ JoinedOptions os more ws
+  -- When labels, bindings, references and options are in the way of a splice; what an alternative needs; when a step declines.
+  pub collisionsTold : (d : ℕ) → CollisionsTold d
+  pub cornersTold : (d : ℕ) (g : Grammar) (cycle : List ℕ) (hub : ℕ) (es : List (Element (Block d))) → CornersTold g cycle hub es
+  pub declinesTold : (s : Sheet) → valid s ≡ true → (cycle : List ℕ) (hub : ℕ) (ps : List (Planned innerDepth))
+      → DeclinesTold (grammarOf bodyDepth (s .rules)) cycle hub innerDepth (s .rules) ps
+  -- The rewriting test asks for the shape of 1.7 before the plan, and for what 9.2 adds.
+  pub rewritableTold : (c : Corners) (s : Sheet) → valid s ≡ true → (cycle : List ℕ) (hub : Rule) → List·Memᴰ hub (s .rules)
+      → member (hub .id) cycle ≡ true → (ps : List (Planned innerDepth))
+      → (plannedHubIsDirectlyRewritable c (grammarOf bodyDepth (s .rules)) cycle (hub .id) innerDepth ps ≡ true)
+      ↔ Rewritable c (s .rules) cycle hub ps
   -- The hub's call of quantifier 0 is settled, and never spliced (SPECIFICATION 8.2).
   pub hubSettled : (d : ℕ) (g : Grammar) (cycle : List ℕ) (hub : ℕ) (front rest : List (Element (Block d))) (h : ElementHead) (k : Call)
       → AllOf (λ e. isEpsilonOnly e ≡ true) front → target g (k .name) ≡ some hub → h .quantifier ≡ once

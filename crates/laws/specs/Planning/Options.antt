@@ -17,7 +17,7 @@ pub never : {A R : Type 0} {a : A} → none ≡ some a → R
 never {a = a} e = absurd (Option·none-ne-some a e)
 
 -- The first that passes a test, and those in front of it.
-first-cut : {A : Type 0} (test : A → Bool) (xs : List A) {x : A} → first test xs ≡ some x
+pub first-cut : {A : Type 0} (test : A → Bool) (xs : List A) {x : A} → first test xs ≡ some x
     → (front : List A) × (rest : List A) × (front ++ (x ∷ rest) ≡ xs) × ((y : A) → List·Memᴰ y front → test y ≡ false) × (test x ≡ true)
 unfolding first
 first-cut test [] e = never e
@@ -39,7 +39,7 @@ module _ (o : OptionDecl) where
   abbrev pub named : OptionDecl → Bool
   named x = eqb (x .name) (o .name)
 
-  unnamed : (os : List OptionDecl) → ((x : OptionDecl) → List·Memᴰ x os → named x ≡ false) → Unnamed (o .name) os
+  pub unnamed : (os : List OptionDecl) → ((x : OptionDecl) → List·Memᴰ x os → named x ≡ false) → Unnamed (o .name) os
   unnamed os h x m = eqb-false (x .name) (o .name) (h x m)
 
   first-unnamed : (os : List OptionDecl) → Unnamed (o .name) os → first named os ≡ none
@@ -48,7 +48,7 @@ module _ (o : OptionDecl) where
   first-unnamed (x ∷ os) u =
       rw (ne-eqb (x .name) (o .name) (u x (List·Memᴰ·head refl)), first) (first-unnamed os λ y m. u y (List·Memᴰ·tail m))
 
-  first-named : (front rest : List OptionDecl) (x : OptionDecl) → Unnamed (o .name) front → x .name ≡ o .name
+  pub first-named : (front rest : List OptionDecl) (x : OptionDecl) → Unnamed (o .name) front → x .name ≡ o .name
       → first named (front ++ (x ∷ rest)) ≡ some x
   unfolding first
   first-named [] rest x u e = rw (eq-eqb (x .name) (o .name) e, first)

@@ -1,17 +1,14 @@
 -- The trees of the hub's body pair off with those of the planned list, and so do all trees before and after a plan.
 use Prim.Native.Nat.{ℕ, suc}
-use mathlib.Core.Path.{_≡_, refl, sym, ap, ap₂, _∙_, subst, subst₂}
+use mathlib.Core.Path.{_≡_, refl, sym, ap, _∙_, subst, subst₂}
 use mathlib.Core.List.{List, [], _∷_, _++_, map, map-map, map-append, List·Memᴰ, Memᴰ·of-map}
 use mathlib.Core.Option.{Option, none, some, Option·some-injective}
-use mathlib.Core.Bool.{false, not, _&&_, true≢false}
+use mathlib.Core.Bool.{false, not}
 use borrow.Author.Tests.{not-true}
 use Rattle.grammar.specs.Lists.{member}
-use Rattle.grammar.specs.Laws.Lists.{member-in, in-member, in-map}
-use Rattle.grammar.specs.Laws.Parse.{either}
 use Rattle.grammar.specs.Tree.{call, leaf, Block, RuleOf, Counters}
 use Rattle.grammar.specs.Corners.{Corners}
 use Rattle.language.specs.Shape.{Shape, alts, eraseElement, eraseBlock, Shapes, find, eraseRules}
-use Rattle.language.specs.Derive.{isRemoved}
 use Rattle.language.specs.Readings.{Stays}
 use Rattle.language.specs.Laws.Cover.{ButFor, replaced-others, replaced-found}
 use Rattle.language.specs.Laws.Trees.Carry.{Pairs, pairs-refl, pairs-trans}
@@ -19,7 +16,7 @@ use Rattle.language.specs.Laws.Trees.Joined.{JoinedTrees}
 use Rattle.language.specs.Laws.Trees.Steps.{slot-pairs}
 use Rattle.language.specs.Laws.Trees.Turns.{Turns, slot, LocalPairs, TurnPairs, TurnsPairs, behind-turn}
 use Rattle.language.specs.Laws.Trees.Items.{splice-items, split-items}
-use Rattle.reference.specs.Analysis.{Grammar, idsOf, target}
+use Rattle.reference.specs.Analysis.{Grammar, target}
 use Rattle.reference.specs.Substitute.{plainHead}
 use Rattle.reference.specs.Plan.{CyclePlan, asTheyAre}
 use Rattle.graph.specs.Members.{in-keep}
@@ -105,26 +102,23 @@ module _ {c : Corners} {d : ℕ} {rs : List (RuleOf (Block (suc d)))} {g : Gramm
   pub gone-stays : (n : ℕ) → gone k x counters n ≡ false → Stays rs (rulesLeft k x counters) n
   gone-stays n f r m e =
       let out : member (r .id) (goneIds k x counters) ≡ false = sym (gone-name k x counters m) ∙ ap (gone k x counters) e ∙ f in
-      ap₂ (λ a b. a && not b) (in-member (in-map (λ r. r .id) m)) (in-member (left-in k x counters m out))
+      Memᴰ·of-map (λ r. r .id) (rulesLeft k x counters) (left-in k x counters m out)
 
   stays-gone : (n : ℕ) → Stays rs (rulesLeft k x counters) n → gone k x counters n ≡ false
   stays-gone n s = go (target g n) refl
     where
-      left : {r : RuleOf (Block (suc d))} → List·Memᴰ r rs → isRemoved rs (rulesLeft k x counters) (r .id) ≡ false
-          → member (r .id) (goneIds k x counters) ≡ false
-      left {r} m f =
-          either (member (r .id) (idsOf (rulesLeft k x counters)))
-          (λ t.
-          let (q, n, e) = Memᴰ·of-map (λ r. r .id) (rulesLeft k x counters) (member-in (idsOf (rulesLeft k x counters)) t) in
-          let p = in-keep (λ r. not (member (r .id) (goneIds k x counters))) (replacedRules k x counters) n .1 in
-          ap (λ i. member i (goneIds k x counters)) (sym e) ∙ not-true (member (q .id) (goneIds k x counters)) p)
-          (λ u. absurd (true≢false (sym (ap₂ (λ a b. a && not b) (in-member (in-map (λ r. r .id) m)) u) ∙ f)))
+      left : {q : RuleOf (Block (suc d))} (i : ℕ) → List·Memᴰ q (rulesLeft k x counters) → q .id ≡ i
+          → member i (goneIds k x counters) ≡ false
+      left {q} i m e =
+          let p = in-keep (λ r. not (member (r .id) (goneIds k x counters))) (replacedRules k x counters) m .1 in
+          ap (λ i. member i (goneIds k x counters)) (sym e) ∙ not-true (member (q .id) (goneIds k x counters)) p
 
       go : (o : Option ℕ) → target g n ≡ o → gone k x counters n ≡ false
       go none e = ap (isGone (goneIds k x counters)) e
       go (some t) e =
           let (r, m, name, id) = target-rule rs g (k .named) n e in
-          ap (isGone (goneIds k x counters)) e ∙ ap (λ i. member i (goneIds k x counters)) (sym id) ∙ left m (s r m name)
+          let (q, there, same) = s r m name in
+          ap (isGone (goneIds k x counters)) e ∙ ap (λ i. member i (goneIds k x counters)) (sym id) ∙ left (r .id) there same
 
   -- The plan's pairing.
   pub plan-trees : JoinedTrees (x .hub .name) (plan .steps) (G k x counters) (L k x counters) (Stays rs (rulesLeft k x counters))

@@ -14,11 +14,9 @@ use Rattle.grammar.specs.Numbers.{optionalGreedy}
 use Rattle.reference.specs.Analysis.{Grammar, grammarOf, namesOf, ruleWithId}
 use Rattle.reference.specs.Substitute.{danglingReference, labelCollision, bindingCollision, optionCollision, Decided, decided, _andThen_}
 use Rattle.reference.specs.Substitute.{require, found, decideEach, inSlotOf, PlannedCorner, optional, satellite, blocked, settled}
-use Rattle.reference.specs.Substitute.{plannedCorner, without, plain, splitOptional, unionOptions, Planned}
-use Rattle.reference.specs.Substitute.{remainingActionsReference, labelsCollide, implicitBindingsCollide, spliceAlternative}
-use Rattle.reference.specs.Substitute.{spliceSatellite, replacement, step}
-use Rattle.laws.specs.Demands.Step.{CornerAt, Spliced, spliced-none}
-use Rattle.laws.specs.Demands.Step.{spliced-one, MadeFrom, split, splice, NoWork, StepTold}
+use Rattle.reference.specs.Substitute.{plannedCorner, without, plain, splitOptional, unionOptions, Planned, remainingActionsReference}
+use Rattle.reference.specs.Substitute.{labelsCollide, implicitBindingsCollide, spliceAlternative, spliceSatellite, replacement, step}
+use Rattle.laws.specs.Demands.Step.{CornerAt, Spliced, spliced-none, spliced-one, MadeFrom, split, splice, NoWork, StepTold}
 use Rattle.laws.specs.Lists.Lookup.{first-none, target-rule, rule-with-id}
 use Rattle.laws.specs.Planning.Decisions.{decided-inj, then-decided, require-decided, found-decided}
 use Rattle.laws.specs.Planning.Corner.{Means, corner-means, work-unsettled, take-front, drop-front, drop-behind}
@@ -47,7 +45,7 @@ spliced d p i s {q} e =
     }
 
 module _ (d : ℕ) (rs : List (RuleOf (Block (suc d)))) (g : Grammar) (cycle : List ℕ) (hub : ℕ) where
-  abbrev Reply : Type 0
+  abbrev pub Reply : Type 0
   Reply = Option (Decided (List (Planned d)))
 
   module _ (p : Planned d) {i t : ℕ} (x : CornerAt g cycle (p .elements) i t) where
@@ -117,13 +115,13 @@ module _ (d : ℕ) (rs : List (RuleOf (Block (suc d)))) (g : Grammar) (cycle : L
   made-from p settled m {qs} e = never e
 
   -- What takes the place of an alternative, and none.
-  abbrev reply : Planned d → Reply
+  abbrev pub reply : Planned d → Reply
   reply p = replacement d rs p (plannedCorner g cycle hub (p .elements))
 
-  abbrev Passed : List (Planned d) → Type 0
+  abbrev pub Passed : List (Planned d) → Type 0
   Passed ps = (p : Planned d) → List·Memᴰ p ps → reply p ≡ none
 
-  passed-more : {p : Planned d} {ps : List (Planned d)} → reply p ≡ none → Passed ps → Passed (p ∷ ps)
+  pub passed-more : {p : Planned d} {ps : List (Planned d)} → reply p ≡ none → Passed ps → Passed (p ∷ ps)
   passed-more k h q (List·Memᴰ·head e) = ap reply e ∙ k
   passed-more k h q (List·Memᴰ·tail m) = h q m
 
@@ -138,7 +136,7 @@ module _ (d : ℕ) (rs : List (RuleOf (Block (suc d)))) (g : Grammar) (cycle : L
     pub isMade : MadeFrom d rs g cycle hub slot made
     pub result : front ++ (made ++ rest) ≡ qs
 
-  abbrev stepBy : Planned d → List (Planned d) → Reply → Reply → Reply
+  abbrev pub stepBy : Planned d → List (Planned d) → Reply → Reply → Reply
   stepBy p ps o o′ =
       elim o [
         | some r ↦ some (r andThen λ qs. decided (qs ++ ps))
@@ -194,7 +192,7 @@ module _ (d : ℕ) (rs : List (RuleOf (Block (suc d)))) (g : Grammar) (cycle : L
 
   -- In a grammar of these rules, what is passed has no work left.
   module _ (named : g .names ≡ namesOf rs) where
-    found-rule : {B : Type 0} {es : List (Element B)} {i t : ℕ} → CornerAt g cycle es i t → ruleWithId rs t ≡ none → ⊥
+    pub found-rule : {B : Type 0} {es : List (Element B)} {i t : ℕ} → CornerAt g cycle es i t → ruleWithId rs t ≡ none → ⊥
     unfolding ruleWithId
     found-rule {t = t} x e =
         let (r, m, n, same) = target-rule rs g named (x .site .name) (x .known) in
@@ -223,7 +221,7 @@ module _ (d : ℕ) (rs : List (RuleOf (Block (suc d)))) (g : Grammar) (cycle : L
     passed-settled p blocked m e = never (sym e)
     passed-settled p settled m e = refl
 
-    no-work : (ps : List (Planned d)) → Passed ps → NoWork d rs g cycle hub ps
+    pub no-work : (ps : List (Planned d)) → Passed ps → NoWork d rs g cycle hub ps
     no-work ps h p m w =
         work-unsettled g cycle hub w (passed-settled p (plannedCorner g cycle hub (p .elements)) (corner-means g cycle hub (p .elements))
         (h p m))

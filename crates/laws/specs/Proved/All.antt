@@ -4,10 +4,17 @@ use mathlib.Core.List.{[], _∷_}
 use Rattle.laws.specs.Demands.Numbers.{NumbersBought}
 use Rattle.laws.specs.Demands.Theorems.{Theorems}
 use Rattle.laws.specs.Running.Readings.{plan-readings}
-use Rattle.laws.specs.Running.Stages.{sheet-none, sheet-last, valid-told, sheet-ends}
+use Rattle.laws.specs.Running.Stages.{sheet-none, sheet-last, valid-told, known, sheet-ends}
 use Rattle.reference.specs.Analysis.{grammarOf}
 use Rattle.reference.specs.Run.{innerDepth}
 use Rattle.grammar.specs.Tree.{bodyDepth}
+use Rattle.reference.specs.Substitute.{clauseNumber}
+use Rattle.laws.specs.Lists.Told.{lists-told}
+use Rattle.laws.specs.Format.Told.{format-told}
+use Rattle.laws.specs.Derivation.Same.{sheet-derives}
+use Rattle.laws.specs.Derivation.Strings.{strings-told}
+use Rattle.laws.specs.Derivation.Counted.{readings-counted}
+use Rattle.laws.specs.Derivation.Corners.{sheet-left-corners}
 use Rattle.laws.specs.Planning.PlanCycle.{decision}
 use Rattle.laws.specs.Planning.Chain.{slots-kept}
 use Rattle.laws.specs.Planning.Hub.{hub-told}
@@ -15,6 +22,11 @@ use Rattle.laws.specs.Planning.Inlinable.{inlinable-told}
 use Rattle.laws.specs.Planning.Turns.{start-told}
 use Rattle.laws.specs.Planning.Options.{options-joined}
 use Rattle.laws.specs.Planning.Steps.{known-steps}
+use Rattle.laws.specs.Planning.Collisions.{labels-told, bindings-told, dangling-told}
+use Rattle.laws.specs.Planning.OtherValues.{values-told}
+use Rattle.laws.specs.Planning.Lines.{corners-told}
+use Rattle.laws.specs.Planning.Declines.{declines-told}
+use Rattle.laws.specs.Planning.Rewritable.{rewritable-told}
 use Rattle.laws.specs.Planning.Settled.{hub-settled}
 use Rattle.laws.specs.Provenance.Recording.{recorded-so}
 use Rattle.laws.specs.BothReadings.Readings.{demand3-textbook, demand3-rust}
@@ -37,6 +49,7 @@ use Rattle.laws.specs.Sameness.Outcomes.{renamed, carried-alike}
 use Rattle.laws.specs.Sameness.Sorts.{marks-told, marks-shown}
 
 numbers-bought : NumbersBought
+unfolding clauseNumber
 numbers-bought =
     record {
       leastSheet = refl;
@@ -54,14 +67,63 @@ numbers-bought =
       elements = refl;
       options = refl;
       budget = refl;
+      unitLexer = refl;
+      unitParser = refl;
+      unitCombined = refl;
+      ruleFlags = refl;
+      alternativeFlag = refl;
+      quantifierOnce = refl;
+      quantifierOptional = refl;
+      quantifierOptionalNongreedy = refl;
+      quantifierAny = refl;
+      quantifierAnyNongreedy = refl;
+      quantifierSome = refl;
+      quantifierSomeNongreedy = refl;
+      kindEpsilon = refl;
+      kindAction = refl;
+      kindPredicate = refl;
+      kindCall = refl;
+      kindToken = refl;
+      kindTerminal = refl;
+      kindBlock = refl;
+      kinds = refl;
+      referenceAttribute = refl;
+      referenceQualified = refl;
+      referenceNonLocal = refl;
+      trailer = refl;
+      entry = refl;
+      sortRule = refl;
+      sortAlternative = refl;
+      sortElement = refl;
+      sortLabel = refl;
+      sortAction = refl;
+      sortPredicate = refl;
+      reasonRule = refl;
+      reasonBlock = refl;
+      refusedLength = refl;
+      refusedBuffer = refl;
+      refusedTrailer = refl;
+      refusedRecord = refl;
+      refusedShared = refl;
+      refusedCounter = refl;
+      refusedPlan = refl;
+      refusedIds = refl;
+      refusedResult = refl;
+      clauses = refl;
     }
 
 pub theorems : Theorems
 theorems =
     record {
+      listsTold = lists-told;
       numbersBought = numbers-bought;
+      formatTold = format-told;
+      derivesTold = sheet-derives;
+      stringsTold = strings-told;
+      readingsCounted = readings-counted;
       emptyDerivation = sheet-empty;
       leftCornersListed = λ c s v. sheet-corners s v c;
+      leftCornersTold = sheet-left-corners;
       textbookCorners = textbook-corners;
       cyclesListed = λ c s v. sheet-cycles s v c;
       sheetLeft = λ s. record { none = sheet-none s; last = sheet-last s };
@@ -89,6 +151,18 @@ theorems =
       startTold = start-told;
       stepTold = λ d rs cycle hub. known-steps d rs cycle hub;
       optionsJoined = options-joined;
+      collisionsTold = λ d.
+          record {
+            labels = labels-told d;
+            bindings = bindings-told d;
+            dangling = dangling-told d;
+            options = values-told;
+          };
+      cornersTold = λ d g cycle hub es. corners-told g cycle hub es;
+      declinesTold = λ s v cycle hub.
+          let k = known (s .rules) (valid-told s v) in
+          declines-told (grammarOf bodyDepth (s .rules)) cycle hub innerDepth (s .rules) (k .ids) (k .named);
+      rewritableTold = λ c s v. rewritable-told c (s .rules) (known (s .rules) (valid-told s v));
       hubSettled = hub-settled;
       originsTold = λ limits c s ts f r. origins-told s (r .0) f limits c ts (r .1);
       oneOrigin = λ limits c s ts f r. one-origin-each limits c s (r .0) ts (r .1) f;

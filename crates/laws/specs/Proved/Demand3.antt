@@ -1,29 +1,29 @@
 -- Demand 3, the bound on plans, the preserved rules and the trail, of every sheet that is not refused.
 use Prim.Native.Nat.{ℕ, zero, suc, _+_}
 use mathlib.Core.Path.{_≡_, refl, sym, ap, ap₂, _∙_, subst, subst₂}
-use mathlib.Core.Logic.{⊎-elim}
+use mathlib.Core.Logic.{_↔_, ⊎-elim}
 use mathlib.Core.List.{List, [], _∷_, _++_, map, append-nil, List·Memᴰ, List·Memᴰ·head, List·Memᴰ·tail}
 use native.Mathlib.Nat.{zero-add, suc-add}
 use native.Mathlib.Omega.{arith}
 use lib.ListN.{length}
-use borrow.Author.Tests.{not-true, eq-eqb}
+use borrow.Author.Tests.{eq-eqb}
 use Rattle.grammar.specs.Tree.{Rule, bodyDepth, Counters, Sheet}
-use Rattle.grammar.specs.Ids.{ruleIds}
-use Rattle.grammar.specs.Lists.{member}
 use Rattle.grammar.specs.Corners.{Corners}
-use Rattle.grammar.specs.Laws.Parse.{right-true}
+use Rattle.grammar.specs.Laws.Lists.{in-member, in-map}
 use Rattle.grammar.specs.Numbers.{parser}
+use Rattle.language.specs.Derive.{RuleDerives}
 use Rattle.reference.specs.Substitute.{Limits}
 use Rattle.reference.specs.Apply.{applyPlan}
-use Rattle.reference.specs.Run.{innerDepth, Stage, ended, Search, noPlan, planned, tooLarge, preceded, findPlan, refusalOf, eliminateInUnit}
-use Rattle.reference.specs.Run.{eliminateMutualLeftRecursion, sheetAfter}
+use Rattle.reference.specs.Run.{innerDepth, Stage, ended, Search, noPlan, planned, tooLarge, preceded, findPlan, refusalOf}
+use Rattle.reference.specs.Run.{eliminateInUnit, eliminateMutualLeftRecursion, sheetAfter}
 use Rattle.laws.specs.Demands.Shape.{SameStrings, Closed, NoCorner, NoLaterCycle}
 use Rattle.laws.specs.Demands.Run.{rulesOf, Demand3, Bound, EnoughTurns, PreservedStay}
 use Rattle.laws.specs.Demands.Trail.{TrailTold}
 use Rattle.laws.specs.Demands.Facts.{FactsStay}
 use Rattle.laws.specs.Provenance.PlanTrail.{stage-trail}
 use Rattle.laws.specs.Running.Preserved.{preserved-stay}
-use Rattle.laws.specs.Running.Leaves.{Told, Leaves, leaves-derives}
+use Rattle.laws.specs.Derivation.Called.{each-called}
+use Rattle.laws.specs.Running.Leaves.{Told, no-id, Leaves, leaves-derives}
 use Rattle.laws.specs.Running.Readings.{Read, chain-read}
 use Rattle.laws.specs.Running.Stages.{rulesAfter, sheet-after, sheet-preserved, rules-append, every-cycle-declined, Stages, Chain}
 use Rattle.laws.specs.Running.Stages.{chain-leaves, chain-front, chain-behind, Rest, applying, turn, turns-once, stages-chain}
@@ -135,8 +135,9 @@ module _ (limits : Limits) (corners : Corners) (s : Sheet) (told : Told (s .rule
     same-strings =
         subst₂ SameStrings first-is second-is
         (record {
-          derives = λ i k w. leaves-derives bodyDepth between-told between i
-              (right-true (member i (ruleIds first)) (member i (ruleIds (rulesAfter first middle))) k) w;
+          derives = λ r q m n e w.
+              subst (λ i. RuleDerives bodyDepth first i w ↔ RuleDerives bodyDepth (rulesAfter first middle) (q .id) w) e
+              (leaves-derives bodyDepth between-told between (q .id) (in-member (in-map (λ (r : Rule). r .id) n)) w);
         })
 
     same-readings : Read (rulesOf s front) middle (rulesOf s (front ++ middle))
@@ -147,8 +148,8 @@ module _ (limits : Limits) (corners : Corners) (s : Sheet) (told : Told (s .rule
     closed =
         subst₂ Closed first-is second-is
         (record {
-          uncalled = λ r m k q n. between .closed r m
-              (not-true (member (r .id) (ruleIds (rulesAfter first middle))) (right-true (member (r .id) (ruleIds first)) _ k)) q n;
+          uncalled = λ r m k q n c.
+              each-called (λ n. n ≡ r .name → ⊥) innerDepth (between .closed r m (no-id r (rulesAfter first middle) k) q n) c refl;
         })
 
     pub facts-stay : FactsStay bodyDepth (rulesOf s front) (map (λ t. t .plan .hub) middle) (rulesOf s (front ++ middle))

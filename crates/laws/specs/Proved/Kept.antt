@@ -16,11 +16,15 @@ use Rattle.grammar.specs.Encode.{encode}
 use Rattle.grammar.specs.Numbers.{wordEnd}
 use Rattle.reference.specs.Substitute.{Limits}
 use Rattle.reference.specs.Run.{Stage, ended, eliminateMutualLeftRecursion, sheetAfter, stepsOf, encodeEntry, entriesOf, Outcome, filled}
-use Rattle.reference.specs.Run.{outcome}
+use Rattle.reference.specs.Run.{Answer, refusal, answer, answerTo, areLent, untouched, delivered, outcome}
+use Rattle.grammar.specs.Reading.{isLength}
+use Rattle.laws.specs.Demands.Refusals.{RefusedSo}
+use Rattle.laws.specs.Proved.Refusals.{refused-so}
+use mathlib.Core.Bool.{Bool, true, false}
 use Rattle.laws.specs.Demands.Shape.{Elements, NoOptionalSymbol, NoLeftCorner, OnlyPastSymbols}
 use Rattle.laws.specs.Demands.Run.{Demand3}
-use Rattle.laws.specs.Demands.Table.{GoodLength, Fails, trailer, records, equalIds, highIds, Passes, trailWords, Delivered}
-use Rattle.laws.specs.Demands.Table.{Row, badLength, notLent, notRead, notEnded, isEnded}
+use Rattle.laws.specs.Demands.Table.{GoodLength, Fails, trailer, records, equalIds, highIds, Passes, trailWords, Delivered, Row}
+use Rattle.laws.specs.Demands.Table.{badLength, notLent, notRead, notEnded, isEnded}
 use Rattle.laws.specs.Demands.Kept.{sameBytes, OwnResult, Kept, KeptRust, Bought, EveryCall}
 use Rattle.laws.specs.Running.Leaves.{Told}
 use Rattle.laws.specs.Running.Stages.{valid-told}
@@ -203,6 +207,36 @@ own-result limits c bs result trail work b z =
     let o = outcome limits c bs result trail work in
     came-again limits bs b result trail work o c (row-came limits bs b result trail work o c (table limits c bs result trail work) z)
 
+-- A call refused by 3 or more has a good length and its buffers, and the answer to its bytes is that refusal.
+module _ (limits : Limits) (c : Corners) (bs result trail work : List ℕ) (b : AreBytes bs) where
+  answer-why : (a : Answer) → answerTo limits c bs ≡ a → 3 ≤ delivered result trail work a .number
+      → RefusedSo limits c bs (delivered result trail work a .number)
+  unfolding delivered
+  answer-why (refusal n) e l = refused-so limits c bs b n e
+  answer-why (answer plans steps ws ts) e l = absurd (omega arith)
+
+  abbrev lentOr : Bool → Outcome
+  lentOr false = untouched result trail work 2
+  lentOr true = delivered result trail work (answerTo limits c bs)
+
+  lent-why : (x : Bool) → 3 ≤ lentOr x .number → RefusedSo limits c bs (lentOr x .number)
+  unfolding untouched
+  lent-why false l = absurd (omega arith)
+  lent-why true l = answer-why (answerTo limits c bs) refl l
+
+  abbrev sizedOr : Bool → Outcome
+  sizedOr false = untouched result trail work 1
+  sizedOr true = lentOr (areLent result trail work)
+
+  sized-why : (x : Bool) → 3 ≤ sizedOr x .number → RefusedSo limits c bs (sizedOr x .number)
+  unfolding untouched
+  sized-why false l = absurd (omega arith)
+  sized-why true l = lent-why (areLent result trail work) l
+
+  call-why : 3 ≤ outcome limits c bs result trail work .number → RefusedSo limits c bs (outcome limits c bs result trail work .number)
+  unfolding outcome
+  call-why = sized-why (isLength (length bs))
+
 pub every-call : (limits : Limits) (c : Corners) (bs result trail work : List ℕ) → AreBytes bs
     → EveryCall limits c bs result trail work (outcome limits c bs result trail work)
 every-call limits c bs result trail work b =
@@ -210,6 +244,7 @@ every-call limits c bs result trail work b =
     record {
       row = r;
       bought = row-bought limits bs b result trail work (outcome limits c bs result trail work) c r;
+      refusedSo = call-why limits c bs result trail work b;
       otherUnits = λ l s k n.
           other-outcome limits c bs result trail work b s k n (lent-are result trail work l) ∙ nothing-else bs result trail work;
     }

@@ -1,6 +1,6 @@
 -- What cannot be said of readings, on the sheet `e: a? DOTS | INT; a: e PLUS | ;`.
 use Prim.Native.Nat.{ℕ}
-use mathlib.Core.Path.{_≡_, refl, sym, ap, _∙_, subst, pathJ}
+use mathlib.Core.Path.{_≡_, refl, sym, ap, _∙_, subst, subst₂, pathJ}
 use mathlib.Core.Logic.{_↔_, Iff·trans, ⊎-elim}
 use mathlib.Core.List.{List, [], _∷_, _++_, map, List·Memᴰ·head, List·Memᴰ·eq-of-singleton}
 use mathlib.Core.Equiv.{Iso}
@@ -8,9 +8,6 @@ use mathlib.Core.Option.{some, Option·some-injective, Option·none-ne-some}
 use native.Mathlib.Omega.{arith}
 use borrow.Author.Tests.{ne-eqb}
 use Rattle.grammar.specs.Lists
-use Rattle.grammar.specs.Lists.{member}
-use Rattle.grammar.specs.Laws.Lists.{member-in}
-use Rattle.grammar.specs.Laws.Parse.{right-true}
 use Rattle.grammar.specs.Corners.{rust}
 use Rattle.grammar.specs.Tree.{bodyDepth}
 use Rattle.language.specs.Shape.{Symbol, tokenSymbol, Word, Shape, symbol, callOf, seqs, alts, Shapes, quantified, eraseLeaf, eraseElement}
@@ -24,7 +21,7 @@ use Rattle.language.specs.Laws.Trees.Algebra.{fails}
 use Rattle.language.specs.Laws.Trees.Derivations.{stringOf}
 use Rattle.language.specs.Laws.Trees.Told.{rules-told}
 use Rattle.reference.specs.Substitute.{standard}
-use Rattle.laws.specs.Examples.{doubling, doubled, merged}
+use Rattle.laws.specs.Examples.{doublingHub, doubling, doubled, merged}
 use Rattle.laws.specs.Demands.Shape as Shape
 use Rattle.laws.specs.Demands.Readings.{shapesOf}
 use Rattle.laws.specs.Demands.Examples.{Filled, slotless, OneWithoutSlots, dots, NoOtherReadings}
@@ -93,13 +90,12 @@ run-strings =
     (demand3 standard rust doubling (valid-told doubling (t .isValid)) (t .stages) (t .run) .sameStrings)
 
 same-strings : Shape.SameStrings (doubling .rules) merged
-unfolding Lists.member
 same-strings =
     record {
-      derives = λ i k w.
-          let e = List·Memᴰ·eq-of-singleton (member-in (1 ∷ []) (right-true (member i (1 ∷ 2 ∷ [])) (member i (1 ∷ [])) k)) in
-          subst (λ i. RuleDerives bodyDepth (doubling .rules) i w ↔ RuleDerives bodyDepth merged i w) (sym e)
-          (Iff·trans (run-strings .derives 1 refl w) (both-one w));
+      derives = λ r q m n e w.
+          let i : q .id ≡ 1 = ap (λ q. q .id) (List·Memᴰ·eq-of-singleton n) in
+          subst₂ (λ i j. RuleDerives bodyDepth (doubling .rules) i w ↔ RuleDerives bodyDepth merged j w) (sym (sym e ∙ i)) (sym i)
+          (Iff·trans (run-strings .derives doublingHub _ (List·Memᴰ·head refl) (List·Memᴰ·head refl) refl w) (both-one w));
     }
 
 -- But without one of the two equal alternatives DOTS has one reading.
@@ -127,9 +123,8 @@ two-apart e =
     never cc
 
 reading-lost : Shape.SameReadings (doubling .rules) merged → ⊥
-unfolding Lists.member
 reading-lost r =
-    let i = r .pairs 1 refl dots in
+    let i = r .pairs doublingHub _ (List·Memᴰ·head refl) (List·Memᴰ·head refl) refl dots in
     let same = rules-told bodyDepth merged 1 dots (i .fun without) (i .fun empty)
     (one-derivation (i .fun without) ∙ sym (one-derivation (i .fun empty))) in
     two-apart (sym (i .linv without) ∙ ap (i .inv) same ∙ i .linv empty)

@@ -1,12 +1,11 @@
 -- What would be too little to say of readings, on grammars of one rule.
 use Prim.Native.Nat.{ℕ, zero, suc, _≤_}
 use mathlib.Core.Path.{_≡_, refl, sym, ap, _∙_, subst, pathJ}
-use mathlib.Core.List.{[], _∷_, map}
+use mathlib.Core.List.{[], _∷_, map, List·Memᴰ·head}
 use mathlib.Core.Equiv.{Iso}
 use mathlib.Core.Option.{Option·some-injective}
 use native.Mathlib.Omega.{arith}
 use lib.ListN.{length}
-use Rattle.grammar.specs.Lists
 use Rattle.grammar.specs.Tree.{bodyDepth, innerDepth}
 use Rattle.language.specs.Shape.{tokenSymbol, Word, Shape, symbol, seqs, alts, Shapes, quantified, eraseLeaf, eraseElement, eraseElements}
 use Rattle.language.specs.Shape.{eraseBlock, find}
@@ -64,9 +63,8 @@ forgetful =
     }
 
 other-string : SameStrings (single 3) (single 4) → ⊥
-unfolding Lists.member
 other-string s =
-    let y = s .derives 1 refl (tokenSymbol 3 ∷ []) .0 (token-reading 3) in
+    let y = s .derives _ _ (List·Memᴰ·head refl) (List·Memᴰ·head refl) refl (tokenSymbol 3 ∷ []) .0 (token-reading 3) in
     let e = sym (token-chosen 4 y .1) ∙ stringOf (y .tree) in
     absurd (let z : _≡_ {A = ℕ} 4 3 = cc in omega arith)
 
@@ -140,9 +138,8 @@ apart n e =
     absurd (let z : _≡_ {A = ℕ} 0 1 = cc in omega arith)
 
 long-one : (n : ℕ) → SameReadings (rowTwice (suc n)) (rowOnce (suc n)) → ⊥
-unfolding Lists.member
 long-one n r =
-    let i = r .pairs 1 refl (intsOf (suc n)) in
+    let i = r .pairs _ _ (List·Memᴰ·head refl) (List·Memᴰ·head refl) refl (intsOf (suc n)) in
     let x = front (suc n) in
     let y = back (suc n) in
     let same = rules-told bodyDepth (rowOnce (suc n)) 1 (intsOf (suc n)) (i .fun x) (i .fun y)

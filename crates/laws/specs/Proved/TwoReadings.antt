@@ -2,7 +2,7 @@
 use Prim.Native.Nat.{ℕ}
 use mathlib.Core.Path.{_≡_, refl, sym, ap, _∙_, subst, subst₃}
 use mathlib.Core.Logic.{_⊎_, inl, inr, ⊎-elim, ⊎-map}
-use mathlib.Core.List.{List, [], _∷_, _++_, map, List·Memᴰ·cases-cons, List·Memᴰ·not-nil, List·Memᴰ·eq-of-singleton}
+use mathlib.Core.List.{List, [], _∷_, _++_, map, List·Memᴰ, List·Memᴰ·cases-cons, List·Memᴰ·not-nil}
 use mathlib.Core.Option.{some, Option·some-injective}
 use mathlib.Core.Bool.{true}
 use native.Mathlib.Omega.{arith}
@@ -12,7 +12,7 @@ use Rattle.grammar.specs.Tree.{Rule, bodyDepth}
 use Rattle.grammar.specs.Corners.{Corners, rust, textbook}
 use Rattle.language.specs.Shape.{Symbol, tokenSymbol, Word, Shape, callOf, seqs, alts, Shapes, quantified, eraseLeaf, eraseElement}
 use Rattle.language.specs.Shape.{eraseBlock, find}
-use Rattle.language.specs.Derive.{d-eps, d-symbol, d-call, d-seq, d-left, d-right, d-absent, d-present, RuleDerives, isKept}
+use Rattle.language.specs.Derive.{d-eps, d-symbol, d-call, d-seq, d-left, d-right, d-absent, d-present, RuleDerives}
 use Rattle.language.specs.Readings.{Tree, t-eps, t-symbol, t-call, t-seq, t-left, t-right, t-absent, t-present, Choice, first, next, absent}
 use Rattle.language.specs.Readings.{present, choices, yield, treeOf}
 use Rattle.language.specs.Laws.Cover.{but-for-refl}
@@ -27,7 +27,7 @@ use Rattle.language.specs.Laws.Trees.Told.{told-apart, rules-told}
 use Rattle.reference.specs.Substitute.{standard}
 use Rattle.reference.specs.Run.{Stage, ended, eliminateMutualLeftRecursion}
 use Rattle.reference.specs.Computed.{computed}
-use Rattle.laws.specs.Examples.{doubling, doubled}
+use Rattle.laws.specs.Examples.{doublingHub, doubling, doubled}
 use Rattle.laws.specs.Demands.Shape.{SameReadings}
 use Rattle.laws.specs.Demands.Readings.{shapesOf, ReadingsTold, PlanReadings}
 use Rattle.laws.specs.Demands.Run.{rulesOf}
@@ -168,8 +168,8 @@ made-named {L = L} {P = P} h m n = subst₃ (λ H m n. (j : JoinedTrees H m G L 
 
 -- What is paired with a derivation that has such choices.
 module _ {t : Stage} (hub : t .plan .hub ≡ 1) (steps : t .plan .steps ≡ 2) {r : SameReadings (doubling .rules) doubled}
-    (told : PlanReadings (doubling .rules) t doubled r) (k : isKept (doubling .rules) doubled 1 ≡ true) (w : Word)
-    (x : RuleDerives bodyDepth (doubling .rules) 1 w) where
+    (told : PlanReadings (doubling .rules) t doubled r) (m : List·Memᴰ doublingHub (doubling .rules)) (q : Rule) (n : List·Memᴰ q doubled)
+    (e : q .id ≡ 1) (w : Word) (x : RuleDerives bodyDepth (doubling .rules) 1 w) where
   hub-name : 1 ≡ told .plan .hub .name
   hub-name =
       ⊎-elim (λ e. sym (ap (λ r. r .name) e))
@@ -178,32 +178,35 @@ module _ {t : Stage} (hub : t .plan .hub ≡ 1) (steps : t .plan .steps ≡ 2) {
       (λ m. absurd (List·Memᴰ·not-nil m)) (List·Memᴰ·cases-cons m))
       (List·Memᴰ·cases-cons (told .plan .isRule))
 
-  paired : ((choices (treeOf (x .tree)) ≡ gone) → choices (treeOf (r .pairs 1 k w .fun x .tree)) ≡ next ∷ next ∷ first ∷ [])
-      × ((choices (treeOf (x .tree)) ≡ blank) → choices (treeOf (r .pairs 1 k w .fun x .tree)) ≡ next ∷ first ∷ [])
+  abbrev made-of : RuleDerives bodyDepth doubled (q .id) w
+  made-of = r .pairs doublingHub q m n e w .fun x
+
+  paired : ((choices (treeOf (x .tree)) ≡ gone) → choices (treeOf (made-of .tree)) ≡ next ∷ next ∷ first ∷ [])
+      × ((choices (treeOf (x .tree)) ≡ blank) → choices (treeOf (made-of .tree)) ≡ next ∷ first ∷ [])
   unfolding choices
   paired =
-      let y = told .rules 1 k in
+      let y = told .rules doublingHub q m n e in
       let j = told .plan .trees in
-      let name : 1 ≡ y .rule .name = sym (ap (λ r. r .name) (List·Memᴰ·eq-of-singleton (y .isLeft))) in
       let (z, before, after) = y .becomes w x in
-      let m = made-named hub-name (sym steps) name j z in
-      let is : choices (treeOf (r .pairs 1 k w .fun x .tree)) ≡ choices (carry (atCalls j) z) =
-      sym (ap choices (after .isTree)) ∙ ap choices (joined-to j (callOf (y .rule .name)) (y .stays) z)
+      let c = made-named hub-name (sym steps) (sym (y .sameName)) j z in
+      let is : choices (treeOf (made-of .tree)) ≡ choices (carry (atCalls j) z) =
+      sym (ap choices (after .isTree)) ∙ ap choices (joined-to j (callOf (q .name)) (y .stays) z)
       ∙ stay-choices (j .left) (carry (atCalls j) z) (y .stays) in
-      (λ h. is ∙ m .0 (ap choices (before .isTree) ∙ h), λ h. is ∙ m .1 (ap choices (before .isTree) ∙ h))
+      (λ h. is ∙ c .0 (ap choices (before .isTree) ∙ h), λ h. is ∙ c .1 (ap choices (before .isTree) ∙ h))
 
 -- What a run pairs with the two, if the rules that it leaves are these.
 abbrev Pairs : Stage → List Rule → Type 0
 Pairs t ks =
-    (r : SameReadings (doubling .rules) ks) → ReadingsTold (doubling .rules) (t ∷ []) ks r → (k : isKept (doubling .rules) ks 1 ≡ true)
-    → (choices (treeOf (r .pairs 1 k dots .fun without .tree)) ≡ next ∷ next ∷ first ∷ [])
-    × (choices (treeOf (r .pairs 1 k dots .fun empty .tree)) ≡ next ∷ first ∷ [])
+    (r : SameReadings (doubling .rules) ks) → ReadingsTold (doubling .rules) (t ∷ []) ks r
+    → (m : List·Memᴰ doublingHub (doubling .rules)) (q : Rule) (n : List·Memᴰ q ks) (e : q .id ≡ 1)
+    → (choices (treeOf (r .pairs doublingHub q m n e dots .fun without .tree)) ≡ next ∷ next ∷ first ∷ [])
+    × (choices (treeOf (r .pairs doublingHub q m n e dots .fun empty .tree)) ≡ next ∷ first ∷ [])
 
 module _ (corners : Corners) (t : Stage) (hub : t .plan .hub ≡ 1) (steps : t .plan .steps ≡ 2) where
   run-pairs : Pairs t doubled
-  run-pairs r told k =
+  run-pairs r told m q n e =
       let p = plan-readings told in
-      (paired hub steps p k dots without .0 (chosen .0), paired hub steps p k dots empty .1 (chosen .1))
+      (paired hub steps p m q n e dots without .0 (chosen .0), paired hub steps p m q n e dots empty .1 (chosen .1))
 
   readings-of : eliminateMutualLeftRecursion standard corners doubling ≡ ended (t ∷ []) → rulesOf doubling (t ∷ []) ≡ doubled
       → valid doubling ≡ true → TwoReadings corners
@@ -221,8 +224,8 @@ module _ (corners : Corners) (t : Stage) (hub : t .plan .hub ≡ 1) (steps : t .
         noMore = λ x.
             ⊎-map (λ h. rules-told bodyDepth (doubling .rules) 1 dots x without (h ∙ sym (chosen .0)))
             (λ h. rules-told bodyDepth (doubling .rules) 1 dots x empty (h ∙ sym (chosen .1))) (two-derivations x);
-        withoutPaired = λ d k. pairs (d .sameReadings) (d .readingsTold) k .0;
-        emptyPaired = λ d k. pairs (d .sameReadings) (d .readingsTold) k .1;
+        withoutPaired = λ d m q n e. pairs (d .sameReadings) (d .readingsTold) m q n e .0;
+        emptyPaired = λ d m q n e. pairs (d .sameReadings) (d .readingsTold) m q n e .1;
       }
 
 -- By computation of the run, in both readings of left corners.

@@ -121,7 +121,7 @@ copy-block (suc d) as′ c =
 
 -- Of a sort the nodes give the ids.
 module _ (k : ℕ) where
-  abbrev ofSort : Taken
+  abbrev pub ofSort : Taken
   ofSort sort i = only (eqb k sort) i
 
   label-ids : (l : Label) → labelNodes ofSort l ≡ labelIds k l
@@ -157,7 +157,7 @@ module _ (k : ℕ) where
     alternative-ids a =
         ap (λ l. ofSort alternativeSort (a .id) ++ l) (each-same (elementNodes ofSort nodes) (elementIds k ids) element-ids (a .elements))
 
-  block-ids : (d : ℕ) (b : Block d) → blockNodes ofSort d b ≡ blockIds k d b
+  pub block-ids : (d : ℕ) (b : Block d) → blockNodes ofSort d b ≡ blockIds k d b
   unfolding blockNodes blockIds
   block-ids zero b = absurd b
   block-ids (suc d) as′ =

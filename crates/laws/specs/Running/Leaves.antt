@@ -5,7 +5,7 @@ use mathlib.Core.Logic.{⊎-elim, _↔_}
 use mathlib.Core.List.{List, map, List·Memᴰ, Memᴰ·of-map}
 use mathlib.Core.Bool.{true, false, true≢false}
 use Rattle.grammar.specs.Laws.Lists.{member-in, in-map}
-use Rattle.grammar.specs.Tree.{Block, RuleOf, Counters}
+use Rattle.grammar.specs.Tree.{Block, RuleOf, Rule, Counters}
 use Rattle.grammar.specs.Lists.{member, distinct}
 use Rattle.grammar.specs.Corners.{Corners}
 use Rattle.language.specs.Shape.{Word, callOf, eraseBlock, eraseRules, EachCall}
@@ -17,6 +17,7 @@ use Rattle.reference.specs.Analysis.{Grammar, idsOf, grammarOf}
 use Rattle.reference.specs.Plan.{CyclePlan}
 use Rattle.reference.specs.Apply.{applyPlan}
 use Rattle.graph.specs.Members.{one-with}
+use Rattle.laws.specs.Demands.Shape.{Removed}
 use Rattle.laws.specs.Lists.Lookup.{not-in}
 use Rattle.laws.specs.Planning.Substituted.{Known}
 use Rattle.laws.specs.Planning.Calls.{each-call-map, moves-calls}
@@ -29,6 +30,13 @@ use Rattle.laws.specs.Planning.OnePlan.{left-stays, left-closed, left-sa
 pub record Told {B : Type 0} (rs : List (RuleOf B)) : Type 0 where
   pub ids : distinct (idsOf rs) ≡ true
   pub names : distinct (map (λ r. r .name) rs) ≡ true
+
+-- The id of a rule that is removed is no rule's.
+pub no-id : (r : Rule) (after : List Rule) → Removed r after → member (r .id) (idsOf after) ≡ false
+no-id r after h =
+    either (member (r .id) (idsOf after))
+    (λ u. let (q, n, e) = Memᴰ·of-map (λ (r : Rule). r .id) after (member-in (idsOf after) u) in absurd (h q n e))
+    (λ f. f)
 
 -- Rules told apart, and the grammar that is made of them.
 pub known-by : (d : ℕ) (rs : List (RuleOf (Block d))) → Told rs → Known d rs (grammarOf d rs)

@@ -16,7 +16,8 @@ use Rattle.laws.specs.Running.Leaves.{Told, plan-stands}
 use Rattle.laws.specs.Planning.Substituted.{Known}
 use Rattle.laws.specs.Planning.Plans.{Made}
 use Rattle.laws.specs.Planning.OnePlan.{newBody, rulesLeft, applied-rules, hubAfter, hub-id, hub-name, hub-body, hub-in, left-stems}
-use Rattle.laws.specs.Running.Joined.{Recursive, sorts-after, recursive-one, primary-one}
+use Rattle.laws.specs.Running.Joined.{sorts-after, recursive-one, primary-one}
+use Rattle.laws.specs.Planning.Sorts.{Recursive}
 use Rattle.laws.specs.Running.Shrinks.{left-leads, reaches-map}
 use Rattle.laws.specs.Running.Stages.{known, Happened, stage-made}
 

@@ -2,9 +2,9 @@
 use Prim.Native.Nat.{ℕ}
 use mathlib.Core.Path.{_≡_, refl, sym, ap, _∙_, subst}
 use mathlib.Core.List.{List, [], _∷_, Memᴰ·of-map}
-use mathlib.Core.Bool.{Bool, true, false, _&&_, _||_, not, or-true, true≢false}
+use mathlib.Core.Bool.{true, false, _||_, or-true, true≢false}
 use lib.Dec.{eqb}
-use Rattle.grammar.specs.Laws.Lists.{in-member, member-in}
+use Rattle.grammar.specs.Laws.Lists.{in-member, in-map, member-in}
 use Rattle.grammar.specs.Tree.{Rule, Sheet}
 use Rattle.grammar.specs.Lists.{member}
 use Rattle.grammar.specs.Corners.{Corners}
@@ -18,10 +18,6 @@ use Rattle.laws.specs.Planning.OnePlan.{goneIds, rulesLeft, applied-rule
 use Rattle.laws.specs.Running.Leaves.{Told}
 use Rattle.laws.specs.Running.Stages.{rulesAfter, sheet-after, sheet-preserved, known, Happened, Chain, last, next, stage-made}
 use Rattle.laws.specs.Running.Stages.{stage-leaves}
-
-not-both : (a b : Bool) → (a ≡ true → b ≡ true) → (a && not b) ≡ false
-not-both true b h = ap not (h refl)
-not-both false b h = refl
 
 module _ (limits : Limits) (corners : Corners) (preserved : List ℕ) (i : ℕ) (p : member i preserved ≡ true) where
   stage-keeps : {t : Stage} → Told (t .before) → Happened limits corners preserved t → member i (idsOf (t .before)) ≡ true
@@ -62,7 +58,9 @@ preserved-stay limits corners s {ts} k c =
     record {
       kind = same-kind s ts;
       copied = sheet-preserved s ts;
-      stay =
-          λ i p. not-both (member i (idsOf (s .rules))) (member i (idsOf (rulesOf s ts)))
-          (λ m. subst (λ rs. member i (idsOf rs) ≡ true) (sym (sheet-after s ts)) (chain-keeps limits corners (s .preserved) i p k c m));
+      stay = λ r m p.
+          let kept = chain-keeps limits corners (s .preserved) (r .id) p k c (in-member (in-map (λ (r : Rule). r .id) m)) in
+          let there : member (r .id) (idsOf (rulesOf s ts)) ≡ true =
+          subst (λ rs. member (r .id) (idsOf rs) ≡ true) (sym (sheet-after s ts)) kept in
+          Memᴰ·of-map (λ (r : Rule). r .id) (rulesOf s ts) (member-in (idsOf (rulesOf s ts)) there);
     }

@@ -1,23 +1,19 @@
 -- The readings of a run: what each plan pairs, one plan after the other.
 use Prim.Native.Nat.{ℕ}
 use mathlib.Core.Path.{_≡_, refl, sym, ap, _∙_, subst}
-use mathlib.Core.List.{List, [], _∷_, List·Memᴰ, Memᴰ·of-map}
+use mathlib.Core.List.{List, [], _∷_, List·Memᴰ}
 use mathlib.Core.Option.{some}
-use mathlib.Core.Bool.{true}
 use mathlib.Core.Equiv.{Iso, compIso, invIso}
 use Rattle.grammar.specs.Tree.{Rule, bodyDepth}
-use Rattle.grammar.specs.Lists.{member}
 use Rattle.grammar.specs.Corners.{Corners}
-use Rattle.grammar.specs.Laws.Lists.{member-in}
-use Rattle.grammar.specs.Laws.Parse.{right-true}
-use Rattle.language.specs.Shape.{Shape, Word, callOf, eraseBlock, find, bodiesBy}
-use Rattle.language.specs.Derive.{Der, RuleDerives, isKept}
+use Rattle.graph.specs.Members.{one-with}
+use Rattle.language.specs.Shape.{Word, callOf, eraseBlock, find, bodiesBy}
+use Rattle.language.specs.Derive.{Der, RuleDerives}
 use Rattle.language.specs.Readings.{treeOf, Stays}
 use Rattle.language.specs.Laws.Rules.{rule-found}
 use Rattle.language.specs.Laws.Trees.Replace.{Paired, paired-refl, paired-trans}
 use Rattle.language.specs.Laws.Trees.Derivations.{paired-derivations, paired-tree}
 use Rattle.language.specs.Laws.Trees.Rules.{rule-readings, readings-tree, readings-tree-back}
-use Rattle.reference.specs.Analysis.{idsOf}
 use Rattle.reference.specs.Substitute.{Limits}
 use Rattle.reference.specs.Run.{Stage}
 use Rattle.laws.specs.Demands.Shape.{SameReadings}
@@ -73,68 +69,57 @@ module _ (limits : Limits) (corners : Corners) (preserved : List ℕ) where
       )
 
 module _ {rs ks : List Rule} {ts : List Stage} (told : Told rs) (l : Leaves bodyDepth rs ks) (c : ChainTrees rs ts ks) where
-  -- A rule left, by its id and by its name, before and after.
-  module _ (i : ℕ) (q : Rule) (m : List·Memᴰ q ks) (e : q .id ≡ i) where
-    abbrev old : Shape
-    old = eraseBlock bodyDepth (l .stems q m .0 .body)
+  -- A rule that is kept, by its id and by its name, before and after.
+  module _ (r q : Rule) (m : List·Memᴰ r rs) (n : List·Memᴰ q ks) (e : q .id ≡ r .id) where
+    same-name : q .name ≡ r .name
+    same-name =
+        let (stem, there, id, name) = l .stems q n in
+        name ∙ ap (λ r. r .name) (one-with (λ r. r .id) rs (told .ids) there m (sym id ∙ e))
 
-    id-before : find (bodiesBy bodyDepth (λ r. r .id) rs) i ≡ some old
-    id-before =
-        let (r, n, id, name) = l .stems q m in
-        subst (λ j. find (bodiesBy bodyDepth (λ r. r .id) rs) j ≡ some old) (sym id ∙ e)
-        (rule-found bodyDepth (λ r. r .id) rs (told .ids) n)
-
-    name-before : find (shapesOf rs) (q .name) ≡ some old
+    name-before : find (shapesOf rs) (q .name) ≡ some (eraseBlock bodyDepth (r .body))
     name-before =
-        let (r, n, id, name) = l .stems q m in
-        subst (λ j. find (shapesOf rs) j ≡ some old) (sym name) (rule-found bodyDepth (λ r. r .name) rs (told .names) n)
+        subst (λ j. find (shapesOf rs) j ≡ some (eraseBlock bodyDepth (r .body))) (sym same-name)
+        (rule-found bodyDepth (λ r. r .name) rs (told .names) m)
 
-    id-after : find (bodiesBy bodyDepth (λ r. r .id) ks) i ≡ some (eraseBlock bodyDepth (q .body))
-    id-after =
-        subst (λ j. find (bodiesBy bodyDepth (λ r. r .id) ks) j ≡ some (eraseBlock bodyDepth (q .body))) e
-        (rule-found bodyDepth (λ r. r .id) ks (l .told .ids) m)
+    id-before : find (bodiesBy bodyDepth (λ r. r .id) rs) (r .id) ≡ some (eraseBlock bodyDepth (r .body))
+    id-before = rule-found bodyDepth (λ r. r .id) rs (told .ids) m
+
+    id-after : find (bodiesBy bodyDepth (λ r. r .id) ks) (q .id) ≡ some (eraseBlock bodyDepth (q .body))
+    id-after = rule-found bodyDepth (λ r. r .id) ks (l .told .ids) n
 
     name-after : find (shapesOf ks) (q .name) ≡ some (eraseBlock bodyDepth (q .body))
-    name-after = rule-found bodyDepth (λ r. r .name) ks (l .told .names) m
+    name-after = rule-found bodyDepth (λ r. r .name) ks (l .told .names) n
 
-    before : (w : Word) → Iso (RuleDerives bodyDepth rs i w) (Der (shapesOf rs) (callOf (q .name)) w)
-    before = rule-readings bodyDepth rs i (q .name) id-before name-before
+    before : (w : Word) → Iso (RuleDerives bodyDepth rs (r .id) w) (Der (shapesOf rs) (callOf (q .name)) w)
+    before = rule-readings bodyDepth rs (r .id) (q .name) id-before name-before
 
-    after : (w : Word) → Iso (RuleDerives bodyDepth ks i w) (Der (shapesOf ks) (callOf (q .name)) w)
-    after = rule-readings bodyDepth ks i (q .name) id-after name-after
+    after : (w : Word) → Iso (RuleDerives bodyDepth ks (q .id) w) (Der (shapesOf ks) (callOf (q .name)) w)
+    after = rule-readings bodyDepth ks (q .id) (q .name) id-after name-after
 
     abbrev trees : Paired (shapesOf rs) (callOf (q .name)) (shapesOf ks) (callOf (q .name))
-    trees = over (c .0) (q .name) (c .1 q m)
+    trees = over (c .0) (q .name) (c .1 q n)
 
     -- Its derivations pair off as the trees of its call do.
-    pairs : (w : Word) → Iso (RuleDerives bodyDepth rs i w) (RuleDerives bodyDepth ks i w)
+    pairs : (w : Word) → Iso (RuleDerives bodyDepth rs (r .id) w) (RuleDerives bodyDepth ks (q .id) w)
     pairs w = compIso (before w) (compIso (paired-derivations trees w) (invIso (after w)))
 
-    pairs-told : RuleTold rs ks (StaysOver (c .0)) (over (c .0)) i pairs
+    pairs-told : RuleTold rs ks (StaysOver (c .0)) (over (c .0)) r q pairs
     unfolding compIso pairs before after
     pairs-told =
         record {
-          rule = q;
-          isLeft = m;
-          isRule = e;
-          stays = c .1 q m;
+          sameName = same-name;
+          stays = c .1 q n;
           becomes = λ w x.
               let d : Der (shapesOf rs) (callOf (q .name)) w = before w .fun x in
-              let y = readings-tree-back bodyDepth ks i (q .name) id-after name-after w (paired-derivations trees w .fun d) in (
+              let y = readings-tree-back bodyDepth ks (q .id) (q .name) id-after name-after w (paired-derivations trees w .fun d) in (
                 treeOf d,
-                readings-tree bodyDepth rs i (q .name) id-before name-before w x,
+                readings-tree bodyDepth rs (r .id) (q .name) id-before name-before w x,
                 record { found = y .found; isTree = sym (paired-tree trees w d) ∙ y .isTree },
               );
         }
 
   leaves-read : Read rs ts ks
-  leaves-read = (
-    record { pairs = λ i k. let (q, m, e) = left i k in pairs i q m e },
-    record { plans = c .0; rules = λ i k. let (q, m, e) = left i k in pairs-told i q m e },
-  )
-    where
-      left : (i : ℕ) → isKept rs ks i ≡ true → (q : Rule) × List·Memᴰ q ks × (q .id ≡ i)
-      left i k = Memᴰ·of-map (λ r. r .id) ks (member-in (idsOf ks) (right-true (member i (idsOf rs)) (member i (idsOf ks)) k))
+  leaves-read = (record { pairs = pairs }, record { plans = c .0; rules = pairs-told })
 
 -- Of a chain of stages.
 pub chain-read : (limits : Limits) (corners : Corners) (preserved : List ℕ) {rs : List Rule} {ts : List Stage} → Told rs
@@ -143,22 +128,18 @@ chain-read limits corners preserved told c =
     leaves-read told (chain-leaves limits corners preserved told c) (chain-trees limits corners preserved told c)
 
 -- Over one stage it is what its plan pairs.
-pub plan-readings : {rs ks : List Rule} {t : Stage} {r : SameReadings rs ks} → ReadingsTold rs (t ∷ []) ks r → PlanReadings rs t ks r
+pub plan-readings : {rs ks : List Rule} {t : Stage} {s : SameReadings rs ks} → ReadingsTold rs (t ∷ []) ks s → PlanReadings rs t ks s
 unfolding StaysOver over paired-trans paired-refl
-plan-readings {rs} {ks} {t} {r} x = go (x .plans) (x .rules)
+plan-readings {rs} {ks} {t} {s} x = go (x .plans) (x .rules)
   where
     go : {ls : List Rule} {s : SameReadings rs ls} (ps : Plans rs (t ∷ []) ls)
-        → ((i : ℕ) (k : isKept rs ls i ≡ true) → RuleTold rs ls (StaysOver ps) (over ps) i (s .pairs i k)) → PlanReadings rs t ls s
+        → ((r q : Rule) (m : List·Memᴰ r rs) (n : List·Memᴰ q ls) (e : q .id ≡ r .id)
+        → RuleTold rs ls (StaysOver ps) (over ps) r q (s .pairs r q m n e))
+        → PlanReadings rs t ls s
     go (next p none) rules =
         record {
           plan = p;
-          rules = λ i k.
-              let y = rules i k in
-              record {
-                rule = y .rule;
-                isLeft = y .isLeft;
-                isRule = y .isRule;
-                stays = y .stays .0;
-                becomes = y .becomes;
-              };
+          rules = λ r q m n e.
+              let y = rules r q m n e in
+              record { sameName = y .sameName; stays = y .stays .0; becomes = y .becomes };
         }

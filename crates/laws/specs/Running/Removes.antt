@@ -18,7 +18,9 @@ use Rattle.reference.specs.Substitute.{Limits}
 use Rattle.reference.specs.Plan.{callsKept}
 use Rattle.reference.specs.Apply.{withBody}
 use Rattle.reference.specs.Run.{innerDepth, Stage}
+use Rattle.laws.specs.Demands.Shape.{Calls}
 use Rattle.laws.specs.Demands.Applied.{RemovesMost}
+use Rattle.laws.specs.Derivation.Called.{called-each}
 use Rattle.grammar.specs.Laws.Lists.{member-in}
 use Rattle.graph.specs.Members.{in-keep, keep-in, each-in}
 use Rattle.laws.specs.Lists.Lookup.{not-in, target-name}
@@ -153,5 +155,9 @@ module _ (limits : Limits) (corners : Corners) (preserved : List ℕ) {t : Stage
         noneLeft = λ set s u r m.
             let e = stage-rules limits corners preserved told h in
             let back : (q : Rule) → List·Memᴰ q after → List·Memᴰ q (t .after .node) = λ q n. subst (List·Memᴰ q) e n in
-            none-left set s (λ q n f p k y. u q (back q n) f p (back p k) y) r (subst (List·Memᴰ r) (sym e) m);
+            let none : (q : Rule) → List·Memᴰ q after → member (q .id) set ≡ false → (p : Rule) → List·Memᴰ p after
+            → member (p .id) set ≡ true → EachCall (λ n. n ≡ p .name → ⊥) (eraseBlock bodyDepth (q .body)) =
+            λ q n f p k y. called-each (λ n. n ≡ p .name → ⊥) innerDepth (q .body)
+            (λ i c w. u q (back q n) f p (back p k) y (subst (Calls innerDepth (q .body)) w c)) in
+            none-left set s none r (subst (List·Memᴰ r) (sym e) m);
       }

@@ -2,14 +2,14 @@
 use Prim.Native.Nat.{ℕ}
 use mathlib.Core.Path.{_≡_, refl, sym, ap, _∙_, subst}
 use mathlib.Core.List.{List, [], map, List·Memᴰ, List·Memᴰ·head, List·Memᴰ·tail, Memᴰ·of-map, Sublistᴰ, Sublistᴰ·refl, Sublistᴰ·trans}
-use mathlib.Core.Bool.{Bool, true, false, _&&_, _||_, not, true≢false}
+use mathlib.Core.Bool.{Bool, true, false, _||_, not, true≢false}
 use lib.Dec.{eqb}
-use borrow.Author.Tests.{eq-eqb, not-true}
+use borrow.Author.Tests.{eq-eqb}
 use Rattle.grammar.specs.Laws.Lists.{in-member, member-in, in-map}
 use Rattle.grammar.specs.Lists.{member}
 use Rattle.grammar.specs.Tree.{Rule, Sheet, withRuleBody}
 use Rattle.grammar.specs.Corners.{Corners}
-use Rattle.grammar.specs.Laws.Parse.{either, right-true}
+use Rattle.grammar.specs.Laws.Parse.{either}
 use Rattle.language.specs.Laws.Copies.{map-unseen}
 use Rattle.reference.specs.Analysis.{idsOf}
 use Rattle.reference.specs.Substitute.{Limits}
@@ -21,7 +21,7 @@ use Rattle.laws.specs.Lists.Lookup.{not-in}
 use Rattle.laws.specs.Planning.Bodied.{body-aside}
 use Rattle.laws.specs.Planning.Removed.{removable-satellite}
 use Rattle.laws.specs.Planning.OnePlan.{newBody, goneIds, left-in}
-use Rattle.laws.specs.Running.Leaves.{Told}
+use Rattle.laws.specs.Running.Leaves.{Told, no-id}
 use Rattle.laws.specs.Running.Stages.{rulesAfter, sheet-after, Happened, Chain, last, next, stage-leaves}
 use Rattle.laws.specs.Running.OneStage.{made, names, left, stage-rules, stage-stands}
 
@@ -110,11 +110,6 @@ module _ (limits : Limits) (corners : Corners) (preserved : List ℕ) where
       f in (v, List·Memᴰ·tail n, x, y))
       (λ u. let (x, y) = stage-takes b h i (subst (λ rs. List·Memᴰ i (idsOf rs)) (sym e) m) u in (t, List·Memᴰ·head refl, x, y))
 
-not-removed : (a b : Bool) → a ≡ true → (a && not b) ≡ false → b ≡ true
-not-removed true true e f = refl
-not-removed true false e f = absurd (true≢false f)
-not-removed false b e f = absurd (true≢false (sym e))
-
 pub rules-stay : (limits : Limits) (corners : Corners) (s : Sheet) {ts : List Stage} → Told (s .rules)
     → Chain limits corners (s .preserved) (s .rules) ts → RulesStay s ts
 unfolding Taken
@@ -122,11 +117,7 @@ rules-stay limits corners s {ts} k c =
     let after = sheetAfter s ts .rules in
     let e = sheet-after s ts in
     record {
-      untouched = λ r m f g.
-          let there =
-          not-removed (member (r .id) (idsOf (s .rules))) (member (r .id) (idsOf after)) (in-member (in-map (λ (r : Rule). r .id) m))
-          f in
-          let (q, n, w) = Memᴰ·of-map (λ (r : Rule). r .id) after (member-in (idsOf after) there) in
+      untouched = λ r q m n w g.
           let was =
           chain-stands limits corners (s .preserved) k c q (subst (List·Memᴰ q) e n)
           (ap (λ i. member i (map (λ t. t .plan .hub) ts)) w ∙ g) in
@@ -136,6 +127,5 @@ rules-stay limits corners s {ts} k c =
           (chain-order limits corners (s .preserved) k c);
       removed = λ r m f.
           chain-takes limits corners (s .preserved) k c (r .id) (in-map (λ (r : Rule). r .id) m)
-          (ap (λ rs. member (r .id) (idsOf rs)) (sym e)
-          ∙ not-true (member (r .id) (idsOf after)) (right-true (member (r .id) (idsOf (s .rules))) _ f));
+          (ap (λ rs. member (r .id) (idsOf rs)) (sym e) ∙ no-id r after f);
     }

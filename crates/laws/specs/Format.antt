@@ -1,0 +1,2 @@
+-- The format of a sheet, as Demands tells it.
+pub mod Told
