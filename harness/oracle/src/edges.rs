@@ -4,6 +4,8 @@
 //! Where a planned list must not end in a long result, an alternative with nothing significant in it
 //! stands first: the list is full, and the cycle is then declined as not directly rewritable.
 
+use crate::reasons::reasons;
+
 /// A name and a grammar in the notation.
 pub type Edge = (String, String);
 
@@ -21,15 +23,16 @@ pub fn edges() -> Vec<Edge> {
         single_points(),
         [34, 35].map(result_near_nine).into(),
         results_too_long(),
+        reasons(),
     ];
     parts.into_iter().flatten().collect()
 }
 
-fn edge(name: &str, grammar: &str) -> Edge {
+pub(crate) fn edge(name: &str, grammar: &str) -> Edge {
     (name.to_owned(), grammar.to_owned())
 }
 
-fn repeat(many: usize, part: &str, between: &str) -> String {
+pub(crate) fn repeat(many: usize, part: &str, between: &str) -> String {
     vec![part; many].join(between)
 }
 

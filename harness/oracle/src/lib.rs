@@ -8,6 +8,7 @@
 pub mod book;
 pub mod edges;
 pub mod examples;
+mod reasons;
 pub mod text;
 pub mod written;
 

@@ -112,6 +112,27 @@ fn every_limit_is_met_from_both_sides() {
 }
 
 #[test]
+fn large_names_splices_and_lists_are_joined_and_declined() {
+    for clause in [5, 7, 8, 9] {
+        let met = |_: &Sheet, done: &Done| done.declined.iter().any(|one| one.clause == clause);
+        assert!(how_many("far-names", met) >= 5, "clause {clause}");
+    }
+    let joined = |_: &Sheet, done: &Done| done.plans() > 0;
+    assert!(how_many("far-names", joined) >= 30);
+    let long = |sheet: &Sheet, done: &Done| {
+        let mut alternatives = sheet.rules.iter().flat_map(|rule| &rule.alternatives);
+        done.plans() > 0 && alternatives.any(|one| one.elements.len() >= 60)
+    };
+    assert!(how_many("long-splice", long) >= 30);
+    let declined = |_: &Sheet, done: &Done| !done.declined.is_empty();
+    assert!(how_many("long-splice", declined) >= 30);
+    let lists = |sheet: &Sheet, done: &Done| {
+        done.plans() > 0 && sheet.rules.iter().any(|rule| rule.alternatives.len() >= 62)
+    };
+    assert!(how_many("long-list", lists) >= 30);
+}
+
+#[test]
 fn satellites_are_kept_and_removed_for_each_reason() {
     let kept = |sheet: &Sheet, done: &Done| {
         done.plans() > 0 && done.result.rules.len() == sheet.rules.len()

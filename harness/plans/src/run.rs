@@ -34,8 +34,8 @@ pub fn sheet(seed: u64, index: u64) -> Vec<u8> {
 fn profile(random: &mut Random) -> Vec<u8> {
     loop {
         let profile = &generate::PROFILES[random.below(generate::PROFILES.len())];
-        let about_planning = !profile.about_limits || profile.name == "near-7";
-        if about_planning || random.once_in(4) {
+        let about_applying = ["near-8", "near-9", "just-9"].contains(&profile.name);
+        if !about_applying || random.once_in(4) {
             return generate::bytes(profile.name, random.draw()).expect("a name of the list");
         }
     }

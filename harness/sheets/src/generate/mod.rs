@@ -3,6 +3,7 @@
 mod binding;
 mod damage;
 mod draft;
+mod far;
 mod fold;
 mod limits;
 mod number;
@@ -28,7 +29,7 @@ enum Make {
 
 pub struct Profile {
     pub name: &'static str,
-    /// Whether its sheets are about refusals 7 to 9; some are large.
+    /// Whether its sheets are about refusals 7 to 9, or about large names, splices and lists; some are large.
     pub about_limits: bool,
     make: Make,
 }
@@ -57,7 +58,7 @@ const fn limit(name: &'static str, make: fn(&mut Rng) -> Sheet) -> Profile {
     }
 }
 
-pub const PROFILES: [Profile; 32] = [
+pub const PROFILES: [Profile; 35] = [
     cycle("plain", |_, _| {}),
     cycle("several", twist::several),
     cycle("nullable-front", twist::nullable_front),
@@ -90,6 +91,9 @@ pub const PROFILES: [Profile; 32] = [
     limit("near-8", limits::near_eight),
     limit("near-9", limits::near_nine),
     limit("just-9", limits::just_nine),
+    limit("far-names", far::far_names),
+    limit("long-splice", far::long_splice),
+    limit("long-list", far::long_list),
 ];
 
 /// The name of faulty bytes, which are no profile: they are no sheets.
