@@ -41,7 +41,8 @@ class Definitions(Room):
         self.kept = {top: self.warm(top, crates.reached(top)) for top in self.tops}
 
     def copy(self, name):
-        if name in self.defined:
+        # the laws of a crate that has a folder of them are used by those above
+        if name in self.defined and not (self.crates.folder / name / 'specs/Laws').is_dir():
             copy_definitions(self.crates.folder / name, self.place / 'crates' / name)
         else:
             super().copy(name)

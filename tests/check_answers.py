@@ -10,14 +10,15 @@ the same clause for it (10). Of a long result (claims.LONG) origins and clauses 
 of more than claims.READ bytes is not handed to `read`, which takes time by the square of a sheet's
 length: a quick reader makes its tree, which must encode to the sheet's words.
 
-Where a folder is given, `outcome` is computed too, for the calls in answers/calls.py (3): the five
-numbers and every byte of the three buffers, which are not zero at entry, and are as long as they
-must be, longer, or a byte short. A call takes a second, for the length of its buffers; so not every
-answer has one, but every refusal, sheets joined and left, each line that a length draws, and either
-reading of left corners (14). Runs are compared too (18, answers/laws.py): the definition has nothing to do on a result of the
-original, and the starred grammars have the same answer with other names and with other carried numbers. With --outcome calls alone are computed, two for each answer: with buffers
-longer than they must be, and with one of them a byte short; of a sheet of over calls.MOST bytes the
-second alone.
+Where a folder is given, the short sheets of tests/reading are read too (3.9), and `outcome` is computed,
+for the calls in answers/calls.py (3): the five numbers and every byte of the three buffers, which are
+not zero at entry, and are as long as they must be, longer, or a byte short. A call takes a second, for
+the length of its buffers; so not every answer has one, but every refusal, sheets joined and left, each
+line that a length draws, and either reading of left corners (14). Runs are compared too (18,
+answers/laws.py): the definition has nothing to do on a result of the original, and the starred grammars
+have the same answer with other names and with other carried numbers. With --outcome calls alone are
+computed, two for each answer: with buffers longer than they must be, and with one of them a byte short;
+of a sheet of over calls.MOST bytes the second alone.
 
 No other is left out: the exit status is 1 where an answer disagrees, and where the checker cannot compute
 one within its limits. Standard error tells how far it is.
@@ -33,22 +34,25 @@ from threading import Thread
 from answers.calls import Call, calls, calls_of_each
 from answers.definitions import copy_definitions
 from answers.laws import compared
+from answers.readings import readings
 from answers.room import Room
 from answers.stored import gather, read_file
 
 __all__ = ['Room', 'all_asked', 'check', 'copy_definitions', 'differing', 'gather', 'read_file']
 
+READING = Path(__file__).resolve().parent / 'reading'
 WORK = 25000   # of a batch: about the bytes of its sheets
 BEAT = 10      # seconds between two lines that tell how far it is
 
 
 def all_asked(paths, pattern='', outcome=False):
-    """The answers in files and folders, and where there is a folder the calls, whose names fit; or the calls of each answer."""
+    """The answers in files and folders, and where there is a folder the calls and the short sheets of tests/reading, whose names
+    fit; or the calls of each answer."""
     asked = gather(paths)
     if outcome:
         asked = list(calls_of_each(asked))
     elif any(Path(path).is_dir() for path in paths):
-        asked += calls(asked) + compared(asked)
+        asked += [*calls(asked), *compared(asked), *readings(READING)]
     return [one for one in asked if re.search(pattern, one.name)]
 
 

@@ -4,7 +4,10 @@
     refused: CRATE      where the prover must refuse it: the edited crate; or CRATE/MODULE, the module of specs at which a
                         crate of laws above it is refused first; `answers` where no law speaks of it, and the stored
                         answer alone does
-    shown: NAME         what is answered otherwise: a stored answer of the harness, or for code a sheet of tests/reading
+    shown: NAME         what is answered otherwise: a stored answer of the harness, or for code a sheet of tests/reading, which
+                        is `reading: NAME` for a definition; or `string NAME`, a field of `StringsTold`, for what a grammar
+                        derives (derived.py)
+    tree: TERM          where that string is not derived, the tree by which the edited definitions derive it
     when: asked         where the gate need not try it: another edit is much like it
     file: FILE          of the crate; then pairs of
     old: TEXT           which stands there once; a text of more lines has an `old:` for each
@@ -21,7 +24,7 @@ ASKED = 'asked'
 class Edit:
     def __init__(self, path):
         self.path, self.crate, self.name = path, path.parent.name, path.stem
-        self.what = self.refused = self.module = self.shown = self.when = ''
+        self.what = self.refused = self.module = self.shown = self.tree = self.when = ''
         self.pairs, file, before = [], '', None
         for line in path.read_text(encoding='utf-8').splitlines():
             key, _, rest = line.partition(' ')
@@ -31,6 +34,8 @@ class Edit:
                 self.refused, _, self.module = rest.partition('/')
             elif key == 'shown:':
                 self.shown = rest
+            elif key == 'tree:':
+                self.tree = rest
             elif key == 'when:':
                 self.when = rest
             elif key == 'file:':

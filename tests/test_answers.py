@@ -1,13 +1,17 @@
 #!/usr/bin/env python3
-"""Shows check_answers.py telling how far it is, and which words of a sheet are names and carried numbers."""
+"""Shows check_answers.py telling how far it is, which words of a sheet are names and carried numbers, and what is asked of the sheets of
+tests/reading."""
 
 import io
+import pathlib
+import tempfile
 import unittest
 import unittest.mock
 
 import check_answers
 from answers import laws
-from answers.claims import claim
+from answers.claims import READ, claim
+from answers.readings import readings
 
 # %preserve 7; a rule with an option, a label, an action, a call, a kind 5 and a block in it, whose words are numbered by what they are:
 # names from 500, carried numbers from 900, all else below.
@@ -81,6 +85,28 @@ class Progress(unittest.TestCase):
 
     def test_nothing_until_the_time_has_come(self):
         self.assertEqual(self.told(60), '')
+
+
+class Readings(unittest.TestCase):
+    def asked(self, words, expected):
+        with tempfile.TemporaryDirectory() as folder:
+            path = pathlib.Path(folder) / 'one.words'
+            path.write_text(words, encoding='utf-8')
+            path.with_suffix('.expected').write_text(expected, encoding='utf-8')
+            return list(readings(pathlib.Path(folder)))
+
+    def test_numbers_of_nodes(self):
+        one, = self.asked('trailer 2 0 0 0 0 0 0\n', 'sheet 0 0 0 0\n')
+        self.assertEqual(one.name, 'reading: one')
+        self.assertIn('counted (bytes (2 ∷ 0 ∷ 0 ∷ 0 ∷ 0 ∷ 0 ∷ 0 ∷ 0 ∷\n      []))\n  ≡ 0 ∷ 0 ∷ 0 ∷ 0 ∷', claim(0, one))
+
+    def test_a_refusal(self):
+        one, = self.asked('trailer 4 0 0 0 0 0 0\n', 'refused 3\n')
+        self.assertEqual(one.told, [3])
+        self.assertIn('≡ false', claim(0, one, differs=True))
+
+    def test_long_ones_are_left_out(self):
+        self.assertEqual(self.asked(f'repeat {READ} i\n0\nend\ntrailer 2 0 0 0 0 0 0\n', 'refused 4\n'), [])
 
 
 if __name__ == '__main__':

@@ -4,11 +4,12 @@
     wrong.py [options] [NAME...]
 
 Each edit of tests/wrong (its form is in edits.py) is tried on copies of the crates. An edited definition is computed on
-the stored answer, or the call of `outcome`, that the edit names, as check_answers.py does; edited code is run, unproved,
-on the sheet that it names, by the program in tests/wrong/driver.txt, or that in pass.txt where the sheet is named for the
-whole pass. What comes out must differ from what the unedited one gives, and the prover must refuse the edit: edited code in
-its crate, an edited definition at the module of laws that the edit names, which is checked with what it uses alone. An edit
-that is accepted, that is refused at another module, or that answers as before, fails.
+the stored answer, the call of `outcome` or the sheet of tests/reading that the edit names, as check_answers.py does, or
+shown wrong by a string that a grammar derives or does not (derived.py); edited code is run, unproved, on the sheet that it
+names, by the program in tests/wrong/driver.txt, or that in pass.txt where the sheet is named for the whole pass. What comes
+out must differ from what the unedited one gives, and the prover must refuse the edit: edited code in its crate, an edited
+definition at the module of laws that the edit names, which is checked with what it uses alone. An edit that is accepted,
+that is refused at another module, or that answers as before, fails.
 
 The edits of tests/equal are definitions written otherwise, with the same answers. The prover refuses them too, so each
 must be found to answer as before: a refusal alone shows nothing wrong.
@@ -30,6 +31,7 @@ import check_answers
 import edits
 import words
 from benches import Definitions, Programs
+from derived import STRING, Derivations, strings
 
 HERE = Path(__file__).resolve().parent
 DEFINITIONS, PROGRAMS = 'definitions', 'programs'
@@ -37,14 +39,16 @@ ASKED = {'plan': ('driver', b'p'), 'pass': ('pass', b'')}   # the program and it
 
 
 class Named:
-    """What `shown:` may name: stored answers and calls of `outcome` for definitions, sheets of tests/reading for code."""
+    """What `shown:` may name: for definitions stored answers, calls of `outcome`, runs that are compared, short sheets of
+    tests/reading and strings; for code sheets of tests/reading."""
 
-    def __init__(self, answers):
+    def __init__(self, answers, crates=None):
+        self.strings = strings(crates) if crates else {}
         self.answers = {short(asked.name): asked for asked in check_answers.all_asked(answers)}
         self.sheets = {path.stem: path for path in (HERE / 'reading').glob('*.words')}
 
     def of(self, edit):
-        return self.sheets if edit.is_code() else self.answers
+        return self.sheets if edit.is_code() else self.strings if edit.shown.startswith(STRING) else self.answers
 
     def sheet(self, name):
         """What the program is asked: a letter, for plans where the sheet is named for them, and the sheet."""
@@ -59,7 +63,7 @@ class Named:
 
 
 def short(name):
-    """An answer is named without its file; a call, and a run that is compared, with the word in front."""
+    """An answer is named without its file; a call, a run that is compared and a sheet of tests/reading with the word in front."""
     return name.partition(': ')[2] if name.partition(': ')[0].endswith('.txt') else name
 
 
@@ -68,7 +72,7 @@ class Lane:
 
     def __init__(self, place, trial):
         self.place, self.trial = place, trial
-        self.definitions, self.programs = None, {}
+        self.definitions, self.derivations, self.programs = None, None, {}
 
     def tried(self, unit):
         trial, program = self.trial, self.trial.named.program(unit[0])
@@ -79,7 +83,10 @@ class Lane:
                 self.programs[program] = Programs(self.place / program, trial.crates, code, trial.built, driver)
             room = self.programs[program]
             return room.tried(unit, trial.named.sheet, trial.printed(room, program, code), trial.linked)
-        defined = [edit for edit in trial.asked if not edit.is_code()]
+        if unit[0].shown.startswith(STRING):
+            self.derivations = self.derivations or Derivations(self.place / 'derivations', trial.crates, trial.built)
+            return self.derivations.tried(unit, trial.named.strings)
+        defined = [edit for edit in trial.asked if not (edit.is_code() or edit.shown.startswith(STRING))]
         self.definitions = self.definitions or Definitions(self.place / 'definitions', trial.crates, defined, trial.built)
         return [(edit, differs, trial.by_gate(edit) or where, why)
                 for edit, differs, where, why in self.definitions.tried(unit, trial.named.answers)]
@@ -110,7 +117,8 @@ class Trial:
         """Edits of code by their crate and program, since they take longer, then definitions; the large units first."""
         found = {}
         for edit in self.asked:
-            found.setdefault((self.named.program(edit), edit.crate, edit.refused, edit.module), []).append(edit)
+            key = self.named.program(edit), edit.crate, edit.refused, edit.module, edit.shown.startswith(STRING)
+            found.setdefault(key, []).append(edit)
         return sorted(found.values(), key=lambda unit: (unit[0].is_code(), len(unit)), reverse=True)
 
     def of(self, unit):
@@ -196,7 +204,8 @@ def fitting(given, crates, named):
 
 def main():
     given = arguments()
-    crates, named = edits.Crates(given.crates.resolve()), Named([given.answers])
+    crates = edits.Crates(given.crates.resolve())
+    named = Named([given.answers], crates.folder)
     wrong, equal = fitting(given, crates, named)
     if given.fits or not wrong + equal:
         print(f'{len(wrong)} edits fit, and {len(equal)} equal ones')
