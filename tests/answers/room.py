@@ -11,9 +11,9 @@ from answers.definitions import copy_definitions, crates_of, imports, opened
 HEAD = Path(__file__).with_name('head.txt')
 # what the head takes from the crates
 NAMES = '''OptionDecl ElementHead Leaf Element leaf block AlternativeOf Block Rule bodyDepth Sheet got bad labelOf leafAt
-    bytes encode sheetOf rulesEnd read refused sheet bodyIds same Corners rust textbook grammarOf leftCornerCycles clauseNumber decided declined overfull
-    standard planCycle Node Origin Entry provenance origins innerDepth Answer refusal answer answerReading answerTo Outcome
-    outcome'''.split()
+    bytes encode sheetOf rulesEnd read refused sheet bodyIds same Corners rust textbook grammarOf leftCornerCycles
+    clauseNumber decided declined overfull standard planCycle Node Origin Entry provenance origins innerDepth Answer
+    refusal answer answerReading answerTo Outcome outcome'''.split()
 # what the checker says where it ends for its own limits
 STOPS = ('stopped at the step limit', 'outgrew the memory limit')
 
