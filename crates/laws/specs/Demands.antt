@@ -32,3 +32,4 @@ pub mod WordSorts
 pub mod Sameness
 pub mod Examples
 pub mod Theorems
+pub mod Met

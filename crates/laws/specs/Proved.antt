@@ -14,3 +14,4 @@ pub mod Refusals
 pub mod Table
 pub mod Kept
 pub mod All
+pub mod Met

@@ -1,0 +1,182 @@
+-- The cases of Demands.Met: the sheet `returning` of Examples in both readings, a unit of a lexer without rules, and no bytes.
+use Prim.Native.Nat.{ℕ, zero, suc}
+use mathlib.Core.Path.{_≡_, refl, sym, ap, _∙_, subst}
+use mathlib.Core.List.{List, [], _∷_, append-nil, List·Memᴰ, List·Memᴰ·head, List·Memᴰ·not-nil}
+use mathlib.Core.Option.{some}
+use mathlib.Core.Bool.{true}
+use native.Mathlib.Omega.{arith}
+use lib.ListN.{length, replicate, length-replicate}
+use Rattle.grammar.specs.Lists.{each}
+use Rattle.grammar.specs.Numbers.{lexer, parser, once, resultBytes, trailBytes, workBytes}
+use Rattle.grammar.specs.Tree.{unlabelled, Rule, bodyDepth, Sheet}
+use Rattle.grammar.specs.Words.{bytes}
+use Rattle.grammar.specs.Encode.{encode}
+use Rattle.grammar.specs.Valid.{valid, fits}
+use Rattle.grammar.specs.Reading.{sheet, read}
+use Rattle.grammar.specs.Corners.{Corners, rust, textbook}
+use Rattle.grammar.specs.Laws.Words.{AreBytes}
+use Rattle.grammar.specs.Laws.Codec.{reads-back}
+use Rattle.reference.specs.Substitute.{standard}
+use Rattle.reference.specs.Analysis.{grammarOf, target}
+use Rattle.reference.specs.Run.{Stage, eliminateMutualLeftRecursion, sheetAfter, stepsOf, encodeEntry, entriesOf}
+use Rattle.reference.specs.Run.{answer, refusal, answerRun, answerReading, answerTo, Outcome, outcome}
+use Rattle.reference.specs.Computed.{computed}
+use Rattle.reference.specs.Written.{counted}
+use Rattle.laws.specs.Examples.{returning}
+use Rattle.laws.specs.Demands.Shape.{NoOptionalSymbol}
+use Rattle.laws.specs.Demands.Run.{rulesOf}
+use Rattle.laws.specs.Demands.Table.{Lent}
+use Rattle.laws.specs.Demands.Theorems.{Ends}
+use Rattle.laws.specs.Demands.Met.{Met}
+use Rattle.laws.specs.BothReadings.Sheets.{stagesOf, nullable-hub-returns}
+use Rattle.laws.specs.Proved.Kept.{every-call}
+
+abbrev stagesBy : Corners → List Stage
+stagesBy c = stagesOf (eliminateMutualLeftRecursion standard c returning)
+
+valid-returning : valid returning ≡ true
+valid-returning = nullable-hub-returns rust .isValid
+
+fits-returning : fits returning ≡ true
+unfolding computed
+fits-returning = refl
+
+ends-rust : Ends standard rust returning (stagesBy rust)
+unfolding computed
+ends-rust = (valid-returning, refl)
+
+ends-textbook : Ends standard textbook returning (stagesBy textbook)
+unfolding computed
+ends-textbook = (valid-returning, refl)
+
+one-rust : (t : Stage) × (t ∷ [] ≡ stagesBy rust)
+unfolding computed
+one-rust = (_, refl)
+
+one-textbook : (t : Stage) × (t ∷ [] ≡ stagesBy textbook)
+unfolding computed
+one-textbook = (_, refl)
+
+joined : (t : Stage) × List·Memᴰ t (stagesBy rust) × (q : Rule) × List·Memᴰ q (rulesOf returning (stagesBy rust)) × (q .id ≡ t .plan .hub)
+unfolding computed
+joined = (_, List·Memᴰ·head refl, _, List·Memᴰ·head refl, refl)
+
+-- The bytes of words are bytes.
+are-bytes : (ws : List ℕ) → AreBytes (bytes ws)
+unfolding bytes
+are-bytes [] i = omega arith
+are-bytes (w ∷ ws) zero = omega arith
+are-bytes (w ∷ ws) (suc zero) = omega arith
+are-bytes (w ∷ ws) (suc (suc zero)) = omega arith
+are-bytes (w ∷ ws) (suc (suc (suc zero))) = omega arith
+are-bytes (w ∷ ws) (suc (suc (suc (suc i)))) = are-bytes ws i
+
+abbrev returningBytes : List ℕ
+returningBytes = bytes (encode returning)
+
+reads-returning : read returningBytes ≡ sheet returning
+reads-returning = reads-back returning valid-returning fits-returning
+
+-- A lexer's unit without rules.
+abbrev bare : Sheet
+bare = record { kind = lexer; rules = []; preserved = []; counters = counted 0 0 }
+
+valid-bare : (valid bare ≡ true) × (fits bare ≡ true)
+unfolding computed
+valid-bare = (refl, refl)
+
+reads-bare : read (bytes (encode bare)) ≡ sheet bare
+reads-bare = reads-back bare (valid-bare .0) (valid-bare .1)
+
+none : NoOptionalSymbol []
+none = record { everywhere = λ r m. absurd (List·Memᴰ·not-nil m) }
+
+-- No rule has an optional symbol where there are no rules, and no other sheet stands in these bytes.
+no-symbols : (s : Sheet) → read (bytes (encode bare)) ≡ sheet s → NoOptionalSymbol (s .rules)
+no-symbols s e =
+    let same : bare ≡ s = let z = sym reads-bare ∙ e in cc in
+    subst (λ x. NoOptionalSymbol (x .rules)) same none
+
+not-parser : bare .kind ≡ parser → ⊥
+not-parser e = omega arith
+
+zeros-lent : Lent (replicate resultBytes 0) (replicate trailBytes 0) (replicate workBytes 0)
+zeros-lent =
+    let r = length-replicate {A = ℕ} resultBytes 0 in
+    let t = length-replicate {A = ℕ} trailBytes 0 in
+    let w = length-replicate {A = ℕ} workBytes 0 in
+    record { forResult = omega arith; forTrail = omega arith; forWork = omega arith }
+
+an-answer : answerTo standard rust returningBytes
+    ≡ answer (length (stagesBy rust)) (stepsOf (stagesBy rust)) (encode (sheetAfter returning (stagesBy rust)))
+    (each encodeEntry (entriesOf (stagesBy rust)))
+unfolding answerTo answerReading answerRun
+an-answer = ap (answerReading standard rust) reads-returning ∙ ap (answerRun returning) (ends-rust .1)
+
+no-bytes : AreBytes []
+no-bytes i = omega arith
+
+a-refusal : answerTo standard rust [] ≡ refusal 1
+unfolding computed
+a-refusal = refl
+
+hub-known : target (grammarOf bodyDepth (returning .rules)) 1 ≡ some 1
+unfolding computed
+hub-known = refl
+
+abbrev lentZeros : ℕ → List ℕ
+lentZeros n = replicate n 0
+
+number-0 : outcome standard rust (bytes (encode bare)) (lentZeros resultBytes) (lentZeros trailBytes) (lentZeros workBytes) .number ≡ 0
+number-0 =
+    ap (λ (o : Outcome). o .number)
+    (every-call standard rust (bytes (encode bare)) (lentZeros resultBytes) (lentZeros trailBytes) (lentZeros workBytes)
+    (are-bytes (encode bare)) .otherUnits zeros-lent bare reads-bare not-parser)
+
+pub met : Met
+met =
+    record {
+      aSheet = (returning, valid-returning);
+      aRun = (standard, rust, returning, stagesBy rust, fits-returning, ends-rust, joined .0, joined .1, joined .2, joined .3, joined .4);
+      rustRun = (standard, returning, stagesBy rust, ends-rust, [], one-rust .0, [], [], one-rust .1);
+      textbookRun = (standard, returning, stagesBy textbook, ends-textbook, [], one-textbook .0, [], one-textbook .1);
+      aPart = (standard, rust, returning, stagesBy rust, ends-rust, [], stagesBy rust, [], append-nil (stagesBy rust));
+      aCall = (
+        0,
+        grammarOf bodyDepth (returning .rules),
+        1,
+        [],
+        record { id = 0; carried = 0; quantifier = once; label = unlabelled; options = [] },
+        record { name = 1; arguments = 0 },
+        tt,
+        hub-known,
+        refl,
+      );
+      anAnswer = (
+        standard,
+        rust,
+        returningBytes,
+        are-bytes (encode returning),
+        length (stagesBy rust),
+        stepsOf (stagesBy rust),
+        encode (sheetAfter returning (stagesBy rust)),
+        each encodeEntry (entriesOf (stagesBy rust)),
+        an-answer,
+      );
+      aRefusal = (standard, rust, [], no-bytes, 1, a-refusal);
+      otherUnit = (
+        standard,
+        rust,
+        bytes (encode bare),
+        lentZeros resultBytes,
+        lentZeros trailBytes,
+        lentZeros workBytes,
+        zeros-lent,
+        are-bytes (encode bare),
+        bare,
+        reads-bare,
+        not-parser,
+        number-0,
+      );
+      plainSymbols = (bytes (encode bare), are-bytes (encode bare), bare, reads-bare, no-symbols);
+    }
