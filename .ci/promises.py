@@ -22,6 +22,7 @@ OTHERWISE = {
     "List·Memᴰ q (rulesOf stages)": "List·Memᴰ q (rulesOf s stages)",
     "front ++ (t ∷ (middle ++ rest)) ≡ kept .stages": "front ++ (t ∷ (middle ++ rest)) ≡ stages",
     "o .number ≡ 0": "outcome limits c bs result trail work .number ≡ 0",
+    "3 ≤ o .number": "3 ≤ outcome limits c bs result trail work .number",
 }
 RECORD = re.compile(r"\s*(?:pub )?record (\S+)\s[^=]*?\bwhere\b", re.S)
 

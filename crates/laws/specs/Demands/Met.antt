@@ -1,10 +1,10 @@
 -- What the theorems suppose is met: for each set of suppositions one case, with the same words, so that no promise is empty.
-use Prim.Native.Nat.{ℕ}
+use Prim.Native.Nat.{ℕ, _≤_}
 use mathlib.Core.Path.{_≡_}
 use mathlib.Core.List.{List, [], _∷_, _++_, List·Memᴰ}
 use mathlib.Core.Option.{some}
 use mathlib.Core.Bool.{true}
-use Rattle.grammar.specs.Lists.{AllOf}
+use Rattle.grammar.specs.Lists.{AllOf, member}
 use Rattle.grammar.specs.Tree.{Block, Call, ElementHead, Element, Rule, Sheet}
 use Rattle.grammar.specs.Valid.{valid, fits}
 use Rattle.grammar.specs.Numbers.{parser, once}
@@ -18,6 +18,8 @@ use Rattle.reference.specs.Run.{Stage, answer, refusal, answerTo, outcome}
 use Rattle.laws.specs.Demands.Shape.{NoOptionalSymbol}
 use Rattle.laws.specs.Demands.Run.{rulesOf}
 use Rattle.laws.specs.Demands.Table.{Lent}
+use Rattle.laws.specs.Demands.Marks.{onSheet}
+use Rattle.laws.specs.Demands.Sameness.{TreeIn, same, none, Renames}
 use Rattle.laws.specs.Demands.Theorems.{Ends}
 
 pub record Met : Type 0 where
@@ -44,3 +46,12 @@ pub record Met : Type 0 where
       × (outcome limits c bs result trail work .number ≡ 0)
   pub plainSymbols : (bs : List ℕ) × AreBytes bs × (s : Sheet) × (read bs ≡ sheet s)
       × ((s : Sheet) → read bs ≡ sheet s → NoOptionalSymbol (s .rules))
+  -- A rule in a cycle.
+  pub aMember : (s : Sheet) × (valid s ≡ true) × (hub : Rule) × List·Memᴰ hub (s .rules) × (cycle : List ℕ)
+      × (member (hub .id) cycle ≡ true)
+  -- A renaming that changes every name; two sheets that differ in carried numbers; a call that is refused behind 2.
+  pub aRenaming : (bs : List ℕ) × AreBytes bs × (t : Sheet) × TreeIn bs t × (f : ℕ → ℕ) × Renames f t
+  pub otherCarried : (bs : List ℕ) × AreBytes bs × (t : Sheet) × TreeIn bs t × (bs′ : List ℕ) × AreBytes bs′ × (t′ : Sheet) × TreeIn bs′ t′
+      × (onSheet same none t ≡ onSheet same none t′)
+  pub aRefusedCall : (limits : Limits) × (c : Corners) × (bs : List ℕ) × (result : List ℕ) × (trail : List ℕ) × (work : List ℕ)
+      × AreBytes bs × (3 ≤ outcome limits c bs result trail work .number)

@@ -1,35 +1,43 @@
 -- The cases of Demands.Met: the sheet `returning` of Examples in both readings, a unit of a lexer without rules, and no bytes.
-use Prim.Native.Nat.{ℕ, zero, suc}
-use mathlib.Core.Path.{_≡_, refl, sym, ap, _∙_, subst}
+use Prim.Native.Nat.{ℕ, zero, suc, _+_, _≤_}
+use mathlib.Core.Path.{_≡_, refl, sym, ap, ap₂, _∙_, subst}
 use mathlib.Core.List.{List, [], _∷_, append-nil, List·Memᴰ, List·Memᴰ·head, List·Memᴰ·not-nil}
 use mathlib.Core.Option.{some}
-use mathlib.Core.Bool.{true}
+use mathlib.Core.Bool.{true, false, _||_, true≢false}
 use native.Mathlib.Omega.{arith}
 use lib.ListN.{length, replicate, length-replicate}
-use Rattle.grammar.specs.Lists.{each}
+use lib.Dec.{eqb}
+use borrow.Author.Tests.{eqb-true}
+use Rattle.grammar.specs.Lists.{each, member}
 use Rattle.grammar.specs.Numbers.{lexer, parser, once, resultBytes, trailBytes, workBytes}
 use Rattle.grammar.specs.Tree.{unlabelled, Rule, bodyDepth, Sheet}
 use Rattle.grammar.specs.Words.{bytes}
 use Rattle.grammar.specs.Encode.{encode}
 use Rattle.grammar.specs.Valid.{valid, fits}
-use Rattle.grammar.specs.Reading.{sheet, read}
+use Rattle.grammar.specs.Reading.{refused, sheet, isLength, read}
+use Rattle.grammar.specs.Read.{isName}
+use Rattle.grammar.specs.Laws.Parse.{either}
 use Rattle.grammar.specs.Corners.{Corners, rust, textbook}
 use Rattle.grammar.specs.Laws.Words.{AreBytes}
 use Rattle.grammar.specs.Laws.Codec.{reads-back}
 use Rattle.reference.specs.Substitute.{standard}
 use Rattle.reference.specs.Analysis.{grammarOf, target}
 use Rattle.reference.specs.Run.{Stage, eliminateMutualLeftRecursion, sheetAfter, stepsOf, encodeEntry, entriesOf}
-use Rattle.reference.specs.Run.{answer, refusal, answerRun, answerReading, answerTo, Outcome, outcome}
+use Rattle.reference.specs.Run.{answer, refusal, answerRun, answerReading, answerTo, Outcome, areLent, delivered, outcome}
 use Rattle.reference.specs.Computed.{computed}
 use Rattle.reference.specs.Written.{counted}
 use Rattle.laws.specs.Examples.{returning}
 use Rattle.laws.specs.Demands.Shape.{NoOptionalSymbol}
 use Rattle.laws.specs.Demands.Run.{rulesOf}
 use Rattle.laws.specs.Demands.Table.{Lent}
+use Rattle.laws.specs.Demands.Marks.{onElement, onLeaf, onBlock, onSheet, elementNames, namesOfLeaf, blockNames, namesIn}
+use Rattle.laws.specs.Demands.Sameness.{TreeIn, same, none, Renames}
 use Rattle.laws.specs.Demands.Theorems.{Ends}
 use Rattle.laws.specs.Demands.Met.{Met}
 use Rattle.laws.specs.BothReadings.Sheets.{stagesOf, nullable-hub-returns}
+use Rattle.laws.specs.Proved.Table.{good-length, lent-are}
 use Rattle.laws.specs.Proved.Kept.{every-call}
+use Rattle.laws.specs.Sameness.Again.{bytes-are}
 
 abbrev stagesBy : Corners → List Stage
 stagesBy c = stagesOf (eliminateMutualLeftRecursion standard c returning)
@@ -61,16 +69,6 @@ joined : (t : Stage) × List·Memᴰ t (stagesBy rust) × (q : Rule) × List·Me
 unfolding computed
 joined = (_, List·Memᴰ·head refl, _, List·Memᴰ·head refl, refl)
 
--- The bytes of words are bytes.
-are-bytes : (ws : List ℕ) → AreBytes (bytes ws)
-unfolding bytes
-are-bytes [] i = omega arith
-are-bytes (w ∷ ws) zero = omega arith
-are-bytes (w ∷ ws) (suc zero) = omega arith
-are-bytes (w ∷ ws) (suc (suc zero)) = omega arith
-are-bytes (w ∷ ws) (suc (suc (suc zero))) = omega arith
-are-bytes (w ∷ ws) (suc (suc (suc (suc i)))) = are-bytes ws i
-
 abbrev returningBytes : List ℕ
 returningBytes = bytes (encode returning)
 
@@ -88,14 +86,14 @@ valid-bare = (refl, refl)
 reads-bare : read (bytes (encode bare)) ≡ sheet bare
 reads-bare = reads-back bare (valid-bare .0) (valid-bare .1)
 
-none : NoOptionalSymbol []
-none = record { everywhere = λ r m. absurd (List·Memᴰ·not-nil m) }
+no-optional : NoOptionalSymbol []
+no-optional = record { everywhere = λ r m. absurd (List·Memᴰ·not-nil m) }
 
 -- No rule has an optional symbol where there are no rules, and no other sheet stands in these bytes.
 no-symbols : (s : Sheet) → read (bytes (encode bare)) ≡ sheet s → NoOptionalSymbol (s .rules)
 no-symbols s e =
-    let same : bare ≡ s = let z = sym reads-bare ∙ e in cc in
-    subst (λ x. NoOptionalSymbol (x .rules)) same none
+    let k : bare ≡ s = let z = sym reads-bare ∙ e in cc in
+    subst (λ x. NoOptionalSymbol (x .rules)) k no-optional
 
 not-parser : bare .kind ≡ parser → ⊥
 not-parser e = omega arith
@@ -131,7 +129,71 @@ number-0 : outcome standard rust (bytes (encode bare)) (lentZeros resultBytes) (
 number-0 =
     ap (λ (o : Outcome). o .number)
     (every-call standard rust (bytes (encode bare)) (lentZeros resultBytes) (lentZeros trailBytes) (lentZeros workBytes)
-    (are-bytes (encode bare)) .otherUnits zeros-lent bare reads-bare not-parser)
+    (bytes-are (encode bare)) .otherUnits zeros-lent bare reads-bare not-parser)
+
+-- Its tree stands in its bytes, and so does that with other carried numbers.
+tree-returning : TreeIn returningBytes returning
+unfolding computed
+tree-returning = record { goodLength = good-length returningBytes refl; trailer = refl; next = _; records = refl; isSheet = refl }
+
+abbrev carriedFive : Sheet
+carriedFive = onSheet same (λ n. 5) returning
+
+tree-five : TreeIn (bytes (encode carriedFive)) carriedFive
+unfolding computed onSheet onBlock onElement onLeaf
+tree-five =
+    record { goodLength = good-length (bytes (encode carriedFive)) refl; trailer = refl; next = _; records = refl; isSheet = refl }
+
+same-but-carried : onSheet same none returning ≡ onSheet same none carriedFive
+unfolding computed onSheet onBlock onElement onLeaf
+same-but-carried = refl
+
+-- Every name is 1 or 2, and 7 more is a name.
+names-returning : namesIn returning ≡ 1 ∷ 2 ∷ 2 ∷ 1 ∷ 2 ∷ []
+unfolding computed namesIn blockNames elementNames namesOfLeaf
+names-returning = refl
+
+seven-more : (n : ℕ) → member n (1 ∷ 2 ∷ 2 ∷ 1 ∷ 2 ∷ []) ≡ true → isName (n + 7) ≡ true
+unfolding member
+seven-more n m =
+    either (eqb n 1)
+    (λ y. ap (λ k. isName (k + 7)) (eqb-true n 1 y))
+    (λ z. either (eqb n 2)
+    (λ y. ap (λ k. isName (k + 7)) (eqb-true n 2 y))
+    (λ w. absurd (true≢false (sym m ∙ ap₂ (λ a b. a || (b || (b || (a || (b || false))))) z w))))
+
+renames-returning : Renames (λ n. n + 7) returning
+renames-returning =
+    record {
+      apart = λ a b x y e. omega arith;
+      areNames = λ n m. seven-more n (sym (ap (member n) names-returning) ∙ m);
+    }
+
+-- 32 zeros have no unit's kind.
+zeros-refused : (isLength (length (lentZeros 32)) ≡ true) × (read (lentZeros 32) ≡ refused 3)
+unfolding computed
+zeros-refused = (refl, refl)
+
+number-of : (bs result trail work : List ℕ) → isLength (length bs) ≡ true → areLent result trail work ≡ true → (n : ℕ) → read bs ≡ refused n
+    → outcome standard rust bs result trail work .number ≡ n
+unfolding outcome answerTo answerReading delivered
+number-of bs result trail work a b n e = rw (a, b, outcome) (rw e refl)
+
+number-3 : 3 ≤ outcome standard rust (lentZeros 32) (lentZeros resultBytes) (lentZeros trailBytes) (lentZeros workBytes) .number
+number-3 =
+    let e =
+    number-of (lentZeros 32) (lentZeros resultBytes) (lentZeros trailBytes) (lentZeros workBytes) (zeros-refused .0)
+    (lent-are (lentZeros resultBytes) (lentZeros trailBytes) (lentZeros workBytes) zeros-lent) 3 (zeros-refused .1) in
+    omega arith
+
+zero-bytes : (n : ℕ) → AreBytes (lentZeros n)
+zero-bytes zero i = omega arith
+zero-bytes (suc n) zero = omega arith
+zero-bytes (suc n) (suc i) = zero-bytes n i
+
+first-member : member 1 (1 ∷ 2 ∷ []) ≡ true
+unfolding member
+first-member = refl
 
 pub met : Met
 met =
@@ -156,7 +218,7 @@ met =
         standard,
         rust,
         returningBytes,
-        are-bytes (encode returning),
+        bytes-are (encode returning),
         length (stagesBy rust),
         stepsOf (stagesBy rust),
         encode (sheetAfter returning (stagesBy rust)),
@@ -172,11 +234,34 @@ met =
         lentZeros trailBytes,
         lentZeros workBytes,
         zeros-lent,
-        are-bytes (encode bare),
+        bytes-are (encode bare),
         bare,
         reads-bare,
         not-parser,
         number-0,
       );
-      plainSymbols = (bytes (encode bare), are-bytes (encode bare), bare, reads-bare, no-symbols);
+      aMember = (returning, valid-returning, _, List·Memᴰ·head refl, 1 ∷ 2 ∷ [], first-member);
+      aRenaming = (returningBytes, bytes-are (encode returning), returning, tree-returning, λ n. n + 7, renames-returning);
+      otherCarried = (
+        returningBytes,
+        bytes-are (encode returning),
+        returning,
+        tree-returning,
+        bytes (encode carriedFive),
+        bytes-are (encode carriedFive),
+        carriedFive,
+        tree-five,
+        same-but-carried,
+      );
+      aRefusedCall = (
+        standard,
+        rust,
+        lentZeros 32,
+        lentZeros resultBytes,
+        lentZeros trailBytes,
+        lentZeros workBytes,
+        zero-bytes 32,
+        number-3,
+      );
+      plainSymbols = (bytes (encode bare), bytes-are (encode bare), bare, reads-bare, no-symbols);
     }
