@@ -58,7 +58,7 @@ public class Judge {
         public void warning(ANTLRMessage message) {}
     }
 
-    /** A phrase as a rule of a generated parser reads it, with parentheses around each group of more than one part. */
+    /** A phrase as a rule of a generated parser reads it up to its end, with parentheses around each group of more than one part. */
     private static String grouped(String grammar, String rule, String phrase) throws Exception {
         CharStream text = CharStreams.fromString(phrase);
         Lexer lexer = (Lexer) Class.forName(grammar + "Lexer").getConstructor(CharStream.class).newInstance(text);
@@ -66,7 +66,7 @@ public class Judge {
         Parser parser = (Parser) Class.forName(grammar + "Parser").getConstructor(TokenStream.class).newInstance(tokens);
         ParseTree tree = (ParseTree) parser.getClass().getMethod(rule).invoke(parser);
         boolean whole = parser.getNumberOfSyntaxErrors() == 0 && tokens.LA(1) == Token.EOF;
-        return whole ? group(tree) : "not read as a whole";
+        return whole ? group(tree.getChild(0)) : "not read as a whole";
     }
 
     private static String group(ParseTree tree) {

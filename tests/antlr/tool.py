@@ -11,6 +11,8 @@ import g4
 JARS = [f"/usr/share/java/{name}.jar" for name in ("stringtemplate4", "antlr4", "antlr4-runtime", "antlr3-runtime", "treelayout")]
 LONGEST_RUN = 120
 CYCLES = 119
+# A rule that begins with itself is not asked by itself: where nothing stands behind it, the parser does not see the phrase's end.
+WHOLE = "whole_phrase"
 
 
 class Absent(Exception):
@@ -64,7 +66,8 @@ class Tool:
 
     def grouped(self, rules, words, rule, phrase):
         """How the generated parser groups a phrase. Phrases of one grammar that follow each other share the parser."""
-        folder, text = self.made / "parser", g4.written("Phrase", rules, words)
+        folder = self.made / "parser"
+        text = f"{g4.written('Phrase', rules, words)}{WHOLE}: {rule} EOF;\n"
         if text != self.generated:
             shutil.rmtree(folder, ignore_errors=True)
             folder.mkdir()
@@ -72,7 +75,7 @@ class Tool:
             run("java", "-cp", self.path, "org.antlr.v4.Tool", "-o", folder, folder / "Phrase.g4")
             run("javac", "-cp", self.path, "-d", folder, *folder.glob("*.java"))
             self.generated = text
-        return run("java", "-cp", f"{folder}:{self.path}", "Judge", "phrase", "Phrase", rule, phrase).decode().strip()
+        return run("java", "-cp", f"{folder}:{self.path}", "Judge", "phrase", "Phrase", WHOLE, phrase).decode().strip()
 
     def end(self):
         self.process.stdin.close()
