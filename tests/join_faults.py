@@ -41,6 +41,7 @@ def names_that_are_read_otherwise(program, folder, made):
     require("line 2, column 1: expected a rule's name that begins with a small letter, found `Add`" in said, said)
     for text, told in (
         ("e: X\n | # Add e PLUS e;", "warning 1: line 2: `Add` behind `#` is read as an element"),
+        ("e: Add\n | # Add e PLUS e;", "warning 1: line 2: `Add` behind `#` is read as an element"),
         ("e: X\n | {$X}? X;", "warning 1: line 2: `{..}?` is read as an action that may be left out; a predicate is written `&{..}`"),
         ("// one\re: X;\r// two\ra: Y;\r", "warning 1: line 1: a carriage return without a line feed ends this line"),
     ):

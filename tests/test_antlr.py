@@ -52,6 +52,9 @@ class Grammars(unittest.TestCase):
         words = {"whole": "INT", "part": "INT"}
         self.assertEqual(g4.written("G", notation.read(EVERY_FORM), words), WRITTEN)
 
+    def test_labelled(self):
+        self.assertEqual(notation.read("e: #: INT | # e X;"), notation.read("e: INT | e X;"))
+
     def test_names_of_numbers(self):
         """join and the harness write them each in their way."""
         self.assertEqual(notation.read("%preserve 2;\nr%1: x%3=T%4 r%1;"), notation.read("r_1: x_3=T_4 r_1;"))

@@ -71,7 +71,8 @@ class Reader:
     def alternative(self):
         self.number("@")
         self.number("~")
-        self.take("#")
+        if self.take("#"):
+            self.take(":")
         options, elements = self.options(), []
         while self.ahead() not in ("|", ";", ")"):
             elements.append(self.element())

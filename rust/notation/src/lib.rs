@@ -14,7 +14,7 @@
 //! | `( .. )`, `_`, `.~7` | a block; epsilon; kind 5 with its carried number |
 //! | `{$x $x.text $r::a}`, `&{..}` | an action, a predicate, each with its references |
 //! | `x=INT`, `a[5]`, `INT<o=1>` | a label, arguments, options of an element |
-//! | `#`, `<o=1>` in front of an alternative | that it is labelled, its options |
+//! | `#`, `<o=1>` in front of an alternative | that it is labelled, its options; `#:` where a token comes first |
 //! | `e !2:`, `e: -;` | a rule's flags; a rule or block without alternatives |
 //! | `%kind lexer;` `%preserve a 9;` | the unit's kind; preserved rules by name, or by id |
 //! | `%names e=1 INT=3;` | the numbers of names, in front of where they are used |

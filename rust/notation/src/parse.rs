@@ -135,9 +135,8 @@ pub(crate) struct Parser<'a> {
     counters: Option<Spot>,
     faults: Vec<Fault>,
     warnings: Vec<Warning>,
-    /// Names that stand behind `#`, each with its place.
-    behind_labels: Vec<(&'a str, Spot)>,
-    all: &'a [Token<'a>],
+    /// Names that stand behind `#`.
+    behind_labels: Vec<Token<'a>>,
 }
 
 impl<'a> Parser<'a> {
@@ -156,7 +155,6 @@ impl<'a> Parser<'a> {
             faults: Vec::new(),
             warnings: Vec::new(),
             behind_labels: Vec::new(),
-            all: tokens,
         }
     }
 

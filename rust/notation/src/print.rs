@@ -132,7 +132,7 @@ impl<'a> Printer<'a> {
         let mut out = self.id(" @", own.id, Sort::Alternative);
         out += &carried(" ", own.carried);
         if own.labelled {
-            out.push_str(" #");
+            out.push_str(if self.is_like_label(own) { " #:" } else { " #" });
         }
         if !own.options.is_empty() {
             out.push(' ');
@@ -143,6 +143,20 @@ impl<'a> Printer<'a> {
             out += &self.element(element);
         }
         out
+    }
+
+    /// Whether what comes first could be taken for the name of a label: a name with a text that is no rule's.
+    fn is_like_label(&self, own: &Alternative) -> bool {
+        let first = own.elements.first();
+        let bare = first.filter(|element| own.options.is_empty() && element.label.is_none());
+        let mut rules = self.grammar.sheet.rules.iter();
+        match bare.map(|element| &element.kind) {
+            Some(Kind::Token(name)) => self.text(*name).is_some(),
+            Some(Kind::Call { name, .. }) => {
+                self.text(*name).is_some() && !rules.any(|rule| rule.name == *name)
+            }
+            _ => false,
+        }
     }
 
     fn element(&mut self, own: &Element) -> String {

@@ -1,6 +1,6 @@
 //! What ANTLR's own texts have, each told with what to write; several faults at once; and what may be meant otherwise.
 
-use notation::{Fault, MOST_FAULTS, read, shown};
+use notation::{Fault, MOST_FAULTS, Style, print, read, shown};
 
 fn faults(text: &str) -> Vec<Fault> {
     read(text.as_bytes()).expect_err(text)
@@ -133,13 +133,6 @@ fn lines_are_shown_with_a_mark() {
 fn what_may_be_meant_otherwise() {
     for (text, expected) in [
         ("e: X;", vec![]),
-        ("e: # INT | INT;", vec![]),
-        (
-            "e: X\n | # Add e PLUS e;",
-            vec![
-                "line 2: `Add` behind `#` is read as an element; `#` alone marks a labelled alternative, and has no name behind it",
-            ],
-        ),
         (
             "e: {$X}? X {}* Y | &{}? {}\n{}??;",
             vec![
@@ -149,6 +142,53 @@ fn what_may_be_meant_otherwise() {
     ] {
         assert_eq!(warnings(text), expected, "{text}");
     }
+}
+
+/// What stands behind `#` is an element. A name there is warned of wherever it may be a label's, and `#:` says that it is none.
+#[test]
+fn names_behind_labels() {
+    let told = |text: &str| -> Vec<String> {
+        let all = warnings(text);
+        let parts = all
+            .iter()
+            .map(|own| own.split_once(" is read as an element; ").expect(own).0);
+        parts.map(str::to_owned).collect()
+    };
+    for (text, expected) in [
+        ("e: X\n | # Add e PLUS e;", vec!["line 2: `Add` behind `#`"]),
+        (
+            "e: # Add e PLUS e\n | # Add e MINUS e\n | Add;",
+            vec!["line 1: `Add` behind `#`", "line 2: `Add` behind `#`"],
+        ),
+        ("e: # INT | INT;", vec!["line 1: `INT` behind `#`"]),
+        ("e: # Empty | X;", vec!["line 1: `Empty` behind `#`"]),
+        ("e: # add e PLUS e | X;", vec!["line 1: `add` behind `#`"]),
+        ("e: X ( # Sub Y );", vec!["line 1: `Sub` behind `#`"]),
+        ("e: #: INT | #: Add e | #: add | ( #: X );", vec![]),
+        (
+            "e: # e PLUS e | # a X; a: # x=INT | # x@5=Y | # _ | # T%7;",
+            vec![],
+        ),
+        ("e: # | # <o=1> X | # ( X ) | # ^30 Y;", vec![]),
+    ] {
+        assert_eq!(told(text), expected, "{text}");
+    }
+}
+
+/// What is printed of such alternatives is read again without a warning.
+#[test]
+fn labelled_alternatives_read_back() {
+    let text = "e: #: INT PLUS e | #: add | # e X | #: Y | # x=Y | # <o=1> X | #;\n";
+    let first = read(text.as_bytes()).expect("the notation").grammar;
+    assert!(
+        first.sheet.rules[0]
+            .alternatives
+            .iter()
+            .all(|own| own.labelled)
+    );
+    let printed = print(&first, Style::Plain);
+    assert_eq!(printed, text);
+    assert_eq!(warnings(&printed), [""; 0]);
 }
 
 /// A carriage return alone ends a line, so that a comment does not hide the rules behind it.

@@ -1,10 +1,7 @@
 //! What ANTLR's own texts have and the notation writes otherwise: each is told with what to write, and passed over.
 
-use std::collections::BTreeMap;
-
 use super::Parser;
-use crate::fault::Warning;
-use crate::scan::What;
+use crate::scan::{Token, What};
 
 const LEAVE_OUT: &str = "leave it out, it has no place here";
 const OF_ITS_OWN: &str = "write `!2` behind the rule's name in its place: such a rule is never put in place of its call, and \
@@ -137,7 +134,8 @@ impl Parser<'_> {
         if !self.is_ahead("#") {
             return false;
         }
-        let advice = "`#` stands in front of a labelled alternative, alone: write `# e PLUS e` for `e PLUS e # Add`";
+        let advice = "`#` stands in front of a labelled alternative, alone: write `# e PLUS e` for `e PLUS e # Add`, and \
+                      `#: INT` for `INT # Int`";
         self.tell(token.advised("an element, `|` or `;`", advice));
         self.skip();
         if self.ahead().is_name() {
@@ -192,20 +190,26 @@ impl Parser<'_> {
         true
     }
 
-    /// A name behind `#` that stands nowhere else is a label's, and was read as an element.
-    pub(super) fn judge_labels(&mut self) {
-        let mut counts: BTreeMap<&str, usize> = BTreeMap::new();
-        for token in self.all {
-            if let What::Name(text) = token.what {
-                *counts.entry(text).or_default() += 1;
-            }
+    /// A name behind `#`, which is read as an element; one with `=` behind it is that of an element's own label.
+    pub(super) fn keep_behind_label(&mut self) {
+        let is_own = self.mark(1, "=") || self.mark(1, "@");
+        if !self.word(0).is_empty() && self.word(0) != "_" && !is_own {
+            self.behind_labels.push(self.ahead());
         }
-        for (text, (line, column)) in std::mem::take(&mut self.behind_labels) {
-            if counts.get(text) == Some(&1) {
+    }
+
+    /// Such a name is what ANTLR calls the alternative, unless it is that of a rule, which ANTLR allows no label to have.
+    pub(super) fn judge_labels(&mut self, heads: &[Token]) {
+        for token in std::mem::take(&mut self.behind_labels) {
+            let is_rule = heads.iter().any(|head| head.what == token.what);
+            if let What::Name(text) = token.what
+                && (token.is_token() || !is_rule)
+            {
                 let text = format!(
-                    "`{text}` behind `#` is read as an element; `#` alone marks a labelled alternative, and has no name behind it"
+                    "`{text}` behind `#` is read as an element; a labelled alternative has no name behind its mark, \
+                     which is written `#:` where such an element comes first"
                 );
-                self.warnings.push(Warning { line, column, text });
+                self.warn(token, &text);
             }
         }
     }

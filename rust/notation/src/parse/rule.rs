@@ -3,7 +3,6 @@
 use super::Parser;
 use crate::MOST_RULES;
 use crate::fault::Fault;
-use crate::scan::What;
 use crate::tree::{Alternative, Rule};
 use crate::walk::Sort;
 
@@ -61,9 +60,8 @@ impl Parser<'_> {
         let id = self.id("@", Sort::Alternative, self.ahead())?;
         let carried = self.carried()?;
         let labelled = self.take("#");
-        if let (true, What::Name(text)) = (labelled, self.ahead().what) {
-            let token = self.ahead();
-            self.behind_labels.push((text, (token.line, token.column)));
+        if labelled && !self.take(":") {
+            self.keep_behind_label();
         }
         let options = self.options()?;
         let end = if depth == 0 { ";" } else { ")" };

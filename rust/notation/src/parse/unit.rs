@@ -43,7 +43,7 @@ impl<'a> Parser<'a> {
         if unit.sheet.kind == PARSER {
             self.judge_heads(&unit.heads);
         }
-        self.judge_labels();
+        self.judge_labels(&unit.heads);
         unit.sheet
     }
 
