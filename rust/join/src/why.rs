@@ -3,6 +3,7 @@
 
 mod corners;
 mod judged;
+mod loops;
 mod names;
 mod steps;
 #[cfg(test)]

@@ -205,48 +205,6 @@ impl<'a> Cycle<'a> {
             origin: from.id,
         })
     }
-
-    /// The rules that begin with themselves, by which a substitution has no end.
-    fn beyond(&self, hub: &Rule, budget: usize) -> Found {
-        let begins = |rule: &Rule| -> BTreeSet<u32> {
-            let works = rule
-                .alternatives
-                .iter()
-                .filter_map(|own| self.work(&Planned::of(own), hub));
-            let targets = works.filter_map(|work| match work {
-                Work::Split(_, rule) | Work::Splice(_, rule) => Some(rule.id),
-                Work::Blocked(_) => None,
-            });
-            targets.filter(|id| *id != hub.id).collect()
-        };
-        let loops = |rule: &&&Rule| {
-            let (mut seen, mut ahead) = (BTreeSet::new(), vec![rule.id]);
-            while let Some(id) = ahead.pop() {
-                let next = self
-                    .members
-                    .iter()
-                    .find(|other| other.id == id)
-                    .map(|own| begins(own));
-                ahead.extend(next.into_iter().flatten().filter(|id| seen.insert(*id)));
-            }
-            seen.contains(&rule.id)
-        };
-        let satellites = self.members.iter().filter(|rule| rule.id != hub.id);
-        let looping: Vec<String> = satellites
-            .filter(loops)
-            .map(|rule| format!("`{}`", (self.name)(rule.name)))
-            .collect();
-        let how = match &looping[..] {
-            [] => format!("over {budget} steps are needed"),
-            [one] => format!("{one} begins with itself, so that over {budget} steps are needed"),
-            more => format!(
-                "{} begin with each other without `{}`, so that over {budget} steps are needed",
-                more.join(", "),
-                (self.name)(hub.name)
-            ),
-        };
-        Found::of(4, how)
-    }
 }
 
 fn shared(one: &BTreeSet<u32>, two: &BTreeSet<u32>) -> Vec<u32> {
