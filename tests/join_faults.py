@@ -15,6 +15,8 @@ CLAUSES = {
     "e: a | X;\na: e {} Y;": "an action stands in `a`, at line 2, column 6",
     "e: a | X; a: a Y | e Z;": "clause 4, a step beyond the budget: `a` begins with itself",
     "e: a | X; a: b Y | e Z; b: a W;": "`a`, `b` begin with each other without `e`",
+    "e: a | X; a: b? a Y | e Z; b: e W;": "clause 4, a step beyond the budget: `a` begins with itself",
+    "e: a | X; a: b a Y | e Z; b: _ | e W;": "clause 4, a step beyond the budget: `a` begins with itself",
     "e: a {$a} | X; a: e Y;": "refers to `a`, whose call beside it would be replaced; in the place of e 1 (line 1), at line 1, column 6",
     "e: x=a | X; a: e Y;": "clause 6, a blocked corner: the call of `a` in front has a label; in the place of e 1 (line 1), at line 1, column 4",
     "e: a[5] | X; a: e Y;": "the call of `a` in front has arguments",

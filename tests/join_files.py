@@ -4,7 +4,7 @@ import hashlib
 import os
 import re
 
-from joining import Run, head, line_of, require, rules, written
+from joining import ROOT, Run, head, line_of, require, rules, written
 
 CYCLE = "e: a | INT; a: e PLUS;\n"
 LEFT = "e: a X; a: e Y;\n"
@@ -61,9 +61,15 @@ def the_kit_is_that_of_the_archives(program, folder, made):
     version = Run(program, ["--version"]).text().split("\n")
     require(version[0] == lines[0] and re.fullmatch(r"join [0-9.]+", lines[0]), f"the first line is {lines[0]}")
     told = line_of(lines, "the pass was ")
-    require(re.match(r"the pass was (proved here with|built from these sources by|linked from archives of which nothing) \S", told), told)
-    require(version[1].startswith("kit ") and version[1][4:] in told, f"the version is {version}")
-    require(version[2].startswith("sources "), f"the version is {version}")
+    forms = ("proved here with {}", "built from these sources by {}, proved by the gate; not proved on this machine",
+             "linked from archives of which nothing is known; kit {}")
+    require(told[len("the pass was "):] in [form.format(version[1].removeprefix("kit ")) for form in forms], told)
+    require(version[1].startswith("kit ") and version[2].startswith("sources "), f"the version is {version}")
+    record = ROOT / "target/staticlib/PROVENANCE"
+    if program == str(ROOT / "rust/target/release/join") and record.exists():
+        made, sources, kit = (line.removeprefix("# ") for line in record.read_text(encoding="utf-8").split("\n")[:3])
+        require(version[1:3] == [kit, sources], f"the record has {kit} and {sources}, and the version {version}")
+        require(forms[made != "made here"].split(" {}")[0] in told, f"the record has {made}, and the head {told}")
 
 
 def checked_alone(program, folder, made):

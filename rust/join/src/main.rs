@@ -17,7 +17,7 @@ mod why;
 use std::io::Write as _;
 use std::process::ExitCode;
 
-use mutual_recursion::{Refusal, join};
+use mutual_recursion::{ARCHIVES, Provenance, Refusal, join};
 
 use crate::answer::Answer;
 use crate::files::Files;
@@ -28,16 +28,11 @@ use crate::stop::{Status, Stop};
 /// ./join prints it too, before anything is built.
 const HELP: &str = include_str!("../help.txt");
 const VERSION: &str = env!("CARGO_PKG_VERSION");
-/// What is told beside the archives that were linked: where they were proved, by which kit, and the digest of what they were
-/// made of.
-const MADE: &str = env!("PASS_MADE");
-const KIT: &str = env!("PASS_KIT");
-const SOURCES: &str = env!("PASS_SOURCES");
 
 fn main() -> ExitCode {
     let done = match options::asked(std::env::args_os().skip(1)) {
         Ok(Asked::Help) => printed(HELP),
-        Ok(Asked::Version) => printed(&format!("join {VERSION}\nkit {KIT}\nsources {SOURCES}\n")),
+        Ok(Asked::Version) => printed(&version()),
         Ok(Asked::Join(options)) => run(&options),
         Err(stop) => Err(stop),
     };
@@ -49,6 +44,12 @@ fn main() -> ExitCode {
             ExitCode::from(stop.status as u8)
         }
     }
+}
+
+/// With what is known of the archives that were linked.
+fn version() -> String {
+    let Provenance { kit, sources, .. } = ARCHIVES;
+    format!("join {VERSION}\nkit {kit}\nsources {sources}\n")
 }
 
 fn run(options: &Options) -> Result<(), Stop> {

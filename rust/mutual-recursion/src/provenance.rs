@@ -51,7 +51,10 @@ impl fmt::Display for Provenance {
                 f,
                 "built from these sources by {kit}, proved by the gate; not proved on this machine"
             ),
-            Made::Elsewhere => f.write_str("linked from archives of which nothing is known"),
+            Made::Elsewhere => write!(
+                f,
+                "linked from archives of which nothing is known; kit {kit}"
+            ),
         }
     }
 }

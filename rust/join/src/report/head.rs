@@ -1,18 +1,22 @@
 //! The comments in front of the grammar.
 
-use mutual_recursion::{Clause, CycleLeft, Decision, Reading};
+use mutual_recursion::{ARCHIVES, Clause, CycleLeft, Decision, Reading};
 use notation::{Kind, Node, Place, Printer, Sort, Style, alternatives};
 
+use crate::VERSION;
 use crate::answer::Answer;
 use crate::levels::Remark;
 use crate::why::{Found, why};
-use crate::{KIT, MADE, VERSION};
 
 /// Columns that a comment has at most, where words allow.
 const COLUMNS: usize = 110;
 
 pub fn head(answer: &Answer, remarks: &[Remark]) -> String {
-    let mut lines = vec![format!("join {VERSION}"), counts(answer, remarks), proved()];
+    let mut lines = vec![
+        format!("join {VERSION}"),
+        counts(answer, remarks),
+        format!("the pass was {ARCHIVES}"),
+    ];
     lines.extend(handed(answer));
     let (plans, steps) = (answer.joined.plans, answer.joined.steps);
     lines.push(format!(
@@ -29,17 +33,6 @@ pub fn head(answer: &Answer, remarks: &[Remark]) -> String {
         lines.push(LEGEND.to_owned());
     }
     lines.iter().map(|line| comment(line)).collect()
-}
-
-/// Where and by what the pass was proved that made the answer.
-fn proved() -> String {
-    match MADE {
-        "here" => format!("the pass was proved here with {KIT}"),
-        "dist" => format!(
-            "the pass was built from these sources by {KIT}, proved by the gate; not proved on this machine"
-        ),
-        _ => format!("the pass was linked from archives of which nothing is known; kit {KIT}"),
-    }
 }
 
 /// What a reader of a release file looks for first.

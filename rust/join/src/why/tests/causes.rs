@@ -3,6 +3,7 @@
 use notation::{Alternative, Element, Kind};
 
 use super::cases::{ID, NAME, body, each, element, tried};
+use super::found;
 use crate::why::Found;
 
 /// 3: with all else mended that keeps satellites from being inlined it is declined so; with what is told mended too it is not.
@@ -107,6 +108,33 @@ fn names_collide() {
             assert_eq!(case.clause(only)?, case.found.clause, "{:?}", case.found);
         }
         (!case.names().is_empty()).then_some(())
+    });
+}
+
+/// 7 to 9: without these names in the alternative that would be put in, that is told no more. Of 8 they are those of tokens and
+/// labels there, since no action stands in what is put in.
+#[test]
+fn what_is_put_in_collides() {
+    tried(&[7, 8, 9], 300, |case| {
+        let (names, told) = (case.names(), case.found.origin.expect("one that is put in"));
+        let is_rule = |name: &u32| case.sheet.rules.iter().any(|rule| rule.name == *name);
+        (case.found.clause != 8 || !names.iter().any(is_rule)).then_some(())?;
+        let mended = case.with_rules(|rule| {
+            for own in rule.alternatives.iter_mut().filter(|own| own.id == told) {
+                own.options.retain(|own| !names.contains(&own.name));
+                each(std::slice::from_mut(own), &|own| {
+                    own.label = own.label.filter(|own| !names.contains(&own.name));
+                    if matches!(own.kind, Kind::Token(name) if names.contains(&name)) {
+                        own.kind = Kind::Token(NAME);
+                    }
+                });
+            }
+        });
+        let after = found(&mended, &case.members, case.reading);
+        assert_ne!(after.as_ref(), Some(&case.found));
+        let clause = after.map_or(0, |found| found.clause);
+        assert_eq!(case.clause(mended)?, clause, "{:?}", case.found);
+        Some(())
     });
 }
 
