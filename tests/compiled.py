@@ -152,10 +152,14 @@ def program_checks(room):
 
 
 def make_checks(room):
-    """The examples as examples/c/Makefile makes them."""
-    said = run("make", "-s", "-C", ROOT / "examples" / "c", f"ARCHIVES={ARCHIVES}", f"OUT={room}")
-    yield f"examples/c is made {said.stderr.decode()}", said.returncode == 0
-    case = ROOT / "examples" / "case-1.sheet"
-    for name, expected in (("pass", b"0 1 1 "), ("cycles", b"rules 1 2: joined in 1 by 1 steps, without 2\n")):
-        yield f"its {name} answers", said.returncode == 0 and run(room / name, case).stdout.startswith(expected)
-        yield f"its {name} says what is refused", said.returncode == 0 and run(room / name, "/dev/null").stderr.startswith(b"refused: the sheet's length")
+    """The examples as examples/c/Makefile makes them: over the archives at hand, and over dist/ where none are named."""
+    for at, words in enumerate(([f"ARCHIVES={ARCHIVES}"], [])):
+        folder = room / f"made-{at}"
+        folder.mkdir()
+        said = run("make", "-s", "-C", ROOT / "examples" / "c", *words, f"OUT={folder}")
+        yield f"examples/c is made {words} {said.stderr.decode()}", said.returncode == 0
+        case = ROOT / "examples" / "case-1.sheet"
+        for name, expected in (("pass", b"0 1 1 "), ("cycles", b"rules 1 2: joined in 1 by 1 steps, without 2\n")):
+            yield f"its {name} answers", said.returncode == 0 and run(folder / name, case).stdout.startswith(expected)
+            refused = b"refused: the sheet's length"
+            yield f"its {name} says what is refused", said.returncode == 0 and run(folder / name, "/dev/null").stderr.startswith(refused)

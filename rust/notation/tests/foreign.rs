@@ -29,6 +29,7 @@ fn each_is_told_with_what_to_write() {
         ("e: ';' e;", (1, 4), "write the name of its token"),
         ("e: '\\'' e;", (1, 4), "write the name of its token"),
         ("e: [a-z;|]+ | X;", (1, 4), "`.~7`"),
+        ("e: 'a'..'z' | X;", (1, 4), "write a range as `.~7`"),
         ("e: ~X | Y;", (1, 5), "`.~7`"),
         ("e: Y ~( X | Z );", (1, 7), "`.~7`"),
         ("%kind lexer; fragment D: X;", (1, 14), "leave the word out"),

@@ -164,6 +164,7 @@ impl Parser<'_> {
             return false;
         };
         let is_predicate = self.mark(1, "?");
+        let is_range = self.mark(1, ".") && self.mark(2, ".");
         let (expected, advice) = match text.chars().next() {
             Some('{') if is_predicate => (
                 "`$` or `}`",
@@ -177,16 +178,21 @@ impl Parser<'_> {
                 "an element",
                 "write a set as `.~7`, with a number of its own, or as a token",
             ),
+            _ if is_range => (
+                "an element",
+                "write a range as `.~7`, with a number of its own, or as a token",
+            ),
             _ => (
                 "an element",
                 "write the name of its token, as in `PLUS` for '+'",
             ),
         };
         self.tell(token.advised(expected, advice));
-        self.skip();
-        if text.starts_with('{') && is_predicate {
-            self.skip();
-        }
+        let more = match text.starts_with('{') {
+            true => usize::from(is_predicate),
+            false => 3 * usize::from(is_range),
+        };
+        (0..=more).for_each(|_| self.skip());
         true
     }
 
