@@ -1,5 +1,6 @@
 #!/usr/bin/env python3
-"""Shows ./join building its program where it has to and only there, and looking at words and grammar before anything is proved.
+"""Shows ./join building its program where it has to and only there, and looking at words and grammar before anything is proved;
+and .ci/lint finding what is not good.
 
 The prover's archives, cargo and the program are stand-ins that keep a line of each call.
 """
@@ -33,6 +34,12 @@ echo "join $*" >>"$ROOM/calls"
 case $* in *missing*) echo "join: cannot read missing" >&2; exit 3 ;; esac
 echo joined
 """
+# Of `cargo fmt` and `cargo clippy`: the crates of a folder are good where its manifest says so.
+CARGO_LOOKS = """case "$*" in
+fmt*) ! grep -q 'wrong layout' rust/Cargo.toml ;;
+clippy*rust/Cargo.toml*'-D warnings') ! grep -q 'wrong$' rust/Cargo.toml ;;
+clippy*harness/Cargo.toml*'-D warnings') ! grep -q 'wrong$' harness/Cargo.toml ;;
+esac"""
 TOOLS = ("sh", "cat", "cp", "cut", "dirname", "env", "find", "mkdir", "printf", "readlink", "rm", "sed", "sha256sum", "sort", "touch")
 
 
@@ -146,6 +153,56 @@ class Join(unittest.TestCase):
             status, out, said, calls = self.run_join("g", word)
             self.assertEqual((status, said, calls), (0, "", []))
             self.assertTrue(out.startswith("usage: join\n\n./join --prove ... proves"))
+
+
+class Lint(unittest.TestCase):
+    """.ci/lint over a few files; what looks at them, but for Python, finds fault with a word."""
+
+    def setUp(self):
+        made = tempfile.TemporaryDirectory()
+        self.addCleanup(made.cleanup)
+        self.root, self.bin = pathlib.Path(made.name) / "root", pathlib.Path(made.name) / "bin"
+        for folder in (self.root / ".ci", self.root / "rust", self.root / "harness", self.bin):
+            folder.mkdir(parents=True)
+        shutil.copy(ROOT / ".ci" / "lint", self.root / ".ci")
+        self.write("script", "#!/bin/sh\n")
+        self.write("file.py", "print()\n")
+        for folder in ("rust", "harness"):
+            self.write(f"{folder}/Cargo.toml", "# good\n")
+        for name, text in (("shellcheck", '! grep -q wrong "$@"'), ("cargo", CARGO_LOOKS), ("cargo-fmt", ""), ("cargo-clippy", "")):
+            (self.bin / name).write_text(f"#!/bin/sh\n{text}\n")
+            (self.bin / name).chmod(0o755)
+
+    def write(self, name, text):
+        (self.root / name).write_text(text)
+
+    def run_lint(self):
+        path = f"{self.bin}:{os.environ['PATH']}"
+        done = subprocess.run([self.root / ".ci" / "lint"], env={**os.environ, "PATH": path}, capture_output=True, text=True)
+        return done.returncode, [line.split(": ")[1] for line in done.stdout.splitlines() if line.endswith(": NOT GOOD")]
+
+    def test_good(self):
+        self.assertEqual(self.run_lint(), (0, []))
+
+    def test_not_good(self):
+        for name, text, what in (
+            ("script", "#!/bin/sh\n# wrong\n", ["shell scripts"]),
+            ("file.py", "print(\n", ["Python files"]),
+            ("file.py", "print('\\d')\n", ["Python files"]),
+            ("rust/Cargo.toml", "# wrong layout\n", ["the layout of Rust"]),
+            ("rust/Cargo.toml", "# wrong\n", ["Rust in rust/"]),
+            ("harness/Cargo.toml", "# wrong\n", ["Rust in harness/"]),
+        ):
+            with self.subTest(name=name, text=text):
+                before = (self.root / name).read_text()
+                self.write(name, text)
+                self.assertEqual(self.run_lint(), (1, what))
+                self.write(name, before)
+
+    def test_first_stage(self):
+        """Nothing is proved where it finds fault."""
+        gate = (ROOT / ".ci" / "run").read_text(encoding="utf-8")
+        self.assertLess(gate.index("\nrun lint\nshow lint of_good || finish\n"), gate.index("\nlane prove\n"))
 
 
 if __name__ == "__main__":
