@@ -30,7 +30,7 @@ impl Renaming {
         let mut to: Vec<u32> = match random.below(4) {
             0 => names.iter().copied().collect(),
             1 => (1..=count).collect(),
-            2 => (MOST_NAME - count + 1..=MOST_NAME).collect(),
+            2 => (0..count).map(|at| MOST_NAME - at).collect(),
             _ => random.names(names.len()),
         };
         random.shuffle(&mut to);
