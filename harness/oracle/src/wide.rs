@@ -149,16 +149,16 @@ fn sets_of_names() -> Vec<Edge> {
     made
 }
 
-/// What stands around one call binds nothing around the next.
+/// What stands around one call binds nothing around the next, which has names of its own around it.
 fn sets_one_after_another() -> Vec<Edge> {
     vec![
         edge(
             "a label of the first alternative bound in the second",
-            "e: a x=X | b | INT; a: e PLUS; b: e x=MINUS;",
+            "e: a x=X | b y=Y | INT; a: e PLUS; b: e x=MINUS;",
         ),
         edge(
             "a reference of the first alternative bound in the second",
-            "e: a {$MINUS} | b | INT; a: e PLUS; b: e MINUS;",
+            "e: a {$MINUS} | b {$y} | INT; a: e PLUS; b: e MINUS;",
         ),
     ]
 }
