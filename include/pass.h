@@ -61,9 +61,8 @@ static inline const char *pass_refusal_text(uint32_t refusal) {
         return "the trailer is bad: a unit kind other than 1, 2 and 3, a first distance that is not the number of words in "
                "front of the trailer, or a second distance above the first";
     case PASS_BAD_RECORD:
-        return "a record is bad: cut short or running into the preserved list, a value outside its list, a name outside 1 to "
-               "65,535, a label id without a label name, blocks over 8 deep, over 128 rules, or preserved ids that do not "
-               "rise";
+        return "a record is bad: cut short or running into the preserved list, a value outside its list, a name 0, a label "
+               "id without a label name, blocks over 8 deep, over 128 rules, or preserved ids that do not rise";
     case PASS_SHARED_NUMBER:
         return "two rules share an id or a name, or two alternatives, elements, labels, actions or predicates share an id";
     case PASS_ID_PAST_COUNTER:

@@ -44,6 +44,22 @@ def sheets_without_names_read_back(program, folder, made):
     require(rules(text) == ["e: T%2 r_2 | T%4 x%3=T_2 {$x%3.?};", "r_2: a;"], f"mixed it is {rules(text)}")
 
 
+def names_up_to_the_last(program, folder, made):
+    """Numbers of names go to 4294967295, in a text and where a sheet has no names."""
+    table, last = "%names e=4294967295 a=65536;", "r%4294967295"
+    text = f"{table} e: a x=INT | INT; a: y=e PLUS T%4294901760;"
+    sheet = made / "s.sheet"
+    named = Run(program, [written(made, "g.grammar", text), "--sheet", sheet]).text()
+    require("joined: e" in head(named) and "y=e PLUS T%4294901760 x=INT" in rules(named)[1], f"it is {rules(named)}")
+    bare = Run(program, [sheet]).text()
+    require(rules(bare)[0].startswith(f"{last}: "), f"it is {rules(bare)}")
+    again = Run(program, [written(made, "again.grammar", bare), "--sheet", made / "again.sheet"]).text()
+    require(rules(again) == rules(bare), f"again it is {rules(again)}")
+    for text, number in (("%names e=0; e: X;", "0"), ("e: r%4294967296;", "r%4294967296")):
+        fault = Run(program, [written(made, "g.grammar", text)])
+        fault.stopped(2, f"{made / 'g.grammar'}: line 1, column {text.index(number) + 1}: expected a number ")
+
+
 def names_survive(program, folder, made):
     """With its table of names a sheet prints the same rules as the text from which it was made, attributes too."""
     for grammar in sorted(folder.glob("*.grammar")):
@@ -88,6 +104,7 @@ CHECKS = (
     names_are_printed_as_they_were_written,
     names_alike_are_joined_alike,
     sheets_without_names_read_back,
+    names_up_to_the_last,
     names_survive,
     attributes_come_back,
     names_of_another_grammar,

@@ -115,7 +115,7 @@ class Parts(unittest.TestCase):
         self.assertEqual(declared.constants([NUMBERS]), {"Sheet::LEAST_BYTES": 32, "Sheet::MOST_BYTES": 32768})
 
     def test_figures(self):
-        self.assertEqual(declared.figures("Refusal 4: 1 to 65,535 (2.15), 8 deep."), {1, 65535, 8})
+        self.assertEqual(declared.figures("Refusal 4: 1 to 4,294,967,295 (2.15), 8 deep."), {1, 4294967295, 8})
 
     def test_signatures(self):
         sources = types.SimpleNamespace(crates=[ENTRY])

@@ -9,7 +9,7 @@ EPSILON, ACTION, PREDICATE, CALL, TOKEN, OTHER, BLOCK = range(7)
 TRAILER = 8
 # The starred grammars, and one in which both rules can be the hub and options of three names are joined.
 COMPARED = [f'example {at}' for at in range(1, 12)] + ['written 96']
-MOST_NAME = 65535
+MOST_NAME = 4294967295
 
 
 class Sorts:

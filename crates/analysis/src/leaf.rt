@@ -10,7 +10,7 @@ use words::words::word;
 ghost use mathlib.Core.Path.{_≡_};
 ghost use Prim.Native.Nat.{_+_, _*_, _<_, _≤_};
 ghost use lib.ListN.{length, getD};
-ghost use Rattle.grammar.specs.Numbers.{ruleLimit, mostName, blockKind};
+ghost use Rattle.grammar.specs.Numbers.{ruleLimit, blockKind};
 ghost use Rattle.grammar.specs.Words.{words};
 ghost use Rattle.grammar.specs.Found.{FoundElement, HeadAt};
 ghost use Rattle.words.specs.Room.{Room};
@@ -96,7 +96,7 @@ fn see_name(
     p: Passing,
     t: &mut [u64],
 ) -> Passing
-    requires { ⌜ (name ≤ mostName) × (known .n ≤ ruleLimit) × (5 ≤ length (now t)) ⌝ }
+    requires { ⌜ (known .n ≤ ruleLimit) × (5 ≤ length (now t)) ⌝ }
     requires { ⌜ Tabled (now names) (known .n) (now table) ⌝ }
     ensures { λ r. ⌜ NameSeen (viewOf (now (names .entry)) known) name skips
         (seenOf (now (t .entry)) (p .seeks) (p .null)) (seenOf (now (t .exit)) (r .seeks) (r .null)) ⌝ }

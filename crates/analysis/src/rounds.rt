@@ -10,7 +10,7 @@ use records::rules::Rules;
 ghost use mathlib.Core.Path.{_≡_};
 ghost use Prim.Native.Nat.{_<_, _≤_};
 ghost use lib.ListN.{length};
-ghost use Rattle.grammar.specs.Numbers.{ruleLimit, mostName};
+ghost use Rattle.grammar.specs.Numbers.{ruleLimit, workBytes};
 ghost use Rattle.grammar.specs.Words.{words};
 ghost use Rattle.words.specs.Room.{Room};
 ghost use Rattle.records.specs.Rules.{FoundRows};
@@ -162,7 +162,7 @@ pub fn find_rows(
     corners: &mut [[u64; Row::WORDS]; Row::RULES],
     work: &mut [u8],
 ) -> Marks
-    requires { ⌜ Room (now s) end × (mostName < length (now work)) ⌝ }
+    requires { ⌜ Room (now s) end × (workBytes ≤ length (now work)) ⌝ }
     requires { ⌜ Standing (words (now s)) end rules ⌝ }
     requires { ⌜ (length (now calls) ≡ ruleLimit) × (length (now corners) ≡ ruleLimit) ⌝ }
     ensures { λ r. ⌜ FactsFound (words (now (s .entry))) end rules past (now (calls .exit)) (now (corners .exit)) r ⌝ }

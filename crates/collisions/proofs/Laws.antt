@@ -1,7 +1,13 @@
 -- The laws that the answers cite.
+pub mod Few
+pub mod Bits
+pub mod Find
+pub mod Insert
+pub mod More
+pub mod Entry
+pub mod Join
 pub mod Names
 pub mod Walks
-pub mod Low
 pub mod Items
 pub mod Clash
 pub mod Mark

@@ -9,7 +9,7 @@ use Rattle.grammar.specs.Fold.{Steps}
 use Rattle.grammar.specs.Found.{AlternativeSpans}
 use Rattle.reference.specs.Walks.{labelNames, leafNames}
 use Rattle.reference.specs.Substitute.{collectLabels, bindableNames}
-use Rattle.collisions.specs.Names.{labelsAt, referencesAt, hasName, Marked}
+use Rattle.collisions.specs.Names.{labelsBit, referencesBit, hasName, Marked}
 use Rattle.collisions.specs.Walks.{noting}
 use Rattle.collisions.specs.declared.clash.Clash.{Clash}
 
@@ -23,17 +23,18 @@ unfoldable pub clashLeaf : (ℕ → Bool) → Clash → Leaf → Clash
 clashLeaf references c l = record { label = c .label; binding = c .binding || any references (leafNames l) }
 
 -- Against the sets in the work area.
-abbrev pub comparing : List ℕ → Steps Clash
-comparing bs = noting (clashLabel (hasName bs labelsAt) (hasName bs referencesAt)) (clashLeaf (hasName bs referencesAt))
+abbrev pub comparing : List ℕ → List ℕ → Steps Clash
+comparing ws bs =
+    noting (clashLabel (hasName ws bs labelsBit) (hasName ws bs referencesBit)) (clashLeaf (hasName ws bs referencesBit))
 
 -- One bound name more.
-pub record NameBound (bs : List ℕ) (name : ℕ) (c r : Clash) : Type 0 where
+pub record NameBound (ws bs : List ℕ) (name : ℕ) (c r : Clash) : Type 0 where
   pub label : r .label ≡ c .label
-  pub binding : r .binding ≡ (c .binding || hasName bs referencesAt name)
+  pub binding : r .binding ≡ (c .binding || hasName ws bs referencesBit name)
 
 -- What is found of the alternative that stands at a place, where the sets hold the members of two lists.
 pub record ClashesAt (ws : List ℕ) (end d at : ℕ) (bs : List ℕ) (r : Clash) : Type 0 where
-  pub labelIs : (labels references : List ℕ) → Marked bs labels references → (a : AlternativeOf (Block d)) (q : ℕ)
+  pub labelIs : (labels references : List ℕ) → Marked ws bs labels references → (a : AlternativeOf (Block d)) (q : ℕ)
       → AlternativeSpans ws end d at a q → r .label ≡ meet labels (collectLabels d (a .elements))
-  pub bindingIs : (labels references : List ℕ) → Marked bs labels references → (a : AlternativeOf (Block d)) (q : ℕ)
+  pub bindingIs : (labels references : List ℕ) → Marked ws bs labels references → (a : AlternativeOf (Block d)) (q : ℕ)
       → AlternativeSpans ws end d at a q → r .binding ≡ meet references (bindableNames d (a .elements))

@@ -1,4 +1,5 @@
 pub mod Names
+pub mod Order
 pub mod Walks
 pub mod Quiet
 pub mod Clash

@@ -16,7 +16,7 @@ use Rattle.grammar.specs.Fold.{Steps, folded, WalkedOne}
 use Rattle.reference.specs.Walks.{labelNames}
 use Rattle.reference.specs.Substitute.{without, remainingActionsReference, collectLabels, actionReferenceNames}
 use Rattle.planned.specs.List.{SameList}
-use Rattle.collisions.specs.Names.{labelsAt, referencesAt, hasName, Marked}
+use Rattle.collisions.specs.Names.{labelsBit, referencesBit, hasName, Ordered, Kept, Marked}
 use Rattle.collisions.specs.Walks.{referenceNames, bindingNames, noting, LabelSeen}
 
 pub record Marks : Type 0 where
@@ -25,8 +25,9 @@ pub record Marks : Type 0 where
   pub dangling : Bool
 
 -- The sets of the work area.
-unfoldable pub marksOf : List ℕ → Bool → Marks
-marksOf bs dangling = record { labels = hasName bs labelsAt; references = hasName bs referencesAt; dangling = dangling }
+unfoldable pub marksOf : List ℕ → List ℕ → Bool → Marks
+marksOf ws bs dangling =
+    record { labels = hasName ws bs labelsBit; references = hasName ws bs referencesBit; dangling = dangling }
 
 unfoldable pub markLabel : Marks → Label → Marks
 markLabel m b =
@@ -53,9 +54,9 @@ module _ (name : ℕ) where
   marking = noting markLabel markLeaf
 
 -- The label of the element at a place is marked; the list is as it was.
-pub record LabelMarked (ws : List ℕ) (at : ℕ) (before after : List ℕ) : Type 0 where
-  pub list : SameList before after
-  pub seen : (dangling : Bool) → LabelSeen ws at markLabel (marksOf before dangling) (marksOf after dangling)
+pub record LabelMarked (ws : List ℕ) (end at : ℕ) (before after : List ℕ) : Type 0 where
+  pub kept : Kept ws end before after
+  pub seen : (dangling : Bool) → LabelSeen ws at markLabel (marksOf ws before dangling) (marksOf ws after dangling)
 
 -- Past the reference at a place, and past n from there on.
 abbrev pub ReferenceMarked : ℕ → List ℕ → ℕ → ℕ → Marks → ℕ → Marks → Type 0
@@ -66,7 +67,9 @@ pub record ReferencesMarked (name : ℕ) (ws : List ℕ) (end n at : ℕ) (s r :
       → r ≡ folded (markReference name) s rs
 
 -- All elements but one are marked.
-pub record MarkedAround (d : ℕ) (es : List (Element (Block d))) (index name : ℕ) (before after : List ℕ) (r : Bool) : Type 0 where
+pub record MarkedAround (ws : List ℕ) (end d : ℕ) (es : List (Element (Block d))) (index name : ℕ) (before after : List ℕ)
+    (r : Bool) : Type 0 where
   pub list : SameList before after
+  pub ordered : Ordered ws end after
   pub refers : r ≡ remainingActionsReference d es index name
-  pub marked : Marked after (collectLabels d (without index es)) (actionReferenceNames d (without index es))
+  pub marked : Marked ws after (collectLabels d (without index es)) (actionReferenceNames d (without index es))

@@ -10,14 +10,13 @@ use words::walk::leaf_end;
 use words::words::word;
 ghost use mathlib.Core.Path.{_≡_};
 ghost use Prim.Native.Nat.{_+_, _≤_};
-ghost use lib.ListN.{length};
-ghost use Rattle.grammar.specs.Numbers.{blockKind, mostName, workBytes};
+ghost use Rattle.grammar.specs.Numbers.{blockKind};
 ghost use Rattle.grammar.specs.Tree.{innerDepth};
 ghost use Rattle.grammar.specs.Words.{words};
 ghost use Rattle.grammar.specs.Found.{FoundElement, FoundElements, FoundAlternative, FoundAlternatives, HeadAt};
 ghost use Rattle.grammar.specs.Fold.{ElementWalked, ElementsWalked, AlternativeWalked, AlternativesWalked};
 ghost use Rattle.words.specs.Room.{Room};
-ghost use Rattle.collisions.specs.Names.{labelsAt, referencesAt, hasName};
+ghost use Rattle.collisions.specs.Names.{labelsBit, referencesBit, hasName, Ordered};
 ghost use Rattle.collisions.specs.Walks.{LabelSeen, LeafSeen};
 ghost use Rattle.collisions.specs.Clash.{clashLabel, clashLeaf, comparing, NameBound, ClashesAt};
 
@@ -34,29 +33,30 @@ struct Place {
 }
 
 fn see_label(s: &[u8], end: usize, depth: u32, at: usize, work: &[u8], c: Clash) -> Clash
-    requires { ⌜ Room (now s) end × (at + 6 ≤ end) × (workBytes ≤ length (now work)) ⌝ }
+    requires { ⌜ Room (now s) end × (at + 6 ≤ end) × Ordered (words (now s)) end (now work) ⌝ }
     requires { ⌜ FoundElement (words (now s)) end depth at ⌝ }
     ensures { λ r. ⌜ LabelSeen (words (now (s .entry))) at
-        (clashLabel (hasName (now (work .entry)) labelsAt) (hasName (now (work .entry)) referencesAt)) c r ⌝ }
+        (clashLabel (hasName (words (now (s .entry))) (now (work .entry)) labelsBit)
+        (hasName (words (now (s .entry))) (now (work .entry)) referencesBit)) c r ⌝ }
 {
     let name = word(s, at + 4);
     if name == 0 {
         return c;
     }
     Clash {
-        label: c.label | has(work, Names::LABELS, name),
-        binding: c.binding | has(work, Names::REFERENCES, name),
+        label: c.label | has(s, end, work, Names::LABELS, name),
+        binding: c.binding | has(s, end, work, Names::REFERENCES, name),
     }
 }
 
 // A name that a call or a token binds.
-fn bind(work: &[u8], name: u32, c: Clash) -> Clash
-    requires { ⌜ (workBytes ≤ length (now work)) × (name ≤ mostName) ⌝ }
-    ensures { λ r. ⌜ NameBound (now (work .entry)) name c r ⌝ }
+fn bind(s: &[u8], end: usize, work: &[u8], name: u32, c: Clash) -> Clash
+    requires { ⌜ Room (now s) end × Ordered (words (now s)) end (now work) ⌝ }
+    ensures { λ r. ⌜ NameBound (words (now (s .entry))) (now (work .entry)) name c r ⌝ }
 {
     Clash {
         label: c.label,
-        binding: c.binding | has(work, Names::REFERENCES, name),
+        binding: c.binding | has(s, end, work, Names::REFERENCES, name),
     }
 }
 
@@ -71,24 +71,25 @@ fn see_leaf(
     work: &[u8],
     c: Clash,
 ) -> Clash
-    requires { ⌜ Room (now s) end × (workBytes ≤ length (now work)) ⌝ }
+    requires { ⌜ Room (now s) end × Ordered (words (now s)) end (now work) ⌝ }
     requires { ⌜ HeadAt (words (now s)) end at kind payload × (kind ≡ blockKind → ⊥) × FoundElement (words (now s)) end depth at ⌝ }
-    ensures { λ r. ⌜ LeafSeen (words (now (s .entry))) end kind payload (clashLeaf (hasName (now (work .entry)) referencesAt)) c r ⌝ }
+    ensures { λ r. ⌜ LeafSeen (words (now (s .entry))) end kind payload
+        (clashLeaf (hasName (words (now (s .entry))) (now (work .entry)) referencesBit)) c r ⌝ }
 {
     if kind == Kind::CALL {
-        return bind(work, word(s, payload), c);
+        return bind(s, end, work, word(s, payload), c);
     }
     if kind == Kind::TOKEN {
-        return bind(work, word(s, payload), c);
+        return bind(s, end, work, word(s, payload), c);
     }
     c
 }
 
 // The element at `w.at`, a block with all that is in it.
 fn element(s: &[u8], end: usize, depth: u32, work: &[u8], w: Place) -> Place
-    requires { ⌜ Room (now s) end × (workBytes ≤ length (now work)) ⌝ }
+    requires { ⌜ Room (now s) end × Ordered (words (now s)) end (now work) ⌝ }
     requires { ⌜ FoundElement (words (now s)) end depth (w .at) ⌝ }
-    ensures { λ r. ⌜ ElementWalked (comparing (now (work .entry))) (words (now (s .entry))) end depth
+    ensures { λ r. ⌜ ElementWalked (comparing (words (now (s .entry))) (now (work .entry))) (words (now (s .entry))) end depth
         (w .at) (w .found) (r .at) (r .found) ⌝ }
 {
     let at = w.at;
@@ -115,9 +116,9 @@ fn element(s: &[u8], end: usize, depth: u32, work: &[u8], w: Place) -> Place
 
 // n elements from `w.at` on.
 fn elements(s: &[u8], end: usize, depth: u32, work: &[u8], n: u32, w: Place) -> Place
-    requires { ⌜ Room (now s) end × (workBytes ≤ length (now work)) × (w .at ≤ end) ⌝ }
+    requires { ⌜ Room (now s) end × Ordered (words (now s)) end (now work) × (w .at ≤ end) ⌝ }
     requires { ⌜ FoundElements (words (now s)) end depth n (w .at) ⌝ }
-    ensures { λ r. ⌜ ElementsWalked (comparing (now (work .entry))) (words (now (s .entry))) end depth n
+    ensures { λ r. ⌜ ElementsWalked (comparing (words (now (s .entry))) (now (work .entry))) (words (now (s .entry))) end depth n
         (w .at) (w .found) (r .at) (r .found) ⌝ }
 {
     let mut i: u32 = n;
@@ -132,9 +133,9 @@ fn elements(s: &[u8], end: usize, depth: u32, work: &[u8], n: u32, w: Place) -> 
 
 // The alternative at `w.at`.
 fn alternative(s: &[u8], end: usize, depth: u32, work: &[u8], w: Place) -> Place
-    requires { ⌜ Room (now s) end × (workBytes ≤ length (now work)) ⌝ }
+    requires { ⌜ Room (now s) end × Ordered (words (now s)) end (now work) ⌝ }
     requires { ⌜ FoundAlternative (words (now s)) end depth (w .at) ⌝ }
-    ensures { λ r. ⌜ AlternativeWalked (comparing (now (work .entry))) (words (now (s .entry))) end depth
+    ensures { λ r. ⌜ AlternativeWalked (comparing (words (now (s .entry))) (now (work .entry))) (words (now (s .entry))) end depth
         (w .at) (w .found) (r .at) (r .found) ⌝ }
 {
     let head = alternative_head(s, end, depth, w.at);
@@ -149,9 +150,9 @@ fn alternative(s: &[u8], end: usize, depth: u32, work: &[u8], w: Place) -> Place
 
 // n alternatives from `w.at` on: a block.
 fn alternatives(s: &[u8], end: usize, depth: u32, work: &[u8], n: u32, w: Place) -> Place
-    requires { ⌜ Room (now s) end × (workBytes ≤ length (now work)) × (w .at ≤ end) ⌝ }
+    requires { ⌜ Room (now s) end × Ordered (words (now s)) end (now work) × (w .at ≤ end) ⌝ }
     requires { ⌜ FoundAlternatives (words (now s)) end depth n (w .at) ⌝ }
-    ensures { λ r. ⌜ AlternativesWalked (comparing (now (work .entry))) (words (now (s .entry))) end depth n
+    ensures { λ r. ⌜ AlternativesWalked (comparing (words (now (s .entry))) (now (work .entry))) (words (now (s .entry))) end depth n
         (w .at) (w .found) (r .at) (r .found) ⌝ }
 {
     let mut i: u32 = n;
@@ -166,7 +167,7 @@ fn alternatives(s: &[u8], end: usize, depth: u32, work: &[u8], n: u32, w: Place)
 
 // Whether the alternative at `at` collides with what is marked.
 pub fn clash_at(s: &[u8], end: usize, work: &[u8], at: usize) -> Clash
-    requires { ⌜ Room (now s) end × (workBytes ≤ length (now work)) ⌝ }
+    requires { ⌜ Room (now s) end × Ordered (words (now s)) end (now work) ⌝ }
     requires { ⌜ FoundAlternative (words (now s)) end innerDepth at ⌝ }
     ensures { λ r. ⌜ ClashesAt (words (now (s .entry))) end innerDepth at (now (work .entry)) r ⌝ }
 {

@@ -14,15 +14,15 @@ use words::walk::leaf_end;
 use words::words::word;
 ghost use mathlib.Core.Path.{_≡_};
 ghost use Prim.Native.Nat.{_+_, _<_, _≤_};
-ghost use lib.ListN.{length};
-ghost use Rattle.grammar.specs.Numbers.{blockKind, workBytes};
+ghost use Rattle.grammar.specs.Numbers.{blockKind, mostWords};
 ghost use Rattle.grammar.specs.Tree.{innerDepth};
 ghost use Rattle.grammar.specs.Words.{words};
 ghost use Rattle.grammar.specs.Found.{FoundElement, FoundElements, FoundAlternative, FoundAlternatives, HeadAt};
 ghost use Rattle.grammar.specs.Fold.{ElementWalked, ElementsWalked, AlternativeWalked, AlternativesWalked};
 ghost use Rattle.words.specs.Room.{Room};
 ghost use Rattle.planned.specs.Layout.{meaning};
-ghost use Rattle.planned.specs.List.{Located, ListedIn, SameList};
+ghost use Rattle.planned.specs.List.{Located, ListedIn};
+ghost use Rattle.collisions.specs.Names.{Ordered, Kept};
 ghost use Rattle.collisions.specs.Walks.{LeafSeen, FoundReference, FoundReferences, ItemsWalked};
 ghost use Rattle.collisions.specs.Mark.{marksOf, markLeaf, marking, LabelMarked, ReferenceMarked, ReferencesMarked, MarkedAround};
 
@@ -33,15 +33,15 @@ struct Place {
 }
 
 fn mark_label(s: &[u8], end: usize, depth: u32, at: usize, work: &mut [u8])
-    requires { ⌜ Room (now s) end × (at + 6 ≤ end) × (workBytes ≤ length (now work)) ⌝ }
+    requires { ⌜ Room (now s) end × (at + 6 ≤ end) × Ordered (words (now s)) end (now work) ⌝ }
     requires { ⌜ FoundElement (words (now s)) end depth at ⌝ }
-    ensures { λ _. ⌜ LabelMarked (words (now (s .entry))) at (now (work .entry)) (now (work .exit)) ⌝ }
+    ensures { λ _. ⌜ LabelMarked (words (now (s .entry))) end at (now (work .entry)) (now (work .exit)) ⌝ }
 {
     let name = word(s, at + 4);
     if name == 0 {
         return;
     }
-    put(work, Names::LABELS, name);
+    put(s, end, work, Names::LABELS, at + 4);
 }
 
 // The reference at `at`; all but those of the last kind bind.
@@ -53,10 +53,11 @@ fn mark_reference(
     work: &mut [u8],
     dangling: bool,
 ) -> bool
-    requires { ⌜ Room (now s) end × (at + 2 ≤ end) × (workBytes ≤ length (now work)) ⌝ }
+    requires { ⌜ Room (now s) end × (0 < at) × (at + 2 ≤ end) × Ordered (words (now s)) end (now work) ⌝ }
     requires { ⌜ FoundReference (words (now s)) end at ⌝ }
-    ensures { λ r. ⌜ SameList (now (work .entry)) (now (work .exit)) × ReferenceMarked name (words (now (s .entry))) end
-        at (marksOf (now (work .entry)) dangling) (at + 2) (marksOf (now (work .exit)) r) ⌝ }
+    ensures { λ r. ⌜ Kept (words (now (s .entry))) end (now (work .entry)) (now (work .exit)) × ReferenceMarked name
+        (words (now (s .entry))) end at (marksOf (words (now (s .entry))) (now (work .entry)) dangling) (at + 2)
+        (marksOf (words (now (s .entry))) (now (work .exit)) r) ⌝ }
 {
     let kind = word(s, at);
     let to = word(s, at + 1);
@@ -64,7 +65,7 @@ fn mark_reference(
     if ReferenceKind::QUALIFIED < kind {
         return refers;
     }
-    put(work, Names::REFERENCES, to);
+    put(s, end, work, Names::REFERENCES, at + 1);
     refers
 }
 
@@ -78,10 +79,11 @@ fn mark_references(
     work: &mut [u8],
     dangling: bool,
 ) -> bool
-    requires { ⌜ Room (now s) end × (at ≤ end) × (workBytes ≤ length (now work)) ⌝ }
+    requires { ⌜ Room (now s) end × (0 < at) × (at ≤ end) × Ordered (words (now s)) end (now work) ⌝ }
     requires { ⌜ FoundReferences (words (now s)) end n at ⌝ }
-    ensures { λ r. ⌜ SameList (now (work .entry)) (now (work .exit)) × ReferencesMarked name (words (now (s .entry))) end n
-        at (marksOf (now (work .entry)) dangling) (marksOf (now (work .exit)) r) ⌝ }
+    ensures { λ r. ⌜ Kept (words (now (s .entry))) end (now (work .entry)) (now (work .exit)) × ReferencesMarked name
+        (words (now (s .entry))) end n at (marksOf (words (now (s .entry))) (now (work .entry)) dangling)
+        (marksOf (words (now (s .entry))) (now (work .exit)) r) ⌝ }
 {
     let mut i: u32 = n;
     let mut p: usize = at;
@@ -106,10 +108,11 @@ fn mark_leaf(
     work: &mut [u8],
     dangling: bool,
 ) -> bool
-    requires { ⌜ Room (now s) end × (workBytes ≤ length (now work)) ⌝ }
+    requires { ⌜ Room (now s) end × Ordered (words (now s)) end (now work) ⌝ }
     requires { ⌜ HeadAt (words (now s)) end at kind payload × (kind ≡ blockKind → ⊥) × FoundElement (words (now s)) end depth at ⌝ }
-    ensures { λ r. ⌜ SameList (now (work .entry)) (now (work .exit)) × LeafSeen (words (now (s .entry))) end kind payload (markLeaf name)
-        (marksOf (now (work .entry)) dangling) (marksOf (now (work .exit)) r) ⌝ }
+    ensures { λ r. ⌜ Kept (words (now (s .entry))) end (now (work .entry)) (now (work .exit)) × LeafSeen
+        (words (now (s .entry))) end kind payload (markLeaf name) (marksOf (words (now (s .entry))) (now (work .entry)) dangling)
+        (marksOf (words (now (s .entry))) (now (work .exit)) r) ⌝ }
 {
     let n = reference_count(s, end, depth, at, kind, payload);
     if n == 0 {
@@ -120,10 +123,11 @@ fn mark_leaf(
 
 // The element at `w.at`, a block with all that is in it.
 fn element(s: &[u8], end: usize, depth: u32, name: u32, work: &mut [u8], w: Place) -> Place
-    requires { ⌜ Room (now s) end × (workBytes ≤ length (now work)) ⌝ }
+    requires { ⌜ Room (now s) end × Ordered (words (now s)) end (now work) ⌝ }
     requires { ⌜ FoundElement (words (now s)) end depth (w .at) ⌝ }
-    ensures { λ r. ⌜ SameList (now (work .entry)) (now (work .exit)) × ElementWalked (marking name) (words (now (s .entry))) end depth
-        (w .at) (marksOf (now (work .entry)) (w .dangling)) (r .at) (marksOf (now (work .exit)) (r .dangling)) ⌝ }
+    ensures { λ r. ⌜ Kept (words (now (s .entry))) end (now (work .entry)) (now (work .exit)) × ElementWalked (marking name)
+        (words (now (s .entry))) end depth (w .at) (marksOf (words (now (s .entry))) (now (work .entry)) (w .dangling)) (r .at)
+        (marksOf (words (now (s .entry))) (now (work .exit)) (r .dangling)) ⌝ }
 {
     let at = w.at;
     let head = element_head(s, end, depth, at);
@@ -148,10 +152,11 @@ fn element(s: &[u8], end: usize, depth: u32, name: u32, work: &mut [u8], w: Plac
 
 // n elements from `w.at` on.
 fn elements(s: &[u8], end: usize, depth: u32, name: u32, work: &mut [u8], n: u32, w: Place) -> Place
-    requires { ⌜ Room (now s) end × (workBytes ≤ length (now work)) × (w .at ≤ end) ⌝ }
+    requires { ⌜ Room (now s) end × Ordered (words (now s)) end (now work) × (w .at ≤ end) ⌝ }
     requires { ⌜ FoundElements (words (now s)) end depth n (w .at) ⌝ }
-    ensures { λ r. ⌜ SameList (now (work .entry)) (now (work .exit)) × ElementsWalked (marking name) (words (now (s .entry))) end depth n
-        (w .at) (marksOf (now (work .entry)) (w .dangling)) (r .at) (marksOf (now (work .exit)) (r .dangling)) ⌝ }
+    ensures { λ r. ⌜ Kept (words (now (s .entry))) end (now (work .entry)) (now (work .exit)) × ElementsWalked (marking name)
+        (words (now (s .entry))) end depth n (w .at) (marksOf (words (now (s .entry))) (now (work .entry)) (w .dangling)) (r .at)
+        (marksOf (words (now (s .entry))) (now (work .exit)) (r .dangling)) ⌝ }
 {
     let mut i: u32 = n;
     let mut p = w;
@@ -165,10 +170,11 @@ fn elements(s: &[u8], end: usize, depth: u32, name: u32, work: &mut [u8], n: u32
 
 // The alternative at `w.at`.
 fn alternative(s: &[u8], end: usize, depth: u32, name: u32, work: &mut [u8], w: Place) -> Place
-    requires { ⌜ Room (now s) end × (workBytes ≤ length (now work)) ⌝ }
+    requires { ⌜ Room (now s) end × Ordered (words (now s)) end (now work) ⌝ }
     requires { ⌜ FoundAlternative (words (now s)) end depth (w .at) ⌝ }
-    ensures { λ r. ⌜ SameList (now (work .entry)) (now (work .exit)) × AlternativeWalked (marking name) (words (now (s .entry))) end depth
-        (w .at) (marksOf (now (work .entry)) (w .dangling)) (r .at) (marksOf (now (work .exit)) (r .dangling)) ⌝ }
+    ensures { λ r. ⌜ Kept (words (now (s .entry))) end (now (work .entry)) (now (work .exit)) × AlternativeWalked (marking name)
+        (words (now (s .entry))) end depth (w .at) (marksOf (words (now (s .entry))) (now (work .entry)) (w .dangling)) (r .at)
+        (marksOf (words (now (s .entry))) (now (work .exit)) (r .dangling)) ⌝ }
 {
     let head = alternative_head(s, end, depth, w.at);
     let count = head.count;
@@ -189,10 +195,11 @@ fn alternatives(
     n: u32,
     w: Place,
 ) -> Place
-    requires { ⌜ Room (now s) end × (workBytes ≤ length (now work)) × (w .at ≤ end) ⌝ }
+    requires { ⌜ Room (now s) end × Ordered (words (now s)) end (now work) × (w .at ≤ end) ⌝ }
     requires { ⌜ FoundAlternatives (words (now s)) end depth n (w .at) ⌝ }
-    ensures { λ r. ⌜ SameList (now (work .entry)) (now (work .exit)) × AlternativesWalked (marking name) (words (now (s .entry))) end depth
-        n (w .at) (marksOf (now (work .entry)) (w .dangling)) (r .at) (marksOf (now (work .exit)) (r .dangling)) ⌝ }
+    ensures { λ r. ⌜ Kept (words (now (s .entry))) end (now (work .entry)) (now (work .exit)) × AlternativesWalked (marking name)
+        (words (now (s .entry))) end depth n (w .at) (marksOf (words (now (s .entry))) (now (work .entry)) (w .dangling)) (r .at)
+        (marksOf (words (now (s .entry))) (now (work .exit)) (r .dangling)) ⌝ }
 {
     let mut i: u32 = n;
     let mut p = w;
@@ -216,10 +223,11 @@ fn mark_items(
     dangling: bool,
 ) -> bool
     requires { ⌜ Room (now s) end × Located (now work) x × (from ≤ to) × (to ≤ x .ne) ⌝ }
-    requires { ⌜ ListedIn (words (now s)) end innerDepth (now work) x ⌝ }
-    ensures { λ r. ⌜ SameList (now (work .entry)) (now (work .exit)) × ItemsWalked (marking name) innerDepth
+    requires { ⌜ Ordered (words (now s)) end (now work) × ListedIn (words (now s)) end innerDepth (now work) x ⌝ }
+    ensures { λ r. ⌜ Kept (words (now (s .entry))) end (now (work .entry)) (now (work .exit)) × ItemsWalked (marking name) innerDepth
         (meaning (words (now (s .entry))) end innerDepth (now (work .entry)) x .elements) from to
-        (marksOf (now (work .entry)) dangling) (marksOf (now (work .exit)) r) ⌝ }
+        (marksOf (words (now (s .entry))) (now (work .entry)) dangling)
+        (marksOf (words (now (s .entry))) (now (work .exit)) r) ⌝ }
 {
     let mut i: usize = from;
     let mut refers = dangling;
@@ -246,9 +254,10 @@ pub fn mark_around(
     index: usize,
     name: u32,
 ) -> bool
-    requires { ⌜ Room (now s) end × Located (now work) x × (index < x .ne) ⌝ }
+    requires { ⌜ Room (now s) end × (end ≤ mostWords) × Located (now work) x × (index < x .ne) ⌝ }
     requires { ⌜ ListedIn (words (now s)) end innerDepth (now work) x ⌝ }
-    ensures { λ r. ⌜ MarkedAround innerDepth (meaning (words (now (s .entry))) end innerDepth (now (work .entry)) x .elements) index name
+    ensures { λ r. ⌜ MarkedAround (words (now (s .entry))) end innerDepth
+        (meaning (words (now (s .entry))) end innerDepth (now (work .entry)) x .elements) index name
         (now (work .entry)) (now (work .exit)) r ⌝ }
 {
     clear_both(work);

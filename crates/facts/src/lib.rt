@@ -9,9 +9,9 @@ use sheet::Answer;
 use sheet::read;
 use words::words::clear;
 ghost use mathlib.Core.Path.{_≡_};
-ghost use Prim.Native.Nat.{_<_};
+ghost use Prim.Native.Nat.{_≤_};
 ghost use lib.ListN.{length, replicate};
-ghost use Rattle.grammar.specs.Numbers.{mostName};
+ghost use Rattle.grammar.specs.Numbers.{workBytes};
 ghost use Rattle.grammar.specs.Words.{words};
 ghost use Rattle.words.specs.Room.{Room};
 ghost use Rattle.sheet.specs.Answer.{readLent, workAfter};
@@ -36,7 +36,7 @@ fn tell(
     cycles: &mut [[u64; Row::WORDS]; Row::RULES],
     work: &mut [u8],
 ) -> Told
-    requires { ⌜ Room (now s) end × (mostName < length (now work)) ⌝ }
+    requires { ⌜ Room (now s) end × (workBytes ≤ length (now work)) ⌝ }
     requires { ⌜ Standing (words (now s)) end rules ⌝ }
     requires { ⌜ (now calls ≡ noRows) × (now corners ≡ noRows) × (now cycles ≡ noRows) ⌝ }
     ensures { λ r. ⌜ RulesTold (words (now (s .entry))) end rules (reading past) (r .marks) (r .cycles)

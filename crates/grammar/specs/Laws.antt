@@ -11,3 +11,4 @@ pub mod Fold
 pub mod Whole
 pub mod Codec
 pub mod Lists
+pub mod Few

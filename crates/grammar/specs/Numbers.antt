@@ -29,7 +29,7 @@ workBytes = 65536
 
 -- Names run from 1 to this.
 abbrev pub mostName : ℕ
-mostName = 65535
+mostName = 4294967295
 
 abbrev pub ruleLimit : ℕ
 ruleLimit = 128

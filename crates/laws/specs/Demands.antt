@@ -7,6 +7,7 @@ pub mod Derivation
 pub mod Strings
 pub mod Counted
 pub mod Corners
+pub mod Names
 pub mod Analysis
 pub mod Shape
 pub mod Readings

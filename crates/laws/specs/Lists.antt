@@ -3,5 +3,4 @@ pub mod Count
 pub mod Every
 pub mod Lookup
 pub mod Mapped
-pub mod Few
 pub mod Told

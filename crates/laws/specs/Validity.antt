@@ -1,4 +1,5 @@
 -- The result of a run is a valid tree that fits a sheet.
+pub mod Names
 pub mod Kept
 pub mod Wordy
 pub mod Fits

@@ -7,9 +7,9 @@ use reach::rows::Row;
 use records::rules::Rules;
 use turns::state::Limits;
 ghost use mathlib.Core.Path.{_≡_};
-ghost use Prim.Native.Nat.{_<_};
+ghost use Prim.Native.Nat.{_≤_};
 ghost use lib.ListN.{length};
-ghost use Rattle.grammar.specs.Numbers.{ruleLimit, mostName};
+ghost use Rattle.grammar.specs.Numbers.{ruleLimit, workBytes};
 ghost use Rattle.grammar.specs.Words.{words};
 ghost use Rattle.words.specs.Room.{Room};
 ghost use Rattle.analysis.specs.Names.{tableWith};
@@ -52,7 +52,7 @@ pub fn find_out(
     corners: &mut [[u64; Row::WORDS]; Row::RULES],
     work: &mut [u8],
 ) -> Ground
-    requires { ⌜ Room (now s) end × (mostName < length (now work)) × KeptAt (now s) end to ⌝ }
+    requires { ⌜ Room (now s) end × (workBytes ≤ length (now work)) × KeptAt (now s) end to ⌝ }
     requires { ⌜ Standing (words (now s)) end rules ⌝ }
     requires { ⌜ (length (now calls) ≡ ruleLimit) × (length (now corners) ≡ ruleLimit) ⌝ }
     ensures { λ r. ⌜ FactsFound (words (now (s .entry))) end rules past (now (calls .exit)) (now (corners .exit)) (r .marks) ⌝ }

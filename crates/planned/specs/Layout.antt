@@ -37,10 +37,6 @@ handHalves = mostElements + mostOptions
 abbrev pub handEnd : ℕ
 handEnd = handAt + handHalves
 
--- The first byte behind it.
-abbrev pub listEnd : ℕ
-listEnd = 2 * handEnd
-
 -- A place in the sheet, and this more where an element was made plain, or where a slot is filled by what always filled it.
 abbrev pub marked : ℕ
 marked = 32768

@@ -9,7 +9,7 @@ use Rattle.grammar.specs.Numbers.{workBytes, mostWords, callKind, kindEnd}
 use Rattle.grammar.specs.Tree.{Element, Block}
 use Rattle.grammar.specs.Found.{FoundElement, FoundAlternative, ElementSpans}
 use Rattle.reference.specs.Numbers.{mostAlternatives, mostElements, mostOptions}
-use Rattle.planned.specs.Layout.{half, headAt, optionsAt, handAt, handHalves, handEnd, listEnd, isMarked, placeOf, madeIf}
+use Rattle.planned.specs.Layout.{half, headAt, optionsAt, handAt, handHalves, handEnd, isMarked, placeOf, madeIf}
 use Rattle.planned.specs.declared.list.Sizes.{Sizes}
 use Rattle.planned.specs.declared.list.Listed.{Listed}
 
@@ -120,4 +120,4 @@ pub record CallAt (ws bs : List ℕ) (x : Listed) (i : ℕ) : Type 0 where
 -- The area of the list is as it was; what stands behind it may be anything.
 pub record SameList (before after : List ℕ) : Type 0 where
   pub long : length after ≡ length before
-  pub bytes : (i : ℕ) → i < listEnd → getD after i 0 ≡ getD before i 0
+  pub halves : (j : ℕ) → j < handEnd → half after j ≡ half before j

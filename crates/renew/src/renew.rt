@@ -11,9 +11,9 @@ use reach::rows::add_if;
 use reach::rows::without;
 use records::rules::Rules;
 ghost use mathlib.Core.Path.{_≡_};
-ghost use Prim.Native.Nat.{_<_};
+ghost use Prim.Native.Nat.{_<_, _≤_};
 ghost use lib.ListN.{length};
-ghost use Rattle.grammar.specs.Numbers.{ruleLimit, mostName};
+ghost use Rattle.grammar.specs.Numbers.{ruleLimit, workBytes};
 ghost use Rattle.grammar.specs.Words.{words};
 ghost use Rattle.words.specs.Room.{Room};
 ghost use Rattle.analysis.specs.Names.{tableWith};
@@ -49,7 +49,7 @@ fn survey_hub(
     corners: &mut [[u64; Row::WORDS]; Row::RULES],
     work: &mut [u8],
 ) -> [u64; Row::WORDS]
-    requires { ⌜ Room (now s) end × (mostName < length (now work)) × (hub < rules .n) ⌝ }
+    requires { ⌜ Room (now s) end × (workBytes ≤ length (now work)) × (hub < rules .n) ⌝ }
     requires { ⌜ Standing (words (now s)) end rules ⌝ }
     requires { ⌜ (length (now calls) ≡ ruleLimit) × (length (now corners) ≡ ruleLimit) ⌝ }
     ensures { λ r. ⌜ HubSurveyed (words (now (s .entry))) end rules hub past nullable
@@ -84,7 +84,7 @@ pub fn renew(
     kept: [u64; Row::WORDS],
     work: &mut [u8],
 ) -> Renewed
-    requires { ⌜ Room (now s) end × (mostName < length (now work)) ⌝ }
+    requires { ⌜ Room (now s) end × (workBytes ≤ length (now work)) ⌝ }
     requires { ⌜ (length (now calls) ≡ ruleLimit) × (length (now corners) ≡ ruleLimit) ⌝ }
     requires { ⌜ Renewable (words (now s)) end rules n hub gone past (now calls) (now corners) marks kept ⌝ }
     ensures { λ r. ⌜ RenewedOf (words (now (s .entry))) end rules n hub gone past

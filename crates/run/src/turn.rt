@@ -13,7 +13,7 @@ ghost use mathlib.Core.Path.{_≡_};
 ghost use mathlib.Core.List.{[], _∷_};
 ghost use Prim.Native.Nat.{_+_, _≤_, _<_};
 ghost use lib.ListN.{length};
-ghost use Rattle.grammar.specs.Numbers.{ruleLimit, mostWords, mostName, wordEnd};
+ghost use Rattle.grammar.specs.Numbers.{ruleLimit, mostWords, workBytes, wordEnd};
 ghost use Rattle.grammar.specs.Words.{words};
 ghost use Rattle.words.specs.Room.{Room};
 ghost use Rattle.renew.specs.Renewed.{Renewable};
@@ -40,7 +40,7 @@ fn bring_up(
     a: Applied,
     p: Plan,
 ) -> State
-    requires { ⌜ Room (now result) (a .end) × (mostName < length (now work)) × (st .rules .n ≤ ruleLimit) ⌝ }
+    requires { ⌜ Room (now result) (a .end) × (workBytes ≤ length (now work)) × (st .rules .n ≤ ruleLimit) ⌝ }
     requires { ⌜ (length (now calls) ≡ ruleLimit) × (length (now corners) ≡ ruleLimit) ⌝ }
     requires { ⌜ (st .plans + 1 < wordEnd) × (st .steps + p .steps < wordEnd) ⌝ }
     requires { ⌜ Renewable (words (now result)) (a .end) (a .rules) (st .rules .n) (p .hub) (p .low ∷ p .high ∷ []) past (now calls)

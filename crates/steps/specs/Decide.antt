@@ -16,7 +16,7 @@ use Rattle.reference.specs.Substitute.{collectLabels, actionReferenceNames, spl
 use Rattle.reference.specs.Substitute.{found, optionCollision, unionOptions, _andThen_}
 use Rattle.planned.specs.Layout.{meaning, handHalves}
 use Rattle.planned.specs.declared.list.Listed.{Listed}
-use Rattle.collisions.specs.Names.{Marked}
+use Rattle.collisions.specs.Names.{Ordered, Marked}
 use Rattle.collisions.specs.Quiet.{Silent}
 use Rattle.steps.specs.declared.decide.One.{One}
 use Rattle.steps.specs.declared.decide.One.the-variants.{Declines, Adds}
@@ -37,9 +37,13 @@ pub record DeclinedBy {A : Type 0} (d : Decided A) (n : ℕ) : Type 0 where
   pub is : d ≡ declined clause
 
 -- What stands around the element at an index: nothing that could collide, or its names are in the sets.
-pub record Around (d : ℕ) (es : List (Element (Block d))) (index : ℕ) (bs : List ℕ) (quiet : Bool) : Type 0 where
+pub record Around (ws : List ℕ) (d : ℕ) (es : List (Element (Block d))) (index : ℕ) (bs : List ℕ) (quiet : Bool) : Type 0 where
   pub silent : quiet ≡ true → Silent d es index
-  pub marked : quiet ≡ false → Marked bs (collectLabels d (without index es)) (actionReferenceNames d (without index es))
+  pub marked : quiet ≡ false → Marked ws bs (collectLabels d (without index es)) (actionReferenceNames d (without index es))
+
+-- The names around it can be looked up, where there are any.
+pub record Searchable (ws : List ℕ) (end : ℕ) (bs : List ℕ) (quiet : Bool) : Type 0 where
+  pub ordered : quiet ≡ false → Ordered ws end bs
 
 module _ (d : ℕ) (p : Planned d) (index : ℕ) where
   -- What is left of a splice where no names collide: the options.
@@ -78,27 +82,27 @@ Unreferring d a = actionReferenceNames d (a .elements) ≡ []
 module _ (ws : List ℕ) (end d at : ℕ) (bs : List ℕ) where
   -- The names of the alternative at a place against those around an element.
   pub record CollisionAt (quiet : Bool) (r : ℕ) : Type 0 where
-    pub some : (r ≡ 0 → ⊥) → (p : Planned d) (index : ℕ) → Around d (p .elements) index bs quiet → (a : AlternativeOf (Block d)) (q : ℕ)
+    pub some : (r ≡ 0 → ⊥) → (p : Planned d) (index : ℕ) → Around ws d (p .elements) index bs quiet → (a : AlternativeOf (Block d)) (q : ℕ)
         → AlternativeSpans ws end d at a q → Unreferring d a → DeclinedBy (spliceAlternative d p index a) r
-    pub none : r ≡ 0 → (p : Planned d) (index : ℕ) → Around d (p .elements) index bs quiet → (a : AlternativeOf (Block d)) (q : ℕ)
+    pub none : r ≡ 0 → (p : Planned d) (index : ℕ) → Around ws d (p .elements) index bs quiet → (a : AlternativeOf (Block d)) (q : ℕ)
         → AlternativeSpans ws end d at a q → Unreferring d a → spliceAlternative d p index a ≡ joinOptions d p index a
 
   -- The alternative in place of an element of the one in hand.
   pub record OneAt (h : Listed) (quiet : Bool) (r : One) : Type 0 where
-    pub is : (index : ℕ) → Around d (meaning ws end d bs h .elements) index bs quiet → (a : AlternativeOf (Block d)) (q : ℕ)
+    pub is : (index : ℕ) → Around ws d (meaning ws end d bs h .elements) index bs quiet → (a : AlternativeOf (Block d)) (q : ℕ)
         → AlternativeSpans ws end d at a q → Unreferring d a → OneTo d (meaning ws end d bs h) index a r
     pub low : (m : ℕ) → r ≡ Adds m → m ≤ mostWords
 
   -- So it is for n alternatives that stand there, on top of what was counted.
   pub record ManySized (h : Listed) (quiet : Bool) (n : ℕ) (before : Size) (r : Decision) : Type 0 where
-    pub is : (index : ℕ) → index < h .ne → Around d (meaning ws end d bs h .elements) index bs quiet
+    pub is : (index : ℕ) → index < h .ne → Around ws d (meaning ws end d bs h .elements) index bs quiet
         → (as′ : List (AlternativeOf (Block d))) (q : ℕ)
         → Spans ws end (each (encodeAlternative (encodeBlock d))) (all (okAlternative (okBlock d))) at as′ q → length as′ ≡ n
         → AllOf (Unreferring d) as′ → SizedSo d (meaning ws end d bs h) index as′ before r
 
   -- And for those of the rule that stands there.
   pub record RuleSized (h : Listed) (quiet : Bool) (r : Decision) : Type 0 where
-    pub is : (index : ℕ) → index < h .ne → Around d (meaning ws end d bs h .elements) index bs quiet
+    pub is : (index : ℕ) → index < h .ne → Around ws d (meaning ws end d bs h .elements) index bs quiet
         → (t : RuleOf (Block (suc d))) (q : ℕ) → RuleSpans ws end (suc d) at t q → AllOf (Unreferring d) (t .body)
         → SizedSo d (meaning ws end d bs h) index (t .body) (record { a = 0; e = 0; o = 0 }) r
     pub small : (z : Size) → r ≡ Goes z → SmallSize z

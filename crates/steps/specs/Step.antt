@@ -14,7 +14,7 @@ use Rattle.planned.specs.List.{SameList, CallAt, Laid}
 use Rattle.planned.specs.Moves.{Pushed, Grown}
 use Rattle.planned.specs.declared.list.Sizes.{Sizes}
 use Rattle.planned.specs.declared.list.Listed.{Listed}
-use Rattle.steps.specs.Decide.{DeclinedBy, Around, Unreferring, SmallSize}
+use Rattle.steps.specs.Decide.{DeclinedBy, Around, Searchable, Unreferring, SmallSize}
 use Rattle.steps.specs.declared.decide.Decision.{Decision}
 use Rattle.steps.specs.declared.decide.Decision.the-variants.{Goes, Declined}
 use Rattle.splices.specs.declared.splice.Size.{Size}
@@ -53,10 +53,12 @@ DecisionOf d m (Declined n) = DeclinedBy m n
 DecisionOf d m (Goes z) = GoesTo d m z
 
 -- What stands around the element is known.
-pub record PreparedFor (d : ℕ) (es : List (Element (Block d))) (index name : ℕ) (before after : List ℕ) (r : Prepared) : Type 0 where
+pub record PreparedFor (ws : List ℕ) (end d : ℕ) (es : List (Element (Block d))) (index name : ℕ) (before after : List ℕ)
+    (r : Prepared) : Type 0 where
   pub list : SameList before after
+  pub searchable : Searchable ws end after (r .quiet)
   pub dangling : r .dangling ≡ remainingActionsReference d es index name
-  pub around : Around d es index after (r .quiet)
+  pub around : Around ws d es index after (r .quiet)
 
 -- What a split pushes.
 pub record SplitSize (h : Listed) (z : Size) : Type 0 where

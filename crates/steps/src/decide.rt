@@ -11,14 +11,13 @@ use words::walk::alternative_head;
 use words::words::word;
 ghost use mathlib.Core.Path.{_≡_};
 ghost use Prim.Native.Nat.{_+_, _<_, _≤_, _^_};
-ghost use lib.ListN.{length};
-ghost use Rattle.grammar.specs.Numbers.{workBytes, mostWords};
+ghost use Rattle.grammar.specs.Numbers.{mostWords};
 ghost use Rattle.grammar.specs.Tree.{innerDepth};
 ghost use Rattle.grammar.specs.Words.{words};
 ghost use Rattle.grammar.specs.Found.{FoundAlternative, FoundRule};
 ghost use Rattle.words.specs.Room.{Room};
 ghost use Rattle.planned.specs.List.{Located, ListedIn};
-ghost use Rattle.steps.specs.Decide.{CollisionAt, OneAt, IsCounted, SmallSize, HandFits, AlternativeCounted, RuleSized};
+ghost use Rattle.steps.specs.Decide.{Searchable, CollisionAt, OneAt, IsCounted, SmallSize, HandFits, AlternativeCounted, RuleSized};
 
 // The clauses of a decline, by number (SPECIFICATION 10).
 pub struct Clause;
@@ -61,7 +60,7 @@ pub enum Decision {
 
 // The clause by which the names in the alternative at `at` collide with those around the element that it would replace, or 0.
 fn collision(s: &[u8], end: usize, work: &[u8], quiet: bool, at: usize) -> u32
-    requires { ⌜ Room (now s) end × (workBytes ≤ length (now work)) ⌝ }
+    requires { ⌜ Room (now s) end × Searchable (words (now s)) end (now work) quiet ⌝ }
     requires { ⌜ FoundAlternative (words (now s)) end innerDepth at ⌝ }
     ensures { λ r. ⌜ CollisionAt (words (now (s .entry))) end innerDepth at (now (work .entry)) quiet r ⌝ }
 {
@@ -80,7 +79,7 @@ fn collision(s: &[u8], end: usize, work: &[u8], quiet: bool, at: usize) -> u32
 
 // The alternative at `at` in place of an element of the one in hand.
 fn splice_one(s: &[u8], end: usize, work: &[u8], quiet: bool, h: Listed, at: usize) -> One
-    requires { ⌜ Room (now s) end × (end ≤ mostWords) ⌝ }
+    requires { ⌜ Room (now s) end × (end ≤ mostWords) × Searchable (words (now s)) end (now work) quiet ⌝ }
     requires { ⌜ Located (now work) h × ListedIn (words (now s)) end innerDepth (now work) h ⌝ }
     requires { ⌜ FoundAlternative (words (now s)) end innerDepth at ⌝ }
     ensures { λ r. ⌜ OneAt (words (now (s .entry))) end innerDepth at (now (work .entry)) h quiet r ⌝ }
@@ -122,7 +121,7 @@ fn count_one(s: &[u8], end: usize, h: Listed, at: usize, more: usize, z: Size) -
 // Every alternative of the rule at `at` in place of an element of the one in hand; the first decline ends it.
 pub fn splice_size(s: &[u8], end: usize, work: &[u8], quiet: bool, h: Listed, at: usize) -> Decision
     requires { ⌜ Room (now s) end × (end ≤ mostWords) × Located (now work) h × HandFits h ⌝ }
-    requires { ⌜ ListedIn (words (now s)) end innerDepth (now work) h ⌝ }
+    requires { ⌜ ListedIn (words (now s)) end innerDepth (now work) h × Searchable (words (now s)) end (now work) quiet ⌝ }
     requires { ⌜ FoundRule (words (now s)) end at × (at + 4 ≤ end) ⌝ }
     ensures { λ r. ⌜ RuleSized (words (now (s .entry))) end innerDepth at (now (work .entry)) h quiet r ⌝ }
 {

@@ -26,9 +26,10 @@ pub struct Prepared {
 
 // Sets of names are made only where anything is labelled or refers.
 fn prepare(s: &[u8], end: usize, work: &mut [u8], h: Listed, index: usize, name: u32) -> Prepared
-    requires { ⌜ Room (now s) end × Located (now work) h × (index < h .ne) ⌝ }
+    requires { ⌜ Room (now s) end × (end ≤ mostWords) × Located (now work) h × (index < h .ne) ⌝ }
     requires { ⌜ ListedIn (words (now s)) end innerDepth (now work) h ⌝ }
-    ensures { λ r. ⌜ PreparedFor innerDepth (meaning (words (now (s .entry))) end innerDepth (now (work .entry)) h .elements) index name
+    ensures { λ r. ⌜ PreparedFor (words (now (s .entry))) end innerDepth
+        (meaning (words (now (s .entry))) end innerDepth (now (work .entry)) h .elements) index name
         (now (work .entry)) (now (work .exit)) r ⌝ }
 {
     if is_quiet(s, end, work, h) {

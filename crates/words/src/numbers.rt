@@ -23,7 +23,7 @@ pub struct Name;
 impl Name {
     pub const LEAST: u32 = 1;
 
-    pub const MOST: u32 = 65535;
+    pub const MOST: u32 = 4294967295;
 }
 
 pub struct UnitKind;

@@ -17,8 +17,7 @@ const ELEMENT_WORDS: usize = 8;
 pub fn unit(random: &mut Random) -> Unit {
     let shape = Shape::pick(random);
     // One name more than rules: the last one is of none.
-    let names = random.distinct(shape.rules + 1, 65_535);
-    let names = names.iter().map(|name| name + 1).collect();
+    let names = random.names(shape.rules + 1);
     let mut order: Vec<u32> = (0..shape.rules as u32).collect();
     if random.once_in(2) {
         random.shuffle(&mut order);

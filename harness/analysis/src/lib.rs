@@ -11,3 +11,4 @@ pub mod guarded;
 pub mod proved;
 pub mod run;
 pub mod stored;
+pub mod wide;

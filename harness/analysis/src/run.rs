@@ -9,13 +9,13 @@ use sheets::names::Names;
 use sheets::print::{Style, print};
 
 use crate::compare::{Call, Finder, Lent, WORK};
-use crate::grow;
+use crate::{grow, wide};
 
 /// The sheet number `index` of the run `seed`: raw bytes, good and damaged sheets of the reader's
-/// generator, of the profiles, and of `grow`.
+/// generator, of the profiles, and of `grow`; three in four with other names.
 pub fn sheet(seed: u64, index: u64) -> Vec<u8> {
     let mut random = Random::of(seed, index);
-    match index % 16 {
+    let bytes = match index % 16 {
         0..=2 => reader::sheets::sheet(seed, index),
         3..=5 => profile(&mut random),
         _ => {
@@ -25,7 +25,8 @@ pub fn sheet(seed: u64, index: u64) -> Vec<u8> {
             }
             sheet.bytes()
         }
-    }
+    };
+    wide::renamed(bytes, &mut random)
 }
 
 fn profile(random: &mut Random) -> Vec<u8> {

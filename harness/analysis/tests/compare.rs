@@ -34,7 +34,7 @@ fn answer(
 fn compared(find: impl Fn(&[u8], bool) -> Facts) -> Result<Tally, Difference> {
     let finder = |s: &[u8], w: &mut [u8], r: u32, out: Outputs| answer((s, w, r), out, &find);
     let mut run = Run::new(&finder);
-    run.seeds(3, 2_000).map(|()| run.tally)
+    run.seeds(4, 2_000).map(|()| run.tally)
 }
 
 fn caught(what: &str, find: impl Fn(&[u8], bool) -> Facts) {

@@ -5,6 +5,7 @@
 //! stands first: the list is full, and the cycle is then declined as not directly rewritable.
 
 use crate::reasons::reasons;
+use crate::wide::wide_names;
 
 /// A name and a grammar in the notation.
 pub type Edge = (String, String);
@@ -24,6 +25,7 @@ pub fn edges() -> Vec<Edge> {
         [34, 35].map(result_near_nine).into(),
         results_too_long(),
         reasons(),
+        wide_names(),
     ];
     parts.into_iter().flatten().collect()
 }

@@ -10,6 +10,7 @@ pub mod edges;
 pub mod examples;
 mod reasons;
 pub mod text;
+mod wide;
 pub mod written;
 
 use std::panic::{AssertUnwindSafe, catch_unwind};

@@ -1,9 +1,9 @@
 //! Sheets that are declined for a reason of SPECIFICATION 10, or are not, where a comparison could
-//! be wrong for large numbers only: names across the whole range, long splices, long lists.
+//! be wrong for large numbers only: names of up to 16 bits, long splices, long lists.
 
 use crate::edges::{Edge, edge, repeat};
 
-/// The last name (SPECIFICATION 2.15).
+/// The last name of 16 bits.
 const LAST: usize = 65_535;
 
 pub fn reasons() -> Vec<Edge> {

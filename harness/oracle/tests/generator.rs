@@ -119,6 +119,14 @@ fn large_names_splices_and_lists_are_joined_and_declined() {
     }
     let joined = |_: &Sheet, done: &Done| done.plans() > 0;
     assert!(how_many("far-names", joined) >= 30);
+    for clause in [5, 7, 8, 9] {
+        let met = |sheet: &Sheet, done: &Done| {
+            walk::shares_a_remainder(sheet) && done.declined.iter().any(|one| one.clause == clause)
+        };
+        assert!(how_many("wide-names", met) >= 5, "clause {clause}");
+    }
+    let wide = |sheet: &Sheet, done: &Done| walk::shares_a_remainder(sheet) && done.plans() > 0;
+    assert!(how_many("wide-names", wide) >= 30);
     let long = |sheet: &Sheet, done: &Done| {
         let mut alternatives = sheet.rules.iter().flat_map(|rule| &rule.alternatives);
         done.plans() > 0 && alternatives.any(|one| one.elements.len() >= 60)

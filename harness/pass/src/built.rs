@@ -1,5 +1,6 @@
 //! Sheets built to be as deep, as large or as long to work on as a sheet can be.
 
+use reader::random::Random;
 use sheets::codec::encode;
 use sheets::parse::sheet;
 use sheets::tree::{Kind, Sheet};
@@ -107,6 +108,26 @@ pub fn too_many_alternatives() -> Sheet {
     sheet(&format!("e: a | INT; a: {a}; b: {b};"))
 }
 
+/// In which order the names of references stand.
+#[derive(Clone, Copy, Debug, PartialEq, Eq)]
+pub enum Order {
+    Rising,
+    Falling,
+    Shuffled,
+}
+
+/// 4,000 references of one action to as many names across the whole range, behind the call that is spliced.
+pub fn references(order: Order) -> Sheet {
+    let mut names: Vec<u32> = (1..=4_000).map(|at| at * 1_073_000).collect();
+    match order {
+        Order::Rising => {}
+        Order::Falling => names.reverse(),
+        Order::Shuffled => Random::new(1).shuffle(&mut names),
+    }
+    let all: Vec<String> = names.iter().map(|name| format!("$x_{name}")).collect();
+    sheet(&format!("e: a {{{}}} | INT; a: e PLUS;", all.join(" ")))
+}
+
 /// `inner` in so many blocks.
 fn nested(depth: usize, inner: &str) -> String {
     format!("{}{inner}{}", "( ".repeat(depth), " )".repeat(depth))
@@ -210,6 +231,10 @@ pub fn hardest() -> Vec<(&'static str, Sheet)> {
         (
             "1,300 elements in one alternative",
             grammar(format!("e: a {} | INT; a: e PLUS;", ". ".repeat(1_300))),
+        ),
+        (
+            "4,000 references in one action",
+            references(Order::Shuffled),
         ),
         ("2,048 options in one alternative", options_of_one()),
         ("2,048 options in 32 alternatives", options_of_many()),

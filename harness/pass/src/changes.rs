@@ -5,21 +5,10 @@ use std::collections::{BTreeSet, HashMap};
 use reader::random::Random;
 use sheets::codec::MOST_NAME;
 use sheets::tree::Sheet;
-use sheets::walk::{Mark, marks};
+use sheets::walk::{Mark, marks, rename};
 
 /// A change of a sheet in place.
 pub type Change<'a> = &'a dyn Fn(&mut Sheet);
-
-/// The names that stand in a sheet, wherever they stand.
-pub fn names_in(sheet: &Sheet) -> BTreeSet<u32> {
-    let mut names = BTreeSet::new();
-    marks(&mut sheet.clone(), &mut |mark, word| {
-        if mark != Mark::Carried {
-            names.insert(*word);
-        }
-    });
-    names
-}
 
 /// One function for names of every sort.
 #[derive(Clone, Debug, Default)]
@@ -35,17 +24,14 @@ impl Renaming {
         }
     }
 
-    /// One-to-one on these names: among themselves, to either end of what a name may be, or anywhere.
+    /// One-to-one on these names: among themselves, to either end of what a name may be, to few low halves, or anywhere.
     pub fn random(names: &BTreeSet<u32>, random: &mut Random) -> Renaming {
         let count = names.len() as u32;
         let mut to: Vec<u32> = match random.below(4) {
             0 => names.iter().copied().collect(),
             1 => (1..=count).collect(),
-            2 => (MOST_NAME - count + 1..=MOST_NAME).collect(),
-            _ => {
-                let found = random.distinct(names.len(), MOST_NAME);
-                found.into_iter().map(|below| below + 1).collect()
-            }
+            2 => (0..count).map(|at| MOST_NAME - at).collect(),
+            _ => random.names(names.len()),
         };
         random.shuffle(&mut to);
         Renaming::of(names.iter().copied().zip(to))
@@ -58,11 +44,7 @@ impl Renaming {
 
     /// Names that it does not know become 0, which is no name: a pass that makes up names is found out by it.
     pub fn apply(&self, sheet: &mut Sheet) {
-        marks(sheet, &mut |mark, word| {
-            if mark != Mark::Carried {
-                *word = self.to.get(word).copied().unwrap_or(0);
-            }
-        });
+        rename(sheet, |name| self.to.get(&name).copied().unwrap_or(0));
     }
 }
 

@@ -11,8 +11,9 @@ use crate::outcome::original;
 /// The words of the largest sheet, and the most rules.
 const MOST: usize = 8_192;
 const RULES: usize = 128;
-/// Names of one part of a crowd; the planner's generator has names below it.
-const NAMES: u32 = 256;
+/// How far the names of two parts of a crowd are apart. The planner's generator has names below the first; by the second they
+/// have the same low halves.
+const APART: [u32; 2] = [256, 65_536];
 /// The words of a trailer behind its counters.
 const COUNTERS: usize = 5;
 
@@ -94,11 +95,12 @@ fn ease(unit: &mut Unit, random: &mut Random) {
 fn crowd(random: &mut Random) -> Unit {
     let mut whole = plans::grow::unit(random);
     whole.kind = 2;
+    let apart = APART[random.below(2)];
     for part in 1..random.within(2, 6) as u32 {
         let mut more = plans::grow::unit(random);
-        // Names of the generator are below this, or were picked anew and may then be shared with rules of another part.
+        // Names that were picked anew may be shared with rules of another part.
         each_name(&mut more.rules, &mut |name| {
-            *name = 1 + (*name + part * NAMES) % 65_535
+            *name = name.wrapping_add(part * apart).max(1);
         });
         let mut both = Unit {
             rules: [whole.rules.clone(), more.rules].concat(),
@@ -134,7 +136,7 @@ fn named_apart(rules: &mut [Rule]) {
     let mut taken = std::collections::HashSet::new();
     for rule in rules {
         while !taken.insert(rule.name) {
-            rule.name = rule.name % 65_535 + 1;
+            rule.name = rule.name % u32::MAX + 1;
         }
     }
 }

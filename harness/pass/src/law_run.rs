@@ -8,8 +8,9 @@ use analysis::run::Difference;
 use reader::random::Random;
 use sheets::codec;
 use sheets::tree::Sheet;
+use sheets::walk::names_in;
 
-use crate::changes::{Renaming, carried_in, carry, names_in};
+use crate::changes::{Renaming, carried_in, carry};
 use crate::compare::{Lent, Pass};
 use crate::laws::{self, Asked, Breach};
 use crate::outcome::Outcome;

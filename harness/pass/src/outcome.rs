@@ -59,6 +59,8 @@ pub struct Judged {
     pub readings: [Outcome; 2],
     /// Whether a symbol may be absent, so that the readings can part.
     pub folded: bool,
+    /// Whether two names have one remainder modulo 65,536.
+    pub alike: bool,
 }
 
 /// For any bytes. Refusals 1 and 3 to 6 are told by two readers, which must agree.
@@ -77,6 +79,7 @@ pub fn judged(sheet: &[u8]) -> Judged {
             return Judged {
                 readings: [refused(), refused()],
                 folded: false,
+                alike: false,
             };
         }
     };
@@ -84,6 +87,7 @@ pub fn judged(sheet: &[u8]) -> Judged {
     let textbook = folded::outcome(&tree);
     Judged {
         folded: textbook.is_some(),
+        alike: sheets::walk::shares_a_remainder(&tree),
         readings: [original.clone(), textbook.unwrap_or(original)],
     }
 }

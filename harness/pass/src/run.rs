@@ -5,6 +5,7 @@ use std::ops::Range;
 use std::sync::atomic::{AtomicBool, Ordering};
 
 use analysis::run::Difference;
+use analysis::wide;
 use plans::compare::Junk;
 use reader::damage;
 use reader::random::Random;
@@ -30,10 +31,10 @@ fn sort(index: u64) -> u64 {
 }
 
 /// The sheet number `index` of the run `seed`: raw bytes, good and damaged sheets of the reader's generator, of the
-/// profiles, of the planner's generator, and of `grow`.
+/// profiles, of the planner's generator, and of `grow`; three in four with other names.
 pub fn sheet(seed: u64, index: u64) -> Vec<u8> {
     let mut random = Random::of(seed, index);
-    match sort(index) {
+    let bytes = match sort(index) {
         0 | 1 => reader::sheets::sheet(seed, index),
         2 => generate::damaged(random.draw()),
         3..=7 => {
@@ -48,7 +49,8 @@ pub fn sheet(seed: u64, index: u64) -> Vec<u8> {
             sheet.bytes()
         }
         _ => grow::sheet(&mut random),
-    }
+    };
+    wide::renamed(bytes, &mut random)
 }
 
 /// Asks about the sheets of these numbers in the run `seed`, up to the first that fails, or until it is told to stop.

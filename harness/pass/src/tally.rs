@@ -21,6 +21,9 @@ pub struct Tally {
     /// Sheets with a symbol that may be absent; those answered otherwise for it.
     pub folded: u64,
     pub parted: u64,
+    /// Accepted sheets in which two names have one remainder modulo 65,536; those of them that are joined.
+    pub alike: u64,
+    pub alike_joined: u64,
     /// Calls, and those with a buffer that is too short.
     pub calls: u64,
     pub short: u64,
@@ -40,6 +43,9 @@ impl Tally {
         self.answers[1].add(textbook);
         self.folded += u64::from(judged.folded);
         self.parted += u64::from(original != textbook);
+        let accepted = original.number() == 0;
+        self.alike += u64::from(judged.alike && accepted);
+        self.alike_joined += u64::from(judged.alike && original.plans() != 0);
         self.result = self.result.max(original.result.len());
         self.trail = self.trail.max(original.trail.len());
     }
@@ -51,6 +57,8 @@ impl Tally {
         }
         self.folded += other.folded;
         self.parted += other.parted;
+        self.alike += other.alike;
+        self.alike_joined += other.alike_joined;
         self.calls += other.calls;
         self.short += other.short;
         self.result = self.result.max(other.result);

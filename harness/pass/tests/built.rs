@@ -1,9 +1,10 @@
 //! What is built is what it is called.
 
-use pass::built::{self, hardest};
+use pass::built::{self, Order, hardest};
 use pass::outcome::{Outcome, judged, original};
 use sheets::codec::{self, bytes_of, encode};
 use sheets::tree::Sheet;
+use sheets::walk::{Mark, marks};
 
 fn outcome(tree: &Sheet) -> Outcome {
     let bytes = bytes_of(&encode(tree));
@@ -44,6 +45,29 @@ fn cycles_are_declined_in_front_of_those_that_are_joined() {
     assert_eq!(trace.stages.len(), 32);
     let clauses: Vec<u32> = trace.declined.iter().map(|one| one.clause).collect();
     assert_eq!(clauses, [4; 31]);
+}
+
+#[test]
+fn references_stand_in_their_order() {
+    let names = |order| {
+        let tree = built::references(order);
+        let mut all = Vec::new();
+        marks(&mut tree.clone(), &mut |mark, word| {
+            if mark == Mark::Reference {
+                all.push(*word);
+            }
+        });
+        assert_eq!(original(&tree).plans(), 1);
+        all
+    };
+    let mut rising = names(Order::Rising);
+    assert!(rising.is_sorted_by(|one, next| one < next) && rising.len() == 4_000);
+    let mut shuffled = names(Order::Shuffled);
+    assert!(shuffled != rising);
+    shuffled.sort_unstable();
+    assert_eq!(shuffled, rising);
+    rising.reverse();
+    assert_eq!(names(Order::Falling), rising);
 }
 
 #[test]

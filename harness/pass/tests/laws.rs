@@ -235,7 +235,7 @@ fn kept(grammar: &str, rename: &dyn Fn(&mut Sheet)) -> Result<(), Breach> {
 /// The renaming by texts; the second of each must be new or stand in the grammar.
 fn by_text(grammar: &str, texts: &[(&str, &str)]) -> Renaming {
     let (_, mut names) = parse(grammar).expect("a grammar");
-    let all = pass::changes::names_in(&sheet(grammar)).into_iter();
+    let all = sheets::walk::names_in(&sheet(grammar)).into_iter();
     let moved: Vec<(u32, u32)> = texts
         .iter()
         .map(|(from, to)| (names.number(from), names.number(to)))

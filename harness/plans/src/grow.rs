@@ -72,11 +72,11 @@ fn rename(rules: &mut [Rule], random: &mut Random) {
     if random.once_in(2) {
         return;
     }
-    let names = random.distinct(256, 65_535);
+    let names = random.names(256);
     for rule in rules {
-        rule.name = 1 + names[rule.name as usize];
+        rule.name = names[rule.name as usize];
         each_name(&mut rule.alternatives, &mut |name| {
-            *name = 1 + names[*name as usize];
+            *name = names[*name as usize];
         });
     }
 }

@@ -4,6 +4,7 @@ use std::ops::Range;
 
 use analysis::compare::WORK;
 use analysis::run::Difference;
+use analysis::wide;
 use reader::damage;
 use reader::random::Random;
 use reader::tree::Sheet;
@@ -14,10 +15,11 @@ use crate::grow;
 use crate::judge::{Judged, judged};
 use crate::tally::Tally;
 
-/// The sheet number `index` of the run `seed`: of the analysis' run, of the profiles, and of `grow`.
+/// The sheet number `index` of the run `seed`: of the analysis' run, of the profiles, and of `grow`; three in four with other
+/// names.
 pub fn sheet(seed: u64, index: u64) -> Vec<u8> {
     let mut random = Random::of(seed, index);
-    match index % 16 {
+    let bytes = match index % 16 {
         0..=2 => analysis::run::sheet(seed, index),
         3..=7 => profile(&mut random),
         _ => {
@@ -27,7 +29,8 @@ pub fn sheet(seed: u64, index: u64) -> Vec<u8> {
             }
             sheet.bytes()
         }
-    }
+    };
+    wide::renamed(bytes, &mut random)
 }
 
 /// Of a profile; those about applying a plan seldom.

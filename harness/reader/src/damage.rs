@@ -144,8 +144,8 @@ fn name(sheet: &mut Sheet, random: &mut Random) {
     let named = |f| matches!(f, Field::Name | Field::RuleName | Field::LabelName);
     set(sheet, random, named, |_, r| match r.below(5) {
         0 => 0,
-        1 => 65_535,
-        2 => 65_536,
+        1 => 65_536,
+        2 => u32::MAX,
         _ => r.any(),
     });
 }

@@ -213,14 +213,7 @@ fn rule_ids(random: &mut Random, count: usize) -> Vec<u32> {
 }
 
 fn rule_names(random: &mut Random, count: usize) -> Vec<u32> {
-    if random.once_in(3) {
-        return (0..count as u32).map(|i| 65_535 - i).collect();
-    }
-    random
-        .distinct(count, 65_535)
-        .iter()
-        .map(|n| n + 1)
-        .collect()
+    random.names(count)
 }
 
 /// Gives each node its id and each sort its counter.

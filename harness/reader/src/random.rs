@@ -24,6 +24,10 @@ const EDGES: [u32; 16] = [
     u32::MAX,
 ];
 
+/// Names of one low half: 9, 65,545 and 2,147,483,657.
+const LOW_HALF: u32 = 9;
+const HIGH_HALVES: [u32; 3] = [0, 1, 0x8000];
+
 impl Random {
     pub fn new(seed: u64) -> Random {
         Random { state: seed }
@@ -77,12 +81,35 @@ impl Random {
         EDGES[self.below(EDGES.len())]
     }
 
+    /// A name that others are likely to share, or to differ from by its high half alone; or any.
     pub fn name(&mut self) -> u32 {
         match self.below(8) {
             0 => 1,
-            1 => 65_535,
-            _ => self.within(1, 65_535) as u32,
+            1 => u32::MAX,
+            2 => self.within(1, 20) as u32,
+            3 => self.within(65_530, 65_545) as u32,
+            4 | 5 => HIGH_HALVES[self.below(3)] << 16 | LOW_HALF,
+            _ => self.word().max(1),
         }
+    }
+
+    /// `n` different names in no order, at most 65,535: the first or the last ones, those around 65,536, all of one low half,
+    /// three of each low half, or any.
+    pub fn names(&mut self, n: usize) -> Vec<u32> {
+        let count = n as u32;
+        let low = self.within(1, 65_535) as u32;
+        let mut names: Vec<u32> = match self.below(8) {
+            0 => (1..=count).collect(),
+            1 => (0..count).map(|i| u32::MAX - i).collect(),
+            2 => (0..count).map(|i| 65_536 - count / 2 + i).collect(),
+            3 => self.distinct(n, u32::MAX).iter().map(|i| i + 1).collect(),
+            4 | 5 => (0..count).map(|i| i << 16 | low).collect(),
+            _ => (0..count)
+                .map(|i| HIGH_HALVES[i as usize % 3] << 16 | (i / 3 + 1))
+                .collect(),
+        };
+        self.shuffle(&mut names);
+        names
     }
 
     pub fn shuffle(&mut self, items: &mut [u32]) {

@@ -19,7 +19,7 @@ const MAX_RULES: usize = 128;
 const MAX_DEPTH: u32 = 8;
 
 const UNIT_KINDS: RangeInclusive<u32> = 1..=3;
-const NAMES: RangeInclusive<u32> = 1..=65_535;
+const NAMES: RangeInclusive<u32> = 1..=4_294_967_295;
 const RULE_FLAGS: RangeInclusive<u32> = 0..=3;
 const ALTERNATIVE_FLAGS: RangeInclusive<u32> = 0..=1;
 const QUANTIFIERS: RangeInclusive<u32> = 0..=6;

@@ -42,7 +42,7 @@ fn each_answer_is_met_often() {
         met[numbers(&read(&sheet(1, index)))[0] as usize] += 1;
     }
     for answer in [0, 1, 3, 4, 5, 6] {
-        assert!(met[answer] > 300, "{met:?}");
+        assert!(met[answer] > 250, "{met:?}");
     }
     assert_eq!(met[2], 0);
 }

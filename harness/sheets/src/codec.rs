@@ -8,7 +8,8 @@ use crate::walk;
 pub const MOST_BYTES: usize = 32_768;
 pub const MOST_RULES: usize = 128;
 pub const MOST_DEPTH: usize = 8;
-pub const MOST_NAME: u32 = 65_535;
+/// The last name: names are all words but 0.
+pub const MOST_NAME: u32 = u32::MAX;
 const TRAILER: usize = 8;
 
 /// The number of the refusal.
@@ -160,7 +161,7 @@ impl Cursor<'_> {
     }
 
     fn name(&mut self) -> Option<u32> {
-        self.at_most(MOST_NAME).filter(|name| *name != 0)
+        self.word().filter(|name| *name != 0)
     }
 
     fn rules(mut self) -> Option<Vec<Rule>> {
@@ -233,7 +234,7 @@ impl Cursor<'_> {
     }
 
     fn label(&mut self) -> Option<Option<Label>> {
-        let (id, name) = (self.word()?, self.at_most(MOST_NAME)?);
+        let (id, name) = (self.word()?, self.word()?);
         if name == 0 {
             return (id == 0).then_some(None);
         }

@@ -1,5 +1,7 @@
 //! Walks over every node of a sheet, outer before inner.
 
+use std::collections::BTreeSet;
+
 use crate::tree::{Alternative, Counters, Element, Kind, OptionDecl, Rule, Sheet};
 
 /// The sorts of ids, numbered as in the trail.
@@ -107,6 +109,33 @@ pub fn marks(sheet: &mut Sheet, change: &mut impl FnMut(Mark, &mut u32)) {
         change(Mark::Rule, &mut rule.name);
         marks_of_all(&mut rule.alternatives, change);
     }
+}
+
+/// The names that stand in a sheet, wherever they stand.
+pub fn names_in(sheet: &Sheet) -> BTreeSet<u32> {
+    let mut names = BTreeSet::new();
+    marks(&mut sheet.clone(), &mut |mark, word| {
+        if mark != Mark::Carried {
+            names.insert(*word);
+        }
+    });
+    names
+}
+
+/// Every name in place of another, by one function for names of every sort.
+pub fn rename(sheet: &mut Sheet, to: impl Fn(u32) -> u32) {
+    marks(sheet, &mut |mark, word| {
+        if mark != Mark::Carried {
+            *word = to(*word);
+        }
+    });
+}
+
+/// Whether two of its names have one remainder modulo 65,536.
+pub fn shares_a_remainder(sheet: &Sheet) -> bool {
+    let names = names_in(sheet);
+    let remainders: BTreeSet<u32> = names.iter().map(|name| name % 65_536).collect();
+    remainders.len() < names.len()
 }
 
 fn marks_of_all(list: &mut [Alternative], change: &mut impl FnMut(Mark, &mut u32)) {

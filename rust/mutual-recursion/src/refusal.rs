@@ -84,8 +84,8 @@ impl Refusal {
                  front of the trailer, or a second distance above the first"
             }
             Refusal::BadRecord => {
-                "a record is bad: cut short or running into the preserved list, a value outside its list, a name outside 1 to \
-                 65,535, a label id without a label name, blocks over 8 deep, over 128 rules, or preserved ids that do not rise"
+                "a record is bad: cut short or running into the preserved list, a value outside its list, a name 0, a label \
+                 id without a label name, blocks over 8 deep, over 128 rules, or preserved ids that do not rise"
             }
             Refusal::SharedNumber => {
                 "two rules share an id or a name, or two alternatives, elements, labels, actions or predicates share an id"

@@ -126,8 +126,8 @@ fn records() {
                 ],
             ),
             (
-                "a name outside 1 to 65,535",
-                vec![(named(0), named(1)), (named(65_536), named(65_535))],
+                "a name 0",
+                vec![(named(0), named(1)), (named(0), named(u32::MAX))],
             ),
             (
                 "a label id without a label name",

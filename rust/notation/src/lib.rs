@@ -63,4 +63,4 @@ pub use walk::{Node, Sort, alternatives, ids, least_counters};
 /// Limits of a sheet (SPECIFICATION 2.15, 2.19), which the notation shares.
 pub const MOST_RULES: usize = 128;
 pub const MOST_DEPTH: usize = 8;
-pub const MOST_NAME: u32 = 65_535;
+pub const MOST_NAME: u32 = 4_294_967_295;

@@ -204,7 +204,7 @@ impl<'a> Cursor<'a> {
         let written = self.take(letters + 1 + digits);
         let number = written[letters + 1..].parse().ok();
         let number = number.filter(|number| (1..=MOST_NAME).contains(number));
-        let wrong = ("a number of a name, from 1 to 65535", written, "");
+        let wrong = ("a number of a name, from 1 to 4294967295", written, "");
         number
             .map(|number| What::Numbered(written, number))
             .ok_or(wrong)

@@ -51,8 +51,7 @@ fn each_place_says_what_it_expects() {
         ("%preserve a b; a: X;", "1:13 the name of a rule / `b`"),
         ("%preserve |;", "1:11 a rule's name, a rule id or `;` / `|`"),
         ("%counters 1 2 3 4;", "1:18 a number / `;`"),
-        ("%names e=0;", "1:10 a number from 1 to 65535 / `0`"),
-        ("%names e=65536;", "1:10 a number from 1 to 65535 / `65536`"),
+        ("%names e=0;", "1:10 a number from 1 to 4294967295 / `0`"),
         (
             "%names e=1 a=1;",
             "1:12 a name and a number that are not in use yet / `a`",
@@ -65,10 +64,13 @@ fn each_place_says_what_it_expects() {
             "%names r=3; e: T%3;",
             "1:8 a name and a number that are not in use yet / `r`",
         ),
-        ("e: T%0;", "1:4 a number of a name, from 1 to 65535 / `T%0`"),
         (
-            "e: r%65536;",
-            "1:4 a number of a name, from 1 to 65535 / `r%65536`",
+            "e: T%0;",
+            "1:4 a number of a name, from 1 to 4294967295 / `T%0`",
+        ),
+        (
+            "e: r%4294967296;",
+            "1:4 a number of a name, from 1 to 4294967295 / `r%4294967296`",
         ),
         ("e: a%3;", "1:5 an element, `|` or `;` / `%3`"),
         ("e: r%x;", "1:5 an element, `|` or `;` / `%x`"),

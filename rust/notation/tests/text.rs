@@ -95,6 +95,15 @@ fn names_can_have_numbers_of_their_own() {
     assert!(named(&table).all().eq(made.names.all()));
 }
 
+#[test]
+fn numbers_of_names_go_to_the_last_word() {
+    let made = parse("%names INT=4294967295 e=65536; e: INT T%4294967294 X;").unwrap();
+    let numbers = ["INT", "e", "X"].map(|text| made.names.number(text));
+    assert_eq!(numbers, [Some(u32::MAX), Some(65_536), Some(1)]);
+    let elements = &made.sheet.rules[0].alternatives[0].elements;
+    assert_eq!(elements[1].kind, Kind::Token(4_294_967_294));
+}
+
 /// A table with the digest of some sheet in front.
 fn named(names: &str) -> Names {
     let text = format!("%sheet sha256_{};{names}", "0".repeat(64));

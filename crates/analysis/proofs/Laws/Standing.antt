@@ -7,7 +7,7 @@ use native.Mathlib.Omega.{arith}
 use lib.ListN.{length, getD, length-map, List·getD-append}
 use lib.Dec.{leb}
 use borrow.Author.Tests.{leb-true}
-use Rattle.grammar.specs.Numbers.{mostName, ruleLimit}
+use Rattle.grammar.specs.Numbers.{ruleLimit}
 use Rattle.grammar.specs.Tree.{Rule, bodyDepth, innerDepth}
 use Rattle.grammar.specs.Encode.{encodeRule, encodeBlock}
 use Rattle.grammar.specs.Lists.{distinct}
@@ -117,16 +117,9 @@ module _ {ws : List ℕ} {end : ℕ} {rules : Rules} (f : FoundRows ws end rules
 
 -- The rules' names can be put into a table.
 pub told : {ws : List ℕ} {end : ℕ} {rules : Rules} → Standing ws end rules → Told (rules .names) (rules .n)
-unfolding okRule
 told {rules = rules} s =
     record {
       few = let l = s .rows .few in let e = long in omega arith;
-      low = λ i l.
-          let a = rule-of (s .rows) i l in
-          let good = rule-spans (s .rows) a .1 .fine in
-          let m = leb-true (a .rule .name) mostName (right-true (leb 1 (a .rule .name)) (leb (a .rule .name) mostName) (left-true (isName (a .rule .name)) _ good)) in
-          let e = name-at (s .rows) a in
-          omega arith;
       apart = λ i j l m e.
           let a = rule-of (s .rows) i (omega arith) in
           let b = rule-of (s .rows) j m in

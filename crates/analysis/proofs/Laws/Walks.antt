@@ -7,7 +7,7 @@ use native.Mathlib.Omega.{arith}
 use lib.ListN.{getD, replicate}
 use lib.Dec.{eqb, leb}
 use borrow.Author.Tests.{leb-true, eq-eqb, ne-eqb}
-use Rattle.grammar.specs.Numbers.{callKind, tokenKind, blockKind, kindEnd, mostName, optionalGreedy, zeroOrMoreNongreedy}
+use Rattle.grammar.specs.Numbers.{callKind, tokenKind, blockKind, kindEnd, optionalGreedy, zeroOrMoreNongreedy}
 use Rattle.grammar.specs.Tree.{ElementHead, Leaf, epsilon, action, predicate, call, token, terminal, Element, Block, innerDepth}
 use Rattle.grammar.specs.Encode.{leafKind, encodeLeaf, encodeAlternative, encodeBlock}
 use Rattle.grammar.specs.Valid.{okLeaf, okAlternative, okBlock}
@@ -25,31 +25,6 @@ use Rattle.analysis.specs.Survey.{View, Seen, seenOf, surveying, skippin
 use Rattle.analysis.specs.Survey.{pastOutermost, OutermostWalked, BodyWalked, BodySeen}
 use Rattle.reach.proofs.Laws.Rows.{no-bits}
 use Rattle.analysis.proofs.Laws.Seen.{same-seen, leaf-symbol}
-
--- A call's name is in range.
-module _ (d : ℕ) {ws : List ℕ} {end at k p : ℕ} (f : FoundElement ws end d at) (h : HeadAt ws end at k p) (c : k ≡ callKind) {w : ℕ}
-    (e : w ≡ getD ws p 0) where
-  pub name-low : w ≤ mostName
-  unfolding leafKind encodeLeaf okLeaf
-  name-low = go (opened (f .tree) (f .spans))
-    where
-      good : {q : ℕ} (l : Leaf) → leafKind l ≡ callKind → Spans ws end encodeLeaf okLeaf p l q → w ≤ mostName
-      good epsilon z u = absurd (omega arith)
-      good (action a) z u = absurd (omega arith)
-      good (predicate a) z u = absurd (omega arith)
-      good (call a) z u =
-          let x = stands-head (u .stands) in
-          let v = leb-true (a .name) mostName (right-true (leb 1 (a .name)) (leb (a .name) mostName) (u .fine)) in
-          omega arith
-      good (token a) z u = absurd (omega arith)
-      good terminal z u = absurd (omega arith)
-
-      go : {t : Element (Block d)} → Opened ws end d at (f .next) t → w ≤ mostName
-      go (opened-leaf {l = l} o y u) =
-          let x : o ≡ p = let b = y .place in let g = h .payloadIs in omega arith in
-          let z = leaf-kind l in
-          good l (let b = y .packed in let g = h .kindIs in omega arith) (rw x at u)
-      go (opened-block o y u) = absurd (let b = y .packed in let g = h .kindIs in omega arith)
 
 -- The measure of a block's alternatives is below that of the block.
 pub block-lower : {ws : List ℕ} {end at k p : ℕ} → HeadAt ws end at k p → k ≡ blockKind → (d : ℕ) {t : ℕ} → FoundElement ws end d at

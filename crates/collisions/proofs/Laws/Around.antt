@@ -1,5 +1,5 @@
 -- All elements of a planned alternative but one, marked.
-use Prim.Native.Nat.{ℕ, suc, _+_, _-_, _<_}
+use Prim.Native.Nat.{ℕ, suc, _+_, _-_, _<_, _≤_}
 use mathlib.Core.Path.{_≡_, refl, sym, ap, _∙_}
 use mathlib.Core.List.{List, [], _∷_, _++_}
 use mathlib.Core.Bool.{Bool, false, _||_, or-false, or-assoc}
@@ -8,6 +8,7 @@ use native.Mathlib.Numerals.{add-one}
 use lib.ListN.{length, take, drop, length-drop}
 use lib.Dec.{eqb}
 use lib.Seq.{take-all}
+use Rattle.grammar.specs.Numbers.{mostWords}
 use Rattle.grammar.specs.Tree.{Element, Block}
 use Rattle.grammar.specs.Lists.{nothing, member}
 use Rattle.grammar.specs.Found.{FoundElement}
@@ -15,22 +16,22 @@ use Rattle.grammar.specs.Fold.{folded, elementFold, blockFold, ElementWalked}
 use Rattle.reference.specs.Walks.{elementsGive, labelNames}
 use Rattle.reference.specs.Substitute.{without, remainingActionsReference, collectLabels, actionReferenceNames}
 use Rattle.planned.specs.Layout.{meaning}
-use Rattle.planned.specs.List.{Located, ListedIn, ItemAt, SameList}
+use Rattle.planned.specs.List.{Located, ListedIn, ItemAt}
 use Rattle.planned.specs.Reading.{ItemIs}
 use Rattle.planned.specs.Laws.Parts.{elements-count}
 use Rattle.planned.specs.Laws.Same.{same-trans, same-located, same-meaning, same-listed}
 use Rattle.planned.specs.declared.list.Listed.{Listed}
-use Rattle.collisions.specs.Names.{Cleared}
+use Rattle.collisions.specs.Names.{labelsBit, referencesBit, Ordered, Kept, Cleared}
 use Rattle.collisions.specs.Walks.{referenceNames, bindingNames, between, ItemsWalked}
 use Rattle.collisions.specs.Mark.{Marks, marksOf, markLabel, markLeaf, marking, MarkedAround}
 use Rattle.collisions.proofs.Laws.Walks.{elements-tell}
 use Rattle.collisions.proofs.Laws.Items.{Itemizing, itemizing-at}
 
 -- An item that is read while marks are put.
-module _ {ws : List ℕ} {end : ℕ} (d : ℕ) {bs cs : List ℕ} {x : Listed} (l : ListedIn ws end d bs x) (at : Located bs x) (s : SameList bs cs)
+module _ {ws : List ℕ} {end : ℕ} (d : ℕ) {bs cs : List ℕ} {x : Listed} (l : ListedIn ws end d bs x) (at : Located bs x) (k : Kept ws end bs cs)
     {i place : ℕ} {made : Bool} (t : ItemIs cs x i place made) where
   item-kept : ItemAt ws end d (meaning ws end d bs x .elements) i place made
-  item-kept = rw (same-meaning s at ws end d) at (t .is ws end d (same-listed s at ws end d l))
+  item-kept = rw (same-meaning (k .list) at ws end d) at (t .is ws end d (same-listed (k .list) at ws end d l))
 
   pub marked-found : FoundElement ws end d place
   marked-found = item-kept .found
@@ -40,6 +41,9 @@ module _ {ws : List ℕ} {end : ℕ} (d : ℕ) {bs cs : List ℕ} {x : Listed} (
       → ElementWalked (marking name) ws end d place u p v
       → Itemizing (marking name) d (meaning ws end d bs x .elements) from to s₀ (i + 1) v
   marking-more name g h w = itemizing-at markLabel (markLeaf name) g h item-kept w
+
+pub kept-located : {ws : List ℕ} {end : ℕ} {bs cs : List ℕ} {x : Listed} → Kept ws end bs cs → Located bs x → Located cs x
+kept-located k l = same-located (k .list) l
 
 -- What the marks are then.
 member-append : (n : ℕ) (xs ys : List ℕ) → member n (xs ++ ys) ≡ (member n xs || member n ys)
@@ -87,19 +91,20 @@ unfolding meaning
 count d ws end bs x = elements-count ws end d bs (x .e) (x .ne)
 
 module _ (d : ℕ) (ws : List ℕ) (end : ℕ) (name : ℕ) (index : ℕ) (bs cs ds : List ℕ) {fs : List ℕ} (x : Listed) (before : Bool) {r : Bool} where
-  pub around-done : Located bs x → Cleared bs cs → SameList cs ds
-      → ItemsWalked (marking name) d (meaning ws end d cs x .elements) 0 index (marksOf cs false) (marksOf ds before)
-      → SameList ds fs
-      → ItemsWalked (marking name) d (meaning ws end d ds x .elements) (index + 1) (x .ne) (marksOf ds before) (marksOf fs r)
-      → MarkedAround d (meaning ws end d bs x .elements) index name bs fs r
+  pub around-done : Located bs x → Cleared bs cs → Kept ws end cs ds
+      → ItemsWalked (marking name) d (meaning ws end d cs x .elements) 0 index (marksOf ws cs false) (marksOf ws ds before)
+      → Kept ws end ds fs
+      → ItemsWalked (marking name) d (meaning ws end d ds x .elements) (index + 1) (x .ne) (marksOf ws ds before) (marksOf ws fs r)
+      → MarkedAround ws end d (meaning ws end d bs x .elements) index name bs fs r
   unfolding marksOf remainingActionsReference collectLabels actionReferenceNames
   around-done at z s a t b =
       record {
-        list = same-trans (z .list) (same-trans s t);
-        refers = ap (λ m. m .dangling) whole ∙ dangling-tells name d (marksOf cs false) rest;
+        list = same-trans (z .list) (same-trans (s .list) (t .list));
+        ordered = t .ordered;
+        refers = ap (λ m. m .dangling) whole ∙ dangling-tells name d (marksOf ws cs false) rest;
         marked = record {
-          ofLabels = λ n. ap (λ m. m .labels n) whole ∙ labels-tell name d (marksOf cs false) rest n ∙ rw (z .noLabel n) refl;
-          ofReferences = λ n. ap (λ m. m .references n) whole ∙ references-tell name d (marksOf cs false) rest n ∙ rw (z .noReference n) refl;
+          ofLabels = λ n. ap (λ m. m .labels n) whole ∙ labels-tell name d (marksOf ws cs false) rest n ∙ rw (z .noName ws labelsBit n) refl;
+          ofReferences = λ n. ap (λ m. m .references n) whole ∙ references-tell name d (marksOf ws cs false) rest n ∙ rw (z .noName ws referencesBit n) refl;
         };
       }
     where
@@ -112,17 +117,17 @@ module _ (d : ℕ) (ws : List ℕ) (end : ℕ) (name : ℕ) (index : ℕ) (bs cs
       step : Marks → Element (Block d) → Marks
       step = elementFold (marking name) (blockFold (marking name) d)
 
-      first : marksOf ds before ≡ folded step (marksOf cs false) (take index es)
-      first = a .is ∙ ap (folded step (marksOf cs false)) (before-it _ index ∙ ap (λ p. take index (p .elements)) (same-meaning (z .list) at ws end d))
+      first : marksOf ws ds before ≡ folded step (marksOf ws cs false) (take index es)
+      first = a .is ∙ ap (folded step (marksOf ws cs false)) (before-it _ index ∙ ap (λ p. take index (p .elements)) (same-meaning (z .list) at ws end d))
 
-      second : marksOf fs r ≡ folded step (marksOf ds before) (drop (suc index) es)
+      second : marksOf ws fs r ≡ folded step (marksOf ws ds before) (drop (suc index) es)
       second =
           b .is
-          ∙ ap (λ p. folded step (marksOf ds before) (between (p .elements) (index + 1) (x .ne))) (same-meaning (same-trans (z .list) s) at ws end d)
-          ∙ ap (folded step (marksOf ds before)) (behind-it es index (count d ws end bs x))
+          ∙ ap (λ p. folded step (marksOf ws ds before) (between (p .elements) (index + 1) (x .ne))) (same-meaning (same-trans (z .list) (s .list)) at ws end d)
+          ∙ ap (folded step (marksOf ws ds before)) (behind-it es index (count d ws end bs x))
 
-      whole : marksOf fs r ≡ folded step (marksOf cs false) rest
-      whole = second ∙ ap (λ m. folded step m (drop (suc index) es)) first ∙ sym (folded-append step (marksOf cs false) (take index es) (drop (suc index) es))
+      whole : marksOf ws fs r ≡ folded step (marksOf ws cs false) rest
+      whole = second ∙ ap (λ m. folded step m (drop (suc index) es)) first ∙ sym (folded-append step (marksOf ws cs false) (take index es) (drop (suc index) es))
 
 -- While marks are put, a record is listed as it was.
 module _ {bs cs : List ℕ} {x : Listed} (z : Cleared bs cs) (at : Located bs x) where
@@ -132,9 +137,12 @@ module _ {bs cs : List ℕ} {x : Listed} (z : Cleared bs cs) (at : Located bs x)
   pub clear-listed : {ws : List ℕ} {end d : ℕ} → ListedIn ws end d bs x → ListedIn ws end d cs x
   clear-listed {ws} {end} {d} l = same-listed (z .list) at ws end d l
 
-  module _ {ds : List ℕ} (s : SameList cs ds) where
+  module _ {ws : List ℕ} {end : ℕ} {ds : List ℕ} (s : Kept ws end cs ds) where
     pub later-located : Located ds x
-    later-located = same-located (same-trans (z .list) s) at
+    later-located = same-located (same-trans (z .list) (s .list)) at
 
-    pub later-listed : {ws : List ℕ} {end d : ℕ} → ListedIn ws end d bs x → ListedIn ws end d ds x
-    later-listed {ws} {end} {d} l = same-listed (same-trans (z .list) s) at ws end d l
+    pub later-listed : {d : ℕ} → ListedIn ws end d bs x → ListedIn ws end d ds x
+    later-listed {d} l = same-listed (same-trans (z .list) (s .list)) at ws end d l
+
+pub clear-ordered : {bs cs : List ℕ} → Cleared bs cs → {ws : List ℕ} {end : ℕ} → end ≤ mostWords → Ordered ws end cs
+clear-ordered z {ws} {end} l = z .ordered ws end l

@@ -18,7 +18,7 @@ use Rattle.grammar.specs.Laws.Parse.{left-true, either}
 use Rattle.grammar.specs.Laws.Stands.{stands-head}
 use Rattle.reference.specs.Walks.{elementsGive, labelNames, leafNames}
 use Rattle.reference.specs.Substitute.{collectLabels, bindableNames}
-use Rattle.collisions.specs.Names.{labelsAt, referencesAt, hasName}
+use Rattle.collisions.specs.Names.{labelsBit, referencesBit, hasName}
 use Rattle.collisions.specs.Walks.{noting, LabelSeen, LeafSeen}
 use Rattle.collisions.specs.Clash.{clashLabel, clashLeaf, comparing, NameBound, ClashesAt}
 use Rattle.collisions.specs.declared.clash.Clash.{Clash}
@@ -29,44 +29,44 @@ same-clash p q i = record { label = p i; binding = q i }
 
 -- A label.
 module _ (bs : List ℕ) {ws : List ℕ} {at w : ℕ} (e : w ≡ getD ws (at + 4) 0) (c : Clash) where
-  pub clash-unlabelled : w ≡ 0 → LabelSeen ws at (clashLabel (hasName bs labelsAt) (hasName bs referencesAt)) c c
+  pub clash-unlabelled : w ≡ 0 → LabelSeen ws at (clashLabel (hasName ws bs labelsBit) (hasName ws bs referencesBit)) c c
   unfolding clashLabel okLabel any
   clash-unlabelled z = record { is = go }
     where
-      go : (b : Label) → getD ws (at + 4) 0 ≡ labelName b → okLabel b ≡ true → c ≡ clashLabel (hasName bs labelsAt) (hasName bs referencesAt) c b
+      go : (b : Label) → getD ws (at + 4) 0 ≡ labelName b → okLabel b ≡ true → c ≡ clashLabel (hasName ws bs labelsBit) (hasName ws bs referencesBit) c b
       go unlabelled f k = same-clash (sym (or-false (c .label))) (sym (or-false (c .binding)))
       go (labelled i n) f k = absurd (let h = leb-true 1 n (left-true (leb 1 n) (leb n mostName) k) in omega arith)
 
-  pub clash-labelled : (w ≡ 0 → ⊥) → {h k : Bool} → h ≡ hasName bs labelsAt w → k ≡ hasName bs referencesAt w
-      → LabelSeen ws at (clashLabel (hasName bs labelsAt) (hasName bs referencesAt)) c (record { label = c .label || h; binding = c .binding || k })
+  pub clash-labelled : (w ≡ 0 → ⊥) → {h k : Bool} → h ≡ hasName ws bs labelsBit w → k ≡ hasName ws bs referencesBit w
+      → LabelSeen ws at (clashLabel (hasName ws bs labelsBit) (hasName ws bs referencesBit)) c (record { label = c .label || h; binding = c .binding || k })
   unfolding clashLabel okLabel any
   clash-labelled some {h} {k} p q = record { is = go }
     where
-      one : (from : ℕ) {n : ℕ} {x : Bool} → w ≡ n → x ≡ hasName bs from w → x ≡ (hasName bs from n || false)
-      one from {n} f y = y ∙ ap (hasName bs from) f ∙ sym (or-false (hasName bs from n))
+      one : (from : ℕ) {n : ℕ} {x : Bool} → w ≡ n → x ≡ hasName ws bs from w → x ≡ (hasName ws bs from n || false)
+      one from {n} f y = y ∙ ap (hasName ws bs from) f ∙ sym (or-false (hasName ws bs from n))
 
       go : (b : Label) → getD ws (at + 4) 0 ≡ labelName b → okLabel b ≡ true
-          → record { label = c .label || h; binding = c .binding || k } ≡ clashLabel (hasName bs labelsAt) (hasName bs referencesAt) c b
+          → record { label = c .label || h; binding = c .binding || k } ≡ clashLabel (hasName ws bs labelsBit) (hasName ws bs referencesBit) c b
       go unlabelled f t = absurd (some (e ∙ f))
-      go (labelled i n) f t = same-clash (ap (λ x. c .label || x) (one labelsAt (e ∙ f) p)) (ap (λ x. c .binding || x) (one referencesAt (e ∙ f) q))
+      go (labelled i n) f t = same-clash (ap (λ x. c .label || x) (one labelsBit (e ∙ f) p)) (ap (λ x. c .binding || x) (one referencesBit (e ∙ f) q))
 
 -- A name that a call or a token binds.
-pub name-bound : (bs : List ℕ) {name : ℕ} (c : Clash) {h : Bool} → h ≡ hasName bs referencesAt name
-    → NameBound bs name c (record { label = c .label; binding = c .binding || h })
-name-bound bs c e = record { label = refl; binding = ap (λ x. c .binding || x) e }
+pub name-bound : (ws bs : List ℕ) {name : ℕ} (c : Clash) {h : Bool} → h ≡ hasName ws bs referencesBit name
+    → NameBound ws bs name c (record { label = c .label; binding = c .binding || h })
+name-bound ws bs c e = record { label = refl; binding = ap (λ x. c .binding || x) e }
 
-module _ (bs : List ℕ) where
-  bound : {w n : ℕ} {c r : Clash} → NameBound bs w c r → w ≡ n → r ≡ record { label = c .label; binding = c .binding || (hasName bs referencesAt n || false) }
+module _ (ws bs : List ℕ) where
+  bound : {w n : ℕ} {c r : Clash} → NameBound ws bs w c r → w ≡ n → r ≡ record { label = c .label; binding = c .binding || (hasName ws bs referencesBit n || false) }
   bound {n = n} {c} b e =
       same-clash (b .label)
-      (b .binding ∙ ap (λ x. c .binding || x) (ap (hasName bs referencesAt) e ∙ sym (or-false (hasName bs referencesAt n))))
+      (b .binding ∙ ap (λ x. c .binding || x) (ap (hasName ws bs referencesBit) e ∙ sym (or-false (hasName ws bs referencesBit n))))
 
-  pub clash-call : {ws : List ℕ} {end k p w : ℕ} {c r : Clash} → k ≡ callKind → w ≡ getD ws p 0 → NameBound bs w c r
-      → LeafSeen ws end k p (clashLeaf (hasName bs referencesAt)) c r
+  pub clash-call : {end k p w : ℕ} {c r : Clash} → k ≡ callKind → w ≡ getD ws p 0 → NameBound ws bs w c r
+      → LeafSeen ws end k p (clashLeaf (hasName ws bs referencesBit)) c r
   unfolding clashLeaf leafNames leafKind encodeLeaf any
-  clash-call {ws} {end} {k} {p} {c = c} {r} e f n = record { is = go }
+  clash-call {end} {k} {p} {c = c} {r} e f n = record { is = go }
     where
-      go : (l : Leaf) (q : ℕ) → k ≡ leafKind l → Spans ws end encodeLeaf okLeaf p l q → r ≡ clashLeaf (hasName bs referencesAt) c l
+      go : (l : Leaf) (q : ℕ) → k ≡ leafKind l → Spans ws end encodeLeaf okLeaf p l q → r ≡ clashLeaf (hasName ws bs referencesBit) c l
       go epsilon q h u = absurd (omega arith)
       go (action a) q h u = absurd (omega arith)
       go (predicate a) q h u = absurd (omega arith)
@@ -74,12 +74,12 @@ module _ (bs : List ℕ) where
       go (token a) q h u = absurd (omega arith)
       go terminal q h u = absurd (omega arith)
 
-  pub clash-token : {ws : List ℕ} {end k p w : ℕ} {c r : Clash} → k ≡ tokenKind → w ≡ getD ws p 0 → NameBound bs w c r
-      → LeafSeen ws end k p (clashLeaf (hasName bs referencesAt)) c r
+  pub clash-token : {end k p w : ℕ} {c r : Clash} → k ≡ tokenKind → w ≡ getD ws p 0 → NameBound ws bs w c r
+      → LeafSeen ws end k p (clashLeaf (hasName ws bs referencesBit)) c r
   unfolding clashLeaf leafNames leafKind encodeLeaf any
-  clash-token {ws} {end} {k} {p} {c = c} {r} e f n = record { is = go }
+  clash-token {end} {k} {p} {c = c} {r} e f n = record { is = go }
     where
-      go : (l : Leaf) (q : ℕ) → k ≡ leafKind l → Spans ws end encodeLeaf okLeaf p l q → r ≡ clashLeaf (hasName bs referencesAt) c l
+      go : (l : Leaf) (q : ℕ) → k ≡ leafKind l → Spans ws end encodeLeaf okLeaf p l q → r ≡ clashLeaf (hasName ws bs referencesBit) c l
       go epsilon q h u = absurd (omega arith)
       go (action a) q h u = absurd (omega arith)
       go (predicate a) q h u = absurd (omega arith)
@@ -87,14 +87,14 @@ module _ (bs : List ℕ) where
       go (token a) q h u = bound n (f ∙ stands-head (u .stands))
       go terminal q h u = absurd (omega arith)
 
-  pub clash-other : {ws : List ℕ} {end k p : ℕ} (c : Clash) → (k ≡ callKind → ⊥) → (k ≡ tokenKind → ⊥) → LeafSeen ws end k p (clashLeaf (hasName bs referencesAt)) c c
+  pub clash-other : {end k p : ℕ} (c : Clash) → (k ≡ callKind → ⊥) → (k ≡ tokenKind → ⊥) → LeafSeen ws end k p (clashLeaf (hasName ws bs referencesBit)) c c
   unfolding clashLeaf leafNames leafKind any
   clash-other {k = k} c a b = record { is = λ l q h u. go l h }
     where
       same : c ≡ record { label = c .label; binding = c .binding || false }
       same = same-clash refl (sym (or-false (c .binding)))
 
-      go : (l : Leaf) → k ≡ leafKind l → c ≡ clashLeaf (hasName bs referencesAt) c l
+      go : (l : Leaf) → k ≡ leafKind l → c ≡ clashLeaf (hasName ws bs referencesBit) c l
       go epsilon h = same
       go (action x) h = same
       go (predicate x) h = same
@@ -161,7 +161,7 @@ module _ (labels references : ℕ → Bool) (d : ℕ) (s : Clash) (es : List (El
       (any-append references) (λ c b. refl) (λ c l. refl) d s es
 
 pub clash-done : (d : ℕ) {ws : List ℕ} {end at : ℕ} (bs : List ℕ) {q : ℕ} {r : Clash}
-    → AlternativeWalked (comparing bs) ws end d at (record { label = false; binding = false }) q r
+    → AlternativeWalked (comparing ws bs) ws end d at (record { label = false; binding = false }) q r
     → ClashesAt ws end d at bs r
 unfolding alternativeFold noting collectLabels bindableNames
 clash-done d {ws} {end} {at} bs {r = r} w =
@@ -182,7 +182,7 @@ clash-done d {ws} {end} {at} bs {r = r} w =
     none = record { label = false; binding = false }
 
     inLabels : ℕ → Bool
-    inLabels = hasName bs labelsAt
+    inLabels = hasName ws bs labelsBit
 
     inReferences : ℕ → Bool
-    inReferences = hasName bs referencesAt
+    inReferences = hasName ws bs referencesBit

@@ -15,7 +15,7 @@ use Rattle.collisions.specs.declared.clash.Clash.{Clash}
 use Rattle.collisions.proofs.Laws.Inlinable.{inlinable-binding}
 
 module _ (d : ℕ) {es : List (Element (Block d))} {index name : ℕ} {before bs : List ℕ} {refers : Bool}
-    (m : MarkedAround d es index name before bs refers) {ws : List ℕ} {end at : ℕ} {c : Clash} (f : ClashesAt ws end d at bs c)
+    {ws : List ℕ} {end : ℕ} (m : MarkedAround ws end d es index name before bs refers) {at : ℕ} {c : Clash} (f : ClashesAt ws end d at bs c)
     {a : AlternativeOf (Block d)} {q : ℕ} (s : AlternativeSpans ws end d at a q) where
   pub labels-told : c .label ≡ labelsCollide d (without index es) (a .elements)
   unfolding labelsCollide

@@ -1,4 +1,4 @@
--- Labels and references marked: one bit, one element, one reference, and the list that stays as it was.
+-- Labels and references marked: one name, one element, one reference, and the list that stays as it was.
 use Prim.Native.Nat.{ℕ, _+_, _-_, _/_, _<_, _≤_}
 use mathlib.Core.Path.{_≡_, refl, sym, ap, ap₂, _∙_}
 use mathlib.Core.Logic.{_⊎_, inl, inr}
@@ -20,72 +20,58 @@ use Rattle.grammar.specs.Laws.Parse.{left-true, right-true, either}
 use Rattle.grammar.specs.Laws.Stands.{stands-head, stands-length}
 use Rattle.grammar.specs.Laws.Fold.{Folding, folding-done, folding-found}
 use Rattle.reference.specs.Walks.{references}
-use Rattle.planned.specs.Layout.{listEnd}
-use Rattle.planned.specs.List.{SameList}
 use Rattle.planned.specs.Laws.Same.{same-refl, same-trans}
-use Rattle.collisions.specs.Names.{setBytes, byteBits, labelsAt, referencesAt, hasName, NamePut}
+use Rattle.collisions.specs.Names.{labelsBit, referencesBit, hasName, Ordered, Kept, NamePut}
 use Rattle.collisions.specs.Walks.{LeafSeen, FoundReference, FoundReferences, Refers}
 use Rattle.collisions.specs.Mark.{Marks, marksOf, markLabel, markReference, markLeaf, marking, LabelMarked, ReferenceMarked, ReferencesMarked}
-use Rattle.collisions.proofs.Laws.Low.{name-low}
+use Rattle.collisions.proofs.Laws.Bits.{labels-set, references-set}
 use Rattle.collisions.proofs.Laws.Walks.{note-leaf, note-block, body-of}
 
--- The list is as it was.
-put-same : {bs cs : List ℕ} {from w : ℕ} → listEnd ≤ from → NamePut bs cs from w → SameList bs cs
-put-same {from = from} {w} l p = record { long = p .long; bytes = λ i h. p .other i (λ e. omega arith) }
+-- The list is as it was, and names rise.
+module _ {ws : List ℕ} {end : ℕ} where
+  pub kept-refl : {bs : List ℕ} → Ordered ws end bs → Kept ws end bs bs
+  kept-refl {bs} o = record { list = same-refl bs; ordered = o }
 
-pub label-same : {ws : List ℕ} {at : ℕ} {bs cs : List ℕ} → LabelMarked ws at bs cs → SameList bs cs
-label-same m = m .list
+  pub kept-trans : {as′ bs cs : List ℕ} → Kept ws end as′ bs → Kept ws end bs cs → Kept ws end as′ cs
+  kept-trans s t = record { list = same-trans (s .list) (t .list); ordered = t .ordered }
 
-pub ruleset same = (same-refl, same-trans, label-same)
+  pub kept-ordered : {bs cs : List ℕ} → Kept ws end bs cs → Ordered ws end cs
+  kept-ordered s = s .ordered
+
+  pub label-kept : {at : ℕ} {bs cs : List ℕ} → LabelMarked ws end at bs cs → Kept ws end bs cs
+  label-kept m = m .kept
+
+pub ruleset same = (kept-refl, kept-trans, kept-ordered, label-kept)
 
 same-marks : {a b : Marks} → ((n : ℕ) → a .labels n ≡ b .labels n) → ((n : ℕ) → a .references n ≡ b .references n) → a .dangling ≡ b .dangling
     → a ≡ b
 same-marks p q x t = record { labels = λ n. p n t; references = λ n. q n t; dangling = x t }
 
--- One set does not see what is put into the other.
-aside : {bs cs : List ℕ} {from w : ℕ} (other : ℕ) → (from + setBytes ≤ other) ⊎ (other + setBytes ≤ from) → w ≤ mostName → NamePut bs cs from w
-    → (n : ℕ) → hasName cs other n ≡ hasName bs other n
-unfolding hasName
-aside {bs} {cs} {from} {w} other apart low p n =
-    either (leb n mostName)
-    (λ t. let h = leb-true n mostName t in rw (p .other (other + n / byteBits) (far apart h)) refl)
-    (λ f. rw f refl)
-  where
-    far : (from + setBytes ≤ other) ⊎ (other + setBytes ≤ from) → n ≤ mostName → other + n / byteBits ≡ from + w / byteBits → ⊥
-    far (inl a) h e = omega arith
-    far (inr a) h e = omega arith
-
 -- A label.
-module _ {ws : List ℕ} {at w : ℕ} (e : w ≡ getD ws (at + 4) 0) where
-  pub label-unmarked : (bs : List ℕ) → w ≡ 0 → LabelMarked ws at bs bs
+module _ {ws : List ℕ} {end at w : ℕ} (e : w ≡ getD ws (at + 4) 0) where
+  pub label-unmarked : {bs : List ℕ} → Ordered ws end bs → w ≡ 0 → LabelMarked ws end at bs bs
   unfolding markLabel okLabel member
-  label-unmarked bs z = record { list = same-refl bs; seen = λ dangling. record { is = go dangling } }
+  label-unmarked {bs} o z = record { kept = kept-refl o; seen = λ dangling. record { is = go dangling } }
     where
-      go : (dangling : Bool) (b : Label) → getD ws (at + 4) 0 ≡ labelName b → okLabel b ≡ true → marksOf bs dangling ≡ markLabel (marksOf bs dangling) b
-      go dangling unlabelled f k = same-marks (λ n. sym (or-false (marksOf bs dangling .labels n))) (λ n. refl) refl
+      go : (dangling : Bool) (b : Label) → getD ws (at + 4) 0 ≡ labelName b → okLabel b ≡ true → marksOf ws bs dangling ≡ markLabel (marksOf ws bs dangling) b
+      go dangling unlabelled f k = same-marks (λ n. sym (or-false (marksOf ws bs dangling .labels n))) (λ n. refl) refl
       go dangling (labelled i n) f k = absurd (let h = leb-true 1 n (left-true (leb 1 n) (leb n mostName) k) in omega arith)
 
-  pub label-marked : {bs cs : List ℕ} → (w ≡ 0 → ⊥) → w ≤ mostName → NamePut bs cs labelsAt w → LabelMarked ws at bs cs
+  pub label-marked : {bs cs : List ℕ} → (w ≡ 0 → ⊥) → NamePut ws end bs cs labelsBit (getD ws (at + 4) 0) → LabelMarked ws end at bs cs
   unfolding marksOf markLabel member
-  label-marked {bs} {cs} some low p = record { list = put-same (omega arith) p; seen = λ dangling. record { is = go dangling } }
+  label-marked {bs} {cs} some p = record { kept = p .kept; seen = λ dangling. record { is = go dangling } }
     where
-      go : (dangling : Bool) (b : Label) → getD ws (at + 4) 0 ≡ labelName b → okLabel b ≡ true → marksOf cs dangling ≡ markLabel (marksOf bs dangling) b
+      go : (dangling : Bool) (b : Label) → getD ws (at + 4) 0 ≡ labelName b → okLabel b ≡ true → marksOf ws cs dangling ≡ markLabel (marksOf ws bs dangling) b
       go dangling unlabelled f k = absurd (some (e ∙ f))
       go dangling (labelled i m) f k =
           same-marks
-          (λ n. p .here n ∙ ap (λ x. hasName bs labelsAt n || x) (ap (eqb n) (e ∙ f) ∙ sym (or-false (eqb n m))))
-          (aside referencesAt (inl (omega arith)) low p) refl
+          (λ n. p .here n ∙ ap (λ x. hasName ws bs labelsBit n || x) (ap (eqb n) f ∙ sym (or-false (eqb n m))))
+          (p .other referencesBit references-set (λ z. omega arith)) refl
 
 -- A reference.
 module _ {ws : List ℕ} {end at : ℕ} where
   pub reference-room : FoundReference ws end at → at + 2 ≤ end
   reference-room f = let l = stands-length (f .spans .stands) in omega arith
-
-  pub reference-low : FoundReference ws end at → {w : ℕ} → w ≡ getD ws (at + 1) 0 → w ≤ mostName
-  reference-low f e =
-      let n = f .spans .stands .run .1 .0 in
-      let l = name-low (f .tree .name) (right-true (leb (f .tree .kind) nonLocal) _ (f .spans .fine)) in
-      omega arith
 
   module _ (name : ℕ) {k w : ℕ} (ek : k ≡ getD ws at 0) (ew : w ≡ getD ws (at + 1) 0) (room : at + 2 ≤ end) (dangling : Bool) where
     reference : {s r : Marks} → ((t : Reference) → k ≡ t .kind → w ≡ t .name → r ≡ markReference name s t)
@@ -98,25 +84,30 @@ module _ {ws : List ℕ} {end at : ℕ} where
         }
 
     pub reference-apart : (bs : List ℕ) → qualified < k
-        → ReferenceMarked name ws end at (marksOf bs dangling) (at + 2) (marksOf bs (dangling || eqb name w))
+        → ReferenceMarked name ws end at (marksOf ws bs dangling) (at + 2) (marksOf ws bs (dangling || eqb name w))
     unfolding marksOf markReference
     reference-apart bs l =
         reference λ t a b.
         same-marks (λ n. refl)
-        (λ n. sym (ap (λ x. hasName bs referencesAt n || (x && eqb n (t .name))) (lt-leb (t .kind) qualified (omega arith)) ∙ or-false (hasName bs referencesAt n)))
+        (λ n.
+        sym
+        (ap (λ x. hasName ws bs referencesBit n || (x && eqb n (t .name))) (lt-leb (t .kind) qualified (omega arith))
+        ∙ or-false (hasName ws bs referencesBit n)))
         (ap (λ x. dangling || eqb name x) b)
 
-    pub reference-binds : {bs cs : List ℕ} → k ≤ qualified → w ≤ mostName → NamePut bs cs referencesAt w
-        → ReferenceMarked name ws end at (marksOf bs dangling) (at + 2) (marksOf cs (dangling || eqb name w))
+    pub reference-binds : {bs cs : List ℕ} → k ≤ qualified → NamePut ws end bs cs referencesBit (getD ws (at + 1) 0)
+        → ReferenceMarked name ws end at (marksOf ws bs dangling) (at + 2) (marksOf ws cs (dangling || eqb name w))
     unfolding marksOf markReference
-    reference-binds {bs} {cs} l low p =
+    reference-binds {bs} {cs} l p =
         reference λ t a b.
-        same-marks (aside labelsAt (inr (omega arith)) low p)
-        (λ n. p .here n ∙ ap₂ (λ x y. hasName bs referencesAt n || (x && eqb n y)) (sym (le-leb (t .kind) qualified (omega arith))) b)
+        same-marks (p .other labelsBit labels-set (λ z. omega arith))
+        (λ n.
+        p .here n
+        ∙ ap₂ (λ x y. hasName ws bs referencesBit n || (x && eqb n y)) (sym (le-leb (t .kind) qualified (omega arith))) (sym ew ∙ b))
         (ap (λ x. dangling || eqb name x) b)
 
-pub put-list : {bs cs : List ℕ} {w : ℕ} → NamePut bs cs referencesAt w → SameList bs cs
-put-list p = put-same (omega arith) p
+pub put-kept : {ws : List ℕ} {end : ℕ} {bs cs : List ℕ} {w n : ℕ} → NamePut ws end bs cs w n → Kept ws end bs cs
+put-kept p = p .kept
 
 -- Several references: those left would be all.
 abbrev pub ReferencesFolding : ℕ → List ℕ → ℕ → ℕ → ℕ → Marks → ℕ → ℕ → Marks → Type 0
@@ -187,21 +178,21 @@ module _ (name : ℕ) where
         go terminal q e u = absurd (some (c .count terminal q e u))
 
   -- One element.
-  module _ (d : ℕ) {ws : List ℕ} {end at k p : ℕ} (head : HeadAt ws end at k p) {bs cs : List ℕ} (b : LabelMarked ws at bs cs) (dangling : Bool) where
+  module _ (d : ℕ) {ws : List ℕ} {end at k p : ℕ} (head : HeadAt ws end at k p) {bs cs : List ℕ} (b : LabelMarked ws end at bs cs) (dangling : Bool) where
     pub mark-leaf : (k ≡ blockKind → ⊥) → {there : ℕ} {r : Marks} → LeafEnd ws end d at p there
-        → LeafSeen ws end k p (markLeaf name) (marksOf cs dangling) r
-        → ElementWalked (marking name) ws end d at (marksOf bs dangling) there r
+        → LeafSeen ws end k p (markLeaf name) (marksOf ws cs dangling) r
+        → ElementWalked (marking name) ws end d at (marksOf ws bs dangling) there r
     mark-leaf other e f = note-leaf markLabel (markLeaf name) d head other e (b .seen dangling) f
 
     pub mark-block : k ≡ blockKind → {m q : ℕ} {t : Marks} → m ≡ getD ws p 0
-        → AlternativesWalked (marking name) ws end (d - 1) m (p + 1) (marksOf cs dangling) q t
-        → ElementWalked (marking name) ws end d at (marksOf bs dangling) q t
+        → AlternativesWalked (marking name) ws end (d - 1) m (p + 1) (marksOf ws cs dangling) q t
+        → ElementWalked (marking name) ws end d at (marksOf ws bs dangling) q t
     mark-block six c w = note-block markLabel (markLeaf name) d head six c (b .seen dangling) w
 
 pub ruleset marks = (mark-leaf, mark-block)
 
-pub ruleset labels = (label-unmarked, label-marked)
+pub ruleset labels = (label-unmarked, label-marked, labels-set)
 
-pub ruleset reference-laws = (reference-room, reference-low, reference-apart, reference-binds, put-list, same-refl)
+pub ruleset reference-laws = (reference-room, reference-apart, reference-binds, put-kept, kept-refl, references-set)
 
-pub ruleset leaf-laws = (leaf-unmarked, refers-found, refers-room, leaf-marked, same-refl)
+pub ruleset leaf-laws = (leaf-unmarked, refers-found, refers-room, leaf-marked, kept-refl)

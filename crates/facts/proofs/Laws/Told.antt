@@ -1,12 +1,12 @@
 -- What is told of a sheet: the facts found and the cycles listed are those of the rules that were read.
-use Prim.Native.Nat.{ℕ, _<_}
+use Prim.Native.Nat.{ℕ, _≤_}
 use mathlib.Core.Path.{_≡_, refl, sym, ap, _∙_, subst}
 use mathlib.Core.List.{List, [], _∷_, map}
 use mathlib.Core.Bool.{Bool}
 use native.Mathlib.Omega.{arith}
 use lib.ListN.{length, getD, replicate, length-map, length-replicate}
 use borrow.Author.Tests.{lt-ltb}
-use Rattle.grammar.specs.Numbers.{ruleLimit, mostName}
+use Rattle.grammar.specs.Numbers.{ruleLimit, workBytes}
 use Rattle.grammar.specs.Words.{words}
 use Rattle.grammar.specs.Tree.{Rule, bodyDepth}
 use Rattle.grammar.specs.Ids.{ruleIds, ruleNames, isDistinct}
@@ -181,7 +181,7 @@ module _ (bs work : List ℕ) {r : answer.Reading} (a : ReadAs (readLent bs work
       same-long : length w ≡ length work
       same-long = ap length (e ∙ was-read bs work a h .cleared) ∙ length-replicate (length work) 0
 
-      pub read-work : mostName < length w
+      pub read-work : workBytes ≤ length w
       read-work = let l = was-read bs work a h .lent in let k = same-long in omega arith
 
       pub read-cleared : {after : List ℕ} → after ≡ replicate (length w) 0 → after ≡ workAfter bs work

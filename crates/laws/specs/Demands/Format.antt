@@ -85,7 +85,7 @@ sheetWords s =
 
 -- 2.15.
 abbrev pub Name : ℕ → Type 0
-Name n = (1 ≤ n) × (n ≤ 65535)
+Name n = (1 ≤ n) × (n ≤ 4294967295)
 
 abbrev pub Named : OptionDecl → Type 0
 Named o = Name (o .name)

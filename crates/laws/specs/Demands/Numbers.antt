@@ -1,14 +1,17 @@
 -- The numbers that are bought (SPECIFICATION 2.2 to 2.15, 2.19, 3.1, 4, 8.10, 10 and 12): those that the definition names are
 -- these. Format says where they stand in a sheet.
+use Prim.Native.Nat.{ℕ, _<_}
 use mathlib.Core.Path.{_≡_}
 use mathlib.Core.List.{List, [], _∷_, map}
+use lib.Dec.{leb}
 use Rattle.grammar.specs.Numbers.{leastBytes, mostBytes, mostWords, resultBytes, trailBytes, workBytes, mostName, ruleLimit, lexer}
 use Rattle.grammar.specs.Numbers.{parser, combined, mostRuleFlags, mostAlternativeFlag, once, optionalGreedy, optionalNongreedy}
 use Rattle.grammar.specs.Numbers.{zeroOrMoreGreedy, zeroOrMoreNongreedy, oneOrMoreGreedy, oneOrMoreNongreedy, epsilonKind, actionKind}
 use Rattle.grammar.specs.Numbers.{predicateKind, callKind, tokenKind, terminalKind, blockKind, kindEnd, attribute, qualified, nonLocal}
 use Rattle.grammar.specs.Numbers.{ruleSort, alternativeSort, elementSort, labelSort, actionSort, predicateSort, trailerWords, badLength}
 use Rattle.grammar.specs.Numbers.{shortBuffer, badTrailer, badRecord, sharedNumber, idPastCounter, planTooLarge, counterPastEnd}
-use Rattle.grammar.specs.Numbers.{resultTooLong}
+use Rattle.grammar.specs.Numbers.{resultTooLong, wordEnd}
+use Rattle.grammar.specs.Read.{isName}
 use Rattle.grammar.specs.Tree.{innerDepth}
 use Rattle.reference.specs.Numbers.{mostEntries, counterEnd, entryWords, ruleBoundary, blockBoundary}
 use Rattle.reference.specs.Substitute as Substitute
@@ -45,7 +48,9 @@ pub record NumbersBought : Type 0 where
   -- Rules of a sheet, blocks one inside the other, and the last name.
   pub rules : ruleLimit ≡ 128
   pub depth : innerDepth ≡ 8
-  pub names : mostName ≡ 65535
+  pub names : mostName ≡ 4294967295
+  -- So every word but 0 is a name.
+  pub isWordNamed : (w : ℕ) → w < wordEnd → isName w ≡ leb 1 w
   -- The limits of a planned list in a call, and the least budget.
   pub alternatives : standard .alternatives ≡ 1024
   pub elements : standard .elements ≡ 8192

@@ -28,6 +28,7 @@ use Rattle.laws.specs.Demands.Derivation.{DerivesTold}
 use Rattle.laws.specs.Demands.Strings.{StringsTold}
 use Rattle.laws.specs.Demands.Counted.{ReadingsCounted}
 use Rattle.laws.specs.Demands.Corners.{LeftCornersTold}
+use Rattle.laws.specs.Demands.Names.{NamesFitted}
 use Rattle.laws.specs.Demands.Analysis.{CyclesListed, EmptyDerivation, LeftCornersListed, TextbookCorners}
 use Rattle.laws.specs.Demands.Shape.{LaterPastSymbols, NoCorner, NoLeftCorner, NoOptionalSymbol, OnlyPastSymbols}
 use Rattle.laws.specs.Demands.Readings.{TreesTold, TurnsTold, JoinedTold, PlanTrees, PlanReadings}
@@ -68,6 +69,8 @@ pub record Theorems : Type 0 where
   pub derivesTold : (s : Sheet) → valid s ≡ true → DerivesTold innerDepth (s .rules)
   pub stringsTold : StringsTold
   pub readingsCounted : ReadingsCounted
+  -- With a lower last name, 65,535 say, those sheets would be valid that are valid and have no name above it.
+  pub namesFitted : NamesFitted
   -- 1 to 3, of every sheet that the reader accepts.
   pub emptyDerivation : (s : Sheet) → valid s ≡ true → EmptyDerivation bodyDepth (s .rules)
   pub leftCornersListed : (c : Corners) (s : Sheet) → valid s ≡ true → LeftCornersListed c bodyDepth (s .rules)

@@ -111,7 +111,7 @@ all-say test P s [] = always
 all-say test P s (a ∷ as′) = both-say (test a) (all test as′) (s a) (all-say test P s as′)
 
 name-says : (n : ℕ) → Says (isName n) (Name n)
-name-says n = both-say (leb 1 n) (leb n 65535) (at-most 1 n) (at-most n 65535)
+name-says n = both-say (leb 1 n) (leb n 4294967295) (at-most 1 n) (at-most n 4294967295)
 
 option-says : (o : OptionDecl) → Says (okOption o) (Named o)
 option-says o = name-says (o .name)

@@ -1,8 +1,14 @@
 -- All theorems of Demands.
 use mathlib.Core.Path.{refl}
 use mathlib.Core.List.{[], _∷_}
+use mathlib.Core.Bool.{and-true}
+use native.Mathlib.Omega.{arith}
+use lib.Dec.{leb}
+use borrow.Author.Tests.{le-leb}
+use Rattle.grammar.specs.Numbers.{mostName}
 use Rattle.laws.specs.Demands.Numbers.{NumbersBought}
 use Rattle.laws.specs.Demands.Theorems.{Theorems}
+use Rattle.laws.specs.Validity.Names.{names-fitted}
 use Rattle.laws.specs.Running.Readings.{plan-readings}
 use Rattle.laws.specs.Running.Stages.{sheet-none, sheet-last, valid-told, known, sheet-ends}
 use Rattle.reference.specs.Analysis.{grammarOf}
@@ -63,6 +69,7 @@ numbers-bought =
       rules = refl;
       depth = refl;
       names = refl;
+      isWordNamed = λ w l. rw (le-leb w mostName (omega arith)) (and-true (leb 1 w));
       alternatives = refl;
       elements = refl;
       options = refl;
@@ -121,6 +128,7 @@ theorems =
       derivesTold = sheet-derives;
       stringsTold = strings-told;
       readingsCounted = readings-counted;
+      namesFitted = names-fitted;
       emptyDerivation = sheet-empty;
       leftCornersListed = λ c s v. sheet-corners s v c;
       leftCornersTold = sheet-left-corners;

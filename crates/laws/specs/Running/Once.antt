@@ -23,7 +23,7 @@ use Rattle.reference.specs.Run.{innerDepth, Stage}
 use Rattle.laws.specs.Demands.Step.{CornerAt}
 use Rattle.laws.specs.Demands.Shape.{Continues, NoCorner, JoinedShape}
 use Rattle.graph.specs.Members.{one-with}
-use Rattle.laws.specs.Lists.Few.{no-more}
+use Rattle.grammar.specs.Laws.Few.{no-more}
 use Rattle.laws.specs.Lists.Lookup.{target-rule, rule-target}
 use Rattle.laws.specs.Analysis.Cycles.{cycles-exact}
 use Rattle.laws.specs.Planning.Turns.{Items, as-they-were, Turn, split, splice, Moved, here, later, Moves, still, onward}

@@ -15,15 +15,14 @@ use Rattle.planned.specs.declared.list.Listed.{Listed}
 use Rattle.planned.specs.declared.read.Cursor.{Cursor}
 
 pub same-refl : (bs : List ℕ) → SameList bs bs
-same-refl bs = record { long = refl; bytes = λ i h. refl }
+same-refl bs = record { long = refl; halves = λ j h. refl }
 
 pub same-trans : {before now after : List ℕ} → SameList before now → SameList now after → SameList before after
-same-trans s t = record { long = t .long ∙ s .long; bytes = λ i h. t .bytes i h ∙ s .bytes i h }
+same-trans s t = record { long = t .long ∙ s .long; halves = λ j h. t .halves j h ∙ s .halves j h }
 
 module _ {before after : List ℕ} (s : SameList before after) where
   pub same-half : (j : ℕ) → j < handEnd → half after j ≡ half before j
-  unfolding half
-  same-half j h = rw (s .bytes (2 * j) (omega arith), s .bytes (2 * j + 1) (omega arith))
+  same-half = s .halves
 
   same-part : (at n : ℕ) → at + n ≤ handEnd → Copied before after at at n
   same-part at n h = record { each = λ i l. same-half (at + i) (omega arith) }

@@ -8,7 +8,7 @@ use lib.ListN.{length, take, drop, length-append}
 use lib.Seq.{take-append-seam, drop-append-seam}
 use lib.Dec.{leb}
 use borrow.Author.Tests.{leb-true}
-use Rattle.grammar.specs.Numbers.{mostName, mostWords, workBytes}
+use Rattle.grammar.specs.Numbers.{mostWords, workBytes}
 use Rattle.grammar.specs.Tree as tree
 use Rattle.grammar.specs.Words.{words}
 use Rattle.grammar.specs.Lists.{rising, distinct}

@@ -23,7 +23,7 @@ pub no-table : {ws : List ℕ} {end : ℕ} {rules : Rules} {n : ℕ} → Standin
     → Tabled (rules .names) n table
 no-table {rules = rules} s e table none =
     subst (λ n. Tabled (rules .names) n table) (sym e)
-    (record { told = told s; room = λ some. absurd (some none); at = λ some. absurd (some none) })
+    (record { told = told s; room = λ some. absurd (some none) })
 
 module _ {ws : List ℕ} {end : ℕ} {rules : Rules} {known : Known} (e : known .n ≡ rules .n) where
   known-by : (s : Standing ws end rules) (g : Grammar) → g .names ≡ namesOf (s .rows .found .trees)

@@ -18,11 +18,12 @@ use Rattle.splices.specs.Moves.{OptionsAdded, UnionOf}
 use Rattle.planned.specs.declared.list.Listed.{Listed}
 use Rattle.splices.specs.declared.options.Added.{Added}
 use Rattle.splices.specs.declared.options.Added.the-variants as A
+use Rattle.collisions.specs.Names.{Ordered}
 use Rattle.collisions.specs.Clash.{ClashesAt}
 use Rattle.collisions.specs.declared.clash.Clash.{Clash}
 use Rattle.collisions.proofs.Laws.Inlinable.{inlinable-binding}
 use Rattle.steps.proofs.Laws.Added.{few-added}
-use Rattle.steps.specs.Decide.{DeclinedBy, Around, joinOptions, Joined, OneTo, Unreferring, CollisionAt, OneAt}
+use Rattle.steps.specs.Decide.{DeclinedBy, Around, Searchable, joinOptions, Joined, OneTo, Unreferring, CollisionAt, OneAt}
 use Rattle.steps.specs.declared.decide.One.{One}
 use Rattle.steps.specs.declared.decide.One.the-variants.{Declines, Adds}
 
@@ -60,12 +61,12 @@ module _ {ws : List ℕ} {end d at : ℕ} {bs : List ℕ} where
       }
 
   module _ {quiet : Bool} (z : quiet ≡ false) {c : Clash} (f : ClashesAt ws end d at bs c) where
-    label-is : (p : Planned d) (index : ℕ) → Around d (p .elements) index bs quiet → (a : AlternativeOf (Block d)) (q : ℕ)
+    label-is : (p : Planned d) (index : ℕ) → Around ws d (p .elements) index bs quiet → (a : AlternativeOf (Block d)) (q : ℕ)
         → AlternativeSpans ws end d at a q → labelsCollide d (without index (p .elements)) (a .elements) ≡ c .label
     unfolding labelsCollide
     label-is p index r a q s = sym (f .labelIs _ _ (r .marked z) a q s)
 
-    binding-is : (p : Planned d) (index : ℕ) → Around d (p .elements) index bs quiet → (a : AlternativeOf (Block d)) (q : ℕ)
+    binding-is : (p : Planned d) (index : ℕ) → Around ws d (p .elements) index bs quiet → (a : AlternativeOf (Block d)) (q : ℕ)
         → AlternativeSpans ws end d at a q → Unreferring d a
         → implicitBindingsCollide d (without index (p .elements)) (a .elements) ≡ c .binding
     binding-is p index r a q s u =
@@ -100,7 +101,10 @@ module _ {ws : List ℕ} {end d at : ℕ} {bs : List ℕ} where
           none = λ n p index r a q s u. names-pass d p index a (label-is p index r a q s ∙ e) (binding-is p index r a q s u ∙ g);
         }
 
-pub ruleset collides = (collide-quiet, collide-label, collide-binding, collide-not)
+pub searched : {ws : List ℕ} {end : ℕ} {bs : List ℕ} {quiet : Bool} → Searchable ws end bs quiet → quiet ≡ false → Ordered ws end bs
+searched s z = s .ordered z
+
+pub ruleset collides = (searched, collide-quiet, collide-label, collide-binding, collide-not)
 
 -- One alternative: its names, then its options.
 module _ {ws : List ℕ} {end d at : ℕ} {bs : List ℕ} {quiet : Bool} {n : ℕ} (c : CollisionAt ws end d at bs quiet n) (h : Listed) where

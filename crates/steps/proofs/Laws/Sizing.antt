@@ -55,7 +55,7 @@ module _ {ws : List ℕ} {end d : ℕ} {bs : List ℕ} {h : Listed} {quiet : Boo
     size-declined : {c : ℕ} → OneAt ws end d at bs h quiet (Declines c) → ManySized ws end d at bs h quiet n z (Declined c)
     size-declined {c} o = record { is = go }
       where
-        go : (index : ℕ) → index < h .ne → Around d (meaning ws end d bs h .elements) index bs quiet
+        go : (index : ℕ) → index < h .ne → Around ws d (meaning ws end d bs h .elements) index bs quiet
             → (as′ : List (AlternativeOf (Block d))) (q : ℕ)
             → Spans ws end (each (encodeAlternative (encodeBlock d))) (all (okAlternative (okBlock d))) at as′ q → length as′ ≡ n
             → AllOf (Unreferring d) as′ → DeclinedBy (decideEach (spliceAlternative d (meaning ws end d bs h) index) as′) c
@@ -72,7 +72,7 @@ module _ {ws : List ℕ} {end d : ℕ} {bs : List ℕ} {h : Listed} {quiet : Boo
     size-more {more} {ne} {no} {count} {there = there} {t} {r} o head w en eo ct v = record { is = go r v }
       where
         go : (r : Decision) → ManySized ws end d there bs h quiet (n - 1) t r → (index : ℕ) → index < h .ne
-            → Around d (meaning ws end d bs h .elements) index bs quiet → (as′ : List (AlternativeOf (Block d))) (q : ℕ)
+            → Around ws d (meaning ws end d bs h .elements) index bs quiet → (as′ : List (AlternativeOf (Block d))) (q : ℕ)
             → Spans ws end (each (encodeAlternative (encodeBlock d))) (all (okAlternative (okBlock d))) at as′ q → length as′ ≡ n
             → AllOf (Unreferring d) as′ → SizedSo d (meaning ws end d bs h) index as′ z r
         go r v index l ar [] q s e u = absurd (some (sym e))

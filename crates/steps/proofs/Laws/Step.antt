@@ -28,22 +28,24 @@ use Rattle.steps.specs.declared.step.Prepared.{Prepared}
 false-true : {b : Bool} → b ≡ true → b ≡ false → ⊥
 false-true e f = let z : _≡_ {A = ℕ} 0 1 = let g : true ≡ false = sym e ∙ f in cc in omega arith
 
-module _ (d : ℕ) {es : List (Element (Block d))} {index name : ℕ} where
+module _ {ws : List ℕ} {end : ℕ} (d : ℕ) {es : List (Element (Block d))} {index name : ℕ} where
   pub prepared-quiet : {b : Bool} (bs : List ℕ) → b ≡ isQuiet d es → b ≡ true
-      → PreparedFor d es index name bs bs (record { quiet = true; dangling = false })
+      → PreparedFor ws end d es index name bs bs (record { quiet = true; dangling = false })
   prepared-quiet bs e f =
       let s = quiet-silent d es index (sym e ∙ f) in
       record {
         list = same-refl bs;
+        searchable = record { ordered = λ z. absurd (false-true refl z) };
         dangling = sym (s .noDangling name);
         around = record { silent = λ z. s; marked = λ z. absurd (false-true refl z) };
       }
 
-  pub prepared-marked : {before after : List ℕ} {r : Bool} → MarkedAround d es index name before after r
-      → PreparedFor d es index name before after (record { quiet = false; dangling = r })
+  pub prepared-marked : {before after : List ℕ} {r : Bool} → MarkedAround ws end d es index name before after r
+      → PreparedFor ws end d es index name before after (record { quiet = false; dangling = r })
   prepared-marked m =
       record {
         list = m .list;
+        searchable = record { ordered = λ z. m .ordered };
         dangling = m .refers;
         around = record { silent = λ z. absurd (false-true z refl); marked = λ z. m .marked };
       }
@@ -56,7 +58,7 @@ hand-fits i l = let f = i .fit in record { some = omega arith; fewElements = ome
 -- The whole step.
 module _ {ws : List ℕ} {end d at : ℕ} {before after : List ℕ} {h : Listed} {index name : ℕ} (optional : Bool)
     (loc : Located before h) (l : index < h .ne) (n : RuleNamed ws end d at name) {r : Prepared}
-    (p : PreparedFor d (meaning ws end d before h .elements) index name before after r) where
+    (p : PreparedFor ws end d (meaning ws end d before h .elements) index name before after r) where
   dangles : (t : RuleOf (Block (suc d))) (q : ℕ) → RuleSpans ws end (suc d) at t q
       → remainingActionsReference d (meaning ws end d before h .elements) index (t .name) ≡ r .dangling
   dangles t q s = ap (remainingActionsReference d (meaning ws end d before h .elements) index) (sym (n .is t q s)) ∙ sym (p .dangling)

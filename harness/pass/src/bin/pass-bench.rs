@@ -7,7 +7,7 @@
 use std::hint::black_box;
 use std::time::{Duration, Instant};
 
-use pass::built;
+use pass::built::{self, Order};
 use pass::compare::LEAST;
 use pass::outcome;
 use pass::proved::rust;
@@ -83,6 +83,24 @@ fn cases() -> Vec<Case> {
             built::options_of_one(),
             [0, 1],
             15.0,
+        ),
+        case(
+            "4,000 references, rising",
+            built::references(Order::Rising),
+            [0, 1],
+            1.0,
+        ),
+        case(
+            "4,000 references, falling",
+            built::references(Order::Falling),
+            [0, 1],
+            1.0,
+        ),
+        case(
+            "4,000 references, shuffled",
+            built::references(Order::Shuffled),
+            [0, 1],
+            1.0,
         ),
         case("a loop of 5 alternatives", built::looped(5), [0, 0], 25.0),
         case("stopped by 7", built::too_many_alternatives(), [7, 0], 20.0),

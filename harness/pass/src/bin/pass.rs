@@ -39,6 +39,10 @@ fn show(tally: &Tally) {
         "with a symbol that may be absent {}, answered otherwise by the textbook's reading {}",
         tally.folded, tally.parted
     );
+    println!(
+        "accepted, with two names of one remainder modulo 65,536 {}, joined {}",
+        tally.alike, tally.alike_joined
+    );
     println!("by the textbook's reading: {textbook}");
     println!(
         "no difference on {} sheets in both readings: {original}",

@@ -1,17 +1,17 @@
 //! Sheets with names across the whole range, with long splices and with long lists: what a comparison
 //! by a few bits or by a length would get wrong.
 
-use std::collections::{BTreeMap, BTreeSet};
+use std::collections::BTreeMap;
 
 use super::draft::*;
 use super::number::number;
 use super::skeleton::Draft;
 use super::twist::Twist;
 use super::{binding, twist, twisted};
+use crate::codec::MOST_NAME;
 use crate::rng::Rng;
-use crate::tree::{Alternative, Element, Kind, Label, Reference, Sheet};
-
-const LAST_NAME: u32 = 65_535;
+use crate::tree::{Element, Label, Reference, Sheet};
+use crate::walk;
 
 /// The twists in which names are compared.
 const NAMED: [Twist; 6] = [
@@ -23,73 +23,52 @@ const NAMED: [Twist; 6] = [
     binding::dangling,
 ];
 
-/// A cycle with names from 1 to 65,535, many of which differ by a power of two.
+/// A cycle with names across the whole range, many of which differ by a power of two.
 pub fn far_names(rng: &mut Rng) -> Sheet {
+    renamed(rng, |taken, rng| {
+        if taken.is_empty() || rng.one_in(2) {
+            any_name(rng)
+        } else {
+            *rng.pick(taken) ^ (1 << rng.between(8, 31))
+        }
+    })
+}
+
+/// A cycle with names on either side of 65,536, and with several of one low half.
+pub fn wide_names(rng: &mut Rng) -> Sheet {
+    let low = *rng.pick(&[0, 1, 9, 65_535]);
+    let high = [0, rng.between(1, 9) as u32, 65_535];
+    renamed(rng, |_, rng| match rng.below(8) {
+        0 => rng.between(1, 20) as u32,
+        1 => rng.between(65_530, 65_545) as u32,
+        2..=5 => *rng.pick(&high) << 16 | low,
+        6 => MOST_NAME,
+        _ => any_name(rng),
+    })
+}
+
+fn any_name(rng: &mut Rng) -> u32 {
+    1 + rng.below(MOST_NAME as usize) as u32
+}
+
+/// A cycle in which names are compared, each of them another one, drawn with those that are taken at hand.
+fn renamed(rng: &mut Rng, mut draw: impl FnMut(&[u32], &mut Rng) -> u32) -> Sheet {
     let twist = *rng.pick(&NAMED);
     let mut sheet = twisted(twist, rng);
-    let mut names = BTreeSet::new();
-    each_name(&mut sheet, &mut |name| {
-        names.insert(*name);
-    });
-    let mut far = BTreeMap::new();
-    let mut taken = Vec::new();
-    for name in names {
-        let other = far_name(&taken, rng);
-        taken.push(other);
-        far.insert(name, other);
-    }
-    each_name(&mut sheet, &mut |name| *name = far[name]);
-    sheet
-}
-
-fn far_name(taken: &[u32], rng: &mut Rng) -> u32 {
-    loop {
-        let name = if taken.is_empty() || rng.one_in(2) {
-            1 + rng.below(LAST_NAME as usize) as u32
-        } else {
-            *rng.pick(taken) ^ (1 << rng.between(8, 15))
+    let mut to = BTreeMap::new();
+    let mut taken = vec![];
+    for name in walk::names_in(&sheet) {
+        let other = loop {
+            let other = draw(&taken, rng);
+            if other != 0 && !taken.contains(&other) {
+                break other;
+            }
         };
-        if (1..=LAST_NAME).contains(&name) && !taken.contains(&name) {
-            return name;
-        }
+        taken.push(other);
+        to.insert(name, other);
     }
-}
-
-fn each_name(sheet: &mut Sheet, see: &mut impl FnMut(&mut u32)) {
-    for rule in &mut sheet.rules {
-        see(&mut rule.name);
-        names_in(&mut rule.alternatives, see);
-    }
-}
-
-fn names_in(alternatives: &mut [Alternative], see: &mut impl FnMut(&mut u32)) {
-    for alternative in alternatives {
-        alternative
-            .options
-            .iter_mut()
-            .for_each(|one| see(&mut one.name));
-        for element in &mut alternative.elements {
-            element_names(element, see);
-        }
-    }
-}
-
-fn element_names(element: &mut Element, see: &mut impl FnMut(&mut u32)) {
-    element.label.iter_mut().for_each(|one| see(&mut one.name));
-    element
-        .options
-        .iter_mut()
-        .for_each(|one| see(&mut one.name));
-    match &mut element.kind {
-        Kind::Call { name, .. } | Kind::Token(name) => see(name),
-        Kind::Action(body) | Kind::Predicate(body) => {
-            body.references
-                .iter_mut()
-                .for_each(|one| see(&mut one.name));
-        }
-        Kind::Block(inner) => names_in(inner, see),
-        Kind::Epsilon | Kind::Other => {}
-    }
+    walk::rename(&mut sheet, |name| to[&name]);
+    sheet
 }
 
 /// A satellite of 60 to 300 elements an alternative. Where it collides it does so with its last one.

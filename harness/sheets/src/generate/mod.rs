@@ -58,7 +58,7 @@ const fn limit(name: &'static str, make: fn(&mut Rng) -> Sheet) -> Profile {
     }
 }
 
-pub const PROFILES: [Profile; 35] = [
+pub const PROFILES: [Profile; 36] = [
     cycle("plain", |_, _| {}),
     cycle("several", twist::several),
     cycle("nullable-front", twist::nullable_front),
@@ -92,6 +92,7 @@ pub const PROFILES: [Profile; 35] = [
     limit("near-9", limits::near_nine),
     limit("just-9", limits::just_nine),
     limit("far-names", far::far_names),
+    limit("wide-names", far::wide_names),
     limit("long-splice", far::long_splice),
     limit("long-list", far::long_list),
 ];

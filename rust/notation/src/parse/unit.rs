@@ -111,7 +111,7 @@ impl<'a> Parser<'a> {
             let place = self.ahead();
             let number = self.number()?;
             if !(1..=MOST_NAME).contains(&number) {
-                return Err(place.fault("a number from 1 to 65535"));
+                return Err(place.fault("a number from 1 to 4294967295"));
             }
             if self.names.set(text, number).is_none() {
                 return Err(token.fault("a name and a number that are not in use yet"));

@@ -1,7 +1,6 @@
 -- `analysis::survey::see_leaf` meets its contract.
 use borrow.Author.Needs.{needs}
 use Rattle.analysis.proofs.Laws.Seen.{leaves}
-use Rattle.analysis.proofs.Laws.Walks.{name-low}
 use Rattle.analysis.proofs.leaf.see_leaf.Statement.{statement}
 use Rattle.analysis.proofs.leaf.see_leaf.Tie as tie
 
@@ -10,12 +9,12 @@ see-leaf-spec =
     tie.close
     (tie.spec
     (λ c κs. search needs)
-    (λ c κs. search (needs, leaves, name-low))
+    (λ c κs. search (needs, leaves))
     (λ c. search needs)
-    (λ c. search (needs, leaves, name-low))
+    (λ c. search (needs, leaves))
     (λ c κs. search needs)
-    (λ c. search (needs, leaves, name-low))
-    (λ c. search (needs, leaves, name-low))
+    (λ c. search (needs, leaves))
+    (λ c. search (needs, leaves))
     (λ c κs. search needs)
     (λ c. search needs)
-    (λ c. search (needs, leaves, name-low)))
+    (λ c. search (needs, leaves)))

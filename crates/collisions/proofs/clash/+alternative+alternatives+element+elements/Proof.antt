@@ -77,14 +77,14 @@ elements-below t =
 
 abbrev alternatives-Inv-loop : alternatives-lts.InvT-loop
 alternatives-Inv-loop s end depth work n i₀ p₀ i p =
-    AlternativesFolding (comparing work) (words s) end depth n (p₀ .at) (p₀ .found) i (p .at) (p .found)
+    AlternativesFolding (comparing (words s) work) (words s) end depth n (p₀ .at) (p₀ .found) i (p .at) (p .found)
 
 abbrev alternatives-μ-loop : alternatives-lts.MeasureT-loop
 alternatives-μ-loop s end depth work n i₀ p₀ i p = i
 
 abbrev elements-Inv-loop : elements-lts.InvT-loop
 elements-Inv-loop s end depth work n i₀ p₀ i p =
-    ElementsFolding (comparing work) (words s) end depth n (p₀ .at) (p₀ .found) i (p .at) (p .found)
+    ElementsFolding (comparing (words s) work) (words s) end depth n (p₀ .at) (p₀ .found) i (p .at) (p .found)
 
 abbrev elements-μ-loop : elements-lts.MeasureT-loop
 elements-μ-loop s end depth work n i₀ p₀ i p = i

@@ -1,6 +1,5 @@
 -- `collisions::clash::see_leaf` meets its contract.
 use borrow.Author.Needs.{needs}
-use Rattle.collisions.proofs.Laws.Low.{low}
 use Rattle.collisions.proofs.Laws.Clash.{clashes}
 use Rattle.collisions.proofs.clash.see_leaf.Statement.{statement}
 use Rattle.collisions.proofs.clash.see_leaf.Tie as tie
@@ -10,9 +9,9 @@ see-leaf-spec =
     tie.close
     (tie.spec
     (λ c κs. search needs)
-    (λ c κs. search (needs, low, clashes))
-    (λ c. search (needs, low, clashes))
+    (λ c κs. search (needs, clashes))
+    (λ c. search (needs, clashes))
     (λ c κs. search needs)
-    (λ c κs. search (needs, low, clashes))
-    (λ c. search (needs, low, clashes))
-    (λ c. search (needs, low, clashes)))
+    (λ c κs. search (needs, clashes))
+    (λ c. search (needs, clashes))
+    (λ c. search (needs, clashes)))

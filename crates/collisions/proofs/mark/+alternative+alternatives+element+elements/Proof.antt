@@ -4,7 +4,7 @@ use native.Mathlib.Omega.{arith}
 use Rattle.grammar.specs.Words.{words}
 use Rattle.grammar.specs.Laws.Found.{rooms, inner}
 use Rattle.grammar.specs.Laws.Fold.{ElementsFolding, AlternativesFolding, folding}
-use Rattle.planned.specs.List.{SameList}
+use Rattle.collisions.specs.Names.{Kept}
 use Rattle.collisions.specs.Mark.{marksOf, marking}
 use Rattle.collisions.proofs.Laws.Walks.{notes}
 use Rattle.collisions.proofs.Laws.Mark.{marks, same}
@@ -79,16 +79,16 @@ elements-below t =
 
 abbrev alternatives-Inv-loop : alternatives-lts.InvT-loop
 alternatives-Inv-loop s end depth name work₀ n i₀ p₀ work i p =
-    SameList work₀ work
-    × AlternativesFolding (marking name) (words s) end depth n (p₀ .at) (marksOf work₀ (p₀ .dangling)) i (p .at) (marksOf work (p .dangling))
+    Kept (words s) end work₀ work
+    × AlternativesFolding (marking name) (words s) end depth n (p₀ .at) (marksOf (words s) work₀ (p₀ .dangling)) i (p .at) (marksOf (words s) work (p .dangling))
 
 abbrev alternatives-μ-loop : alternatives-lts.MeasureT-loop
 alternatives-μ-loop s end depth name work₀ n i₀ p₀ work i p = i
 
 abbrev elements-Inv-loop : elements-lts.InvT-loop
 elements-Inv-loop s end depth name work₀ n i₀ p₀ work i p =
-    SameList work₀ work
-    × ElementsFolding (marking name) (words s) end depth n (p₀ .at) (marksOf work₀ (p₀ .dangling)) i (p .at) (marksOf work (p .dangling))
+    Kept (words s) end work₀ work
+    × ElementsFolding (marking name) (words s) end depth n (p₀ .at) (marksOf (words s) work₀ (p₀ .dangling)) i (p .at) (marksOf (words s) work (p .dangling))
 
 abbrev elements-μ-loop : elements-lts.MeasureT-loop
 elements-μ-loop s end depth name work₀ n i₀ p₀ work i p = i

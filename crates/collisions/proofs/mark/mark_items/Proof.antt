@@ -5,19 +5,18 @@ use Prim.Native.Nat.{_-_}
 use Rattle.grammar.specs.Tree.{innerDepth}
 use Rattle.grammar.specs.Words.{words}
 use Rattle.planned.specs.Layout.{meaning}
-use Rattle.planned.specs.List.{SameList}
-use Rattle.planned.specs.Laws.Same.{same-located}
+use Rattle.collisions.specs.Names.{Kept}
 use Rattle.collisions.specs.Mark.{marksOf, marking}
 use Rattle.collisions.proofs.Laws.Items.{Itemizing, itemizing}
 use Rattle.collisions.proofs.Laws.Mark.{same}
-use Rattle.collisions.proofs.Laws.Around.{marked-found, marking-more}
+use Rattle.collisions.proofs.Laws.Around.{kept-located, marked-found, marking-more}
 use Rattle.collisions.proofs.mark.mark_items.Statement.{statement}
 use Rattle.collisions.proofs.mark.mark_items.Tie as tie
 
 abbrev Inv-loop : tie.InvT-loop
 Inv-loop s end work₀ x from to name dangling i₀ refers₀ work i refers =
-    SameList work₀ work
-    × Itemizing (marking name) innerDepth (meaning (words s) end innerDepth work₀ x .elements) from to (marksOf work₀ dangling) i (marksOf work refers)
+    Kept (words s) end work₀ work
+    × Itemizing (marking name) innerDepth (meaning (words s) end innerDepth work₀ x .elements) from to (marksOf (words s) work₀ dangling) i (marksOf (words s) work refers)
 
 abbrev μ-loop : tie.MeasureT-loop
 μ-loop s end work₀ x from to name dangling i₀ refers₀ work i refers = to - i
@@ -29,8 +28,8 @@ mark-items-spec =
     Inv-loop
     μ-loop
     (λ c. search (needs, itemizing, same))
-    (λ c κs. (search same-located, omega arith))
-    (λ c κs. ((search needs, omega arith), search marked-found))
+    (λ c κs. (search kept-located, omega arith))
+    (λ c κs. ((search needs, search (needs, same)), search marked-found))
     (λ c. search needs)
     (λ c. search needs)
     (λ c. search (needs, marking-more, same))

@@ -1,6 +1,5 @@
 -- `collisions::mark::mark_label` meets its contract.
 use borrow.Author.Needs.{needs}
-use Rattle.collisions.proofs.Laws.Low.{low}
 use Rattle.collisions.proofs.Laws.Mark.{labels}
 use Rattle.collisions.proofs.mark.mark_label.Statement.{statement}
 use Rattle.collisions.proofs.mark.mark_label.Tie as tie
@@ -11,7 +10,8 @@ mark-label-spec =
     (tie.spec
     (λ c. search needs)
     (λ c κs. search needs)
-    (λ c. search (needs, low, labels))
-    (λ c κs. search (needs, low, labels))
+    (λ c. search (needs, labels))
     (λ c. search needs)
-    (λ c. search (needs, low, labels)))
+    (λ c κs. search (needs, labels))
+    (λ c. search needs)
+    (λ c. search (needs, labels)))

@@ -12,6 +12,7 @@ mark-reference-spec =
     (λ c. search needs)
     (λ c κs. search needs)
     (λ c. search (needs, reference-laws))
+    (λ c. search needs)
     (λ c κs. search (needs, reference-laws))
     (λ c. search needs)
     (λ c. search (needs, reference-laws)))

@@ -3,14 +3,14 @@ use Prim.Native.Nat.{ℕ, suc, _≤_}
 use mathlib.Core.Path.{_≡_, refl, sym, ap, _∙_, subst}
 use mathlib.Core.Logic.{⊎-elim}
 use mathlib.Core.List.{List, [], _∷_, List·Memᴰ, List·Memᴰ·head, List·Memᴰ·tail, List·Memᴰ·not-nil, List·Memᴰ·cases-cons}
-use mathlib.Core.Bool.{true, false, not}
+use mathlib.Core.Bool.{true, false, not, true≢false}
 use native.Mathlib.Omega.{arith}
 use lib.ListN.{length}
 use lib.Dec.{eqb}
 use borrow.Author.Tests.{not-true, eqb-true, eqb-false}
 use Rattle.grammar.specs.Lists.{member, distinct}
+use Rattle.grammar.specs.Laws.Lists.{in-member}
 use Rattle.grammar.specs.Laws.Parse.{left-true, right-true, either}
-use Rattle.laws.specs.Lists.Lookup.{not-in}
 
 -- The list without the first x.
 taken : ℕ → List ℕ → List ℕ
@@ -40,6 +40,6 @@ no-more (x ∷ xs) ys t h =
     let fresh = not-true (member x xs) (left-true (not (member x xs)) (distinct xs) t) in
     let ih =
     no-more xs (taken x ys) (right-true (not (member x xs)) (distinct xs) t)
-    (λ z m. taken-other x ys (h z (List·Memᴰ·tail m)) (λ e. not-in x xs fresh (subst (λ y. List·Memᴰ y xs) e m))) in
+    (λ z m. taken-other x ys (h z (List·Memᴰ·tail m)) (λ e. true≢false (sym (in-member (subst (λ y. List·Memᴰ y xs) e m)) ∙ fresh))) in
     let l = taken-length x ys (h x (List·Memᴰ·head refl)) in
     omega arith
