@@ -43,9 +43,8 @@ impl Cycle<'_> {
         let (first, behind) = own.elements.split_first()?;
         if is_call(first, hub) {
             let is_empty = behind.iter().all(|element| self.ends.can_be_empty(element));
-            let how = format!(
-                "all that would stand behind the call of `{name}` in front can be empty"
-            );
+            let how =
+                format!("all that would stand behind the call of `{name}` in front can be empty");
             return is_empty.then(|| own.found(11, how).at_element(first.id));
         }
         let (corner, element) = self.corner_within(&own.elements)?;
