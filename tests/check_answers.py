@@ -6,9 +6,10 @@
 ANSWERS are files of answers, or folders of them. Each answer becomes an equation, outside the
 crates, that the checker closes by computing: the definition gives the same refusal, or the same
 plans, steps, words of result and trail, and origins of every node (12.6), and where a cycle is left
-the same clause for it (10). Of a long result (claims.LONG) origins and clauses are not asked. A sheet
-of more than claims.READ bytes is not handed to `read`, which takes time by the square of a sheet's
-length: a quick reader makes its tree, which must encode to the sheet's words.
+the same clause for it (10). It is computed by the reading of left corners (14.3) by which the answer was
+given, the textbook's for those in the folder `textbook`. Of a long result (claims.LONG) origins and clauses
+are not asked. A sheet of more than claims.READ bytes is not handed to `read`, which takes time by the square
+of a sheet's length: a quick reader makes its tree, which must encode to the sheet's words.
 
 Where a folder is given, the short sheets of tests/reading are read too (3.9), and `outcome` is computed,
 for the calls in answers/calls.py (3): the five numbers and every byte of the three buffers, which are
@@ -48,7 +49,7 @@ BEAT = 10      # seconds between two lines that tell how far it is
 def all_asked(paths, pattern='', outcome=False):
     """The answers in files and folders, and where there is a folder the calls and the short sheets of tests/reading, whose names
     fit; or the calls of each answer."""
-    asked = gather(paths)
+    asked = gather(paths, textbook=True)
     if outcome:
         asked = list(calls_of_each(asked))
     elif any(Path(path).is_dir() for path in paths):

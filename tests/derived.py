@@ -1,7 +1,8 @@
 """Where wrong readings of what a grammar derives are tried: no program computes them, so a string shows each.
 
 The strings are the fields of `StringsTold` (laws, Demands/Strings). Of a string that is derived, the edited definitions must prove
-that it is not; of one that is not, they must have the tree that the edit names.
+that it is not; of one that is not, they must have the tree that the edit names. Of a grammar that can be empty they must prove that
+no string of end marks is derived.
 """
 import re
 
@@ -10,7 +11,7 @@ from rooms import CHECKS, Room, refused
 
 LAWS, MODULE = 'laws', 'Demands/Strings'
 STRING = 'string '
-FIELD = re.compile(r'^  pub (\w+) : (Yes|No) (\([^)]*\)|\w+) (.*)$', re.M)
+FIELD = re.compile(r'^  pub (\w+) : (?:(Yes|No) (\([^)]*\)|\w+) (.*)|Empty (.*))$', re.M)
 SAID = re.compile(rf'{re.escape(CHECKS)}:\d+:\d+: (?!note)')   # of the contrary: that it is not proved
 OPENED = 'find eraseBlock eraseElement eraseLeaf quantified'
 HEAD = """use mathlib.Core.Path.{{refl}}
@@ -23,19 +24,30 @@ use Rattle.language.specs.Derive.{d-absent, d-present, d-none, d-more, d-some}
 """
 BY_TEST = """use Rattle.laws.specs.Derivation.Could.{could, failed}
 """
+BY_MARKS = """use mathlib.Core.Path.{_≡_}
+use mathlib.Core.Bool.{true, false≢true}
+use Rattle.grammar.specs.Lists.{all}
+use Rattle.language.specs.Shape.{endSymbol, isMark, Word}
+"""
+NO_MARK = '\n'.join(f'full ({symbol} ∷ w) m = absurd (false≢true m)' for symbol in
+                    ('tokenSymbol n', 'unknownSymbol n', 'otherSymbol c', 'endSymbol'))
 
 
 def strings(folder):
-    """The strings by their names: whether each is derived, its grammar and its symbols."""
+    """The strings by their names: whether each is derived, its grammar and its symbols; of one that can be empty, no symbols."""
     path = folder / LAWS / f'specs/{MODULE}.antt'
     text = path.read_text(encoding='utf-8') if path.is_file() else ''
-    return {STRING + name: (how == 'Yes', grammar, word) for name, how, grammar, word in FIELD.findall(text)}
+    return {STRING + name: (how != 'No', grammar or empty, word) for name, how, grammar, word, empty in FIELD.findall(text)}
 
 
 def contrary(string, tree, names):
     """A module that proves the contrary of what is stored of a string."""
     is_derived, grammar, word = string
     head = HEAD.format(names=', '.join(names))
+    if not word:
+        return (f'{head}{BY_TEST}{BY_MARKS}\nfull : (w : Word) → all isMark w ≡ true → No {grammar} w\n'
+                f'unfolding {OPENED} could all isMark\nfull [] m = failed {grammar} [] refl refl\n{NO_MARK}\n\n'
+                f'a0 : Empty {grammar} → ⊥\na0 x = full (x .word) (x .marks) (x .derives)\n')
     if is_derived:
         return f'{head}{BY_TEST}\na0 : No {grammar} {word}\nunfolding {OPENED} could\na0 = failed {grammar} {word} refl refl\n'
     return f'{head}{BY_TREE}\na0 : Yes {grammar} {word}\nunfolding {OPENED}\na0 = record {{ body = _; found = refl; tree = {tree} }}\n'

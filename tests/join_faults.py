@@ -26,7 +26,10 @@ CLAUSES = {
     "e: <o=1> a | Y; a: <o=2> e X;": "clause 9, an option collision: two values are given to the option `o`",
     "e: a | X; a: e[5] Y;": "clause 11, not directly rewritable: the alternative would pass arguments to `e`",
     "e: a | ; a: e Y;": "the alternative would have nothing in it but epsilon, actions and predicates; in the place of e 2 (line 1)",
-    "e: a | X;\na: e n; n: ;": "all that would stand behind the call of `e` in front can be left out; in the place of e 1 (line 1), of a 1 (line 2)",
+    "e: a | X;\na: e n; n: ;": "all that would stand behind the call of `e` in front can be empty; in the place of e 1 (line 1), of a 1 (line 2)",
+    "e: a | X;\na: e EOF+;": "all that would stand behind the call of `e` in front can be empty; in the place of e 1 (line 1), of a 1 (line 2)",
+    "e: a | X; a: e Y | EOF e Z;": "the alternative would begin with `e` of the cycle, behind something that can be empty",
+    "e: EOF a | X; a: e Y;": "clause 10, no steps",
     "e: a | X; a: e Y | ( e ) Z;": "the alternative would begin with `e` of the cycle",
 }
 

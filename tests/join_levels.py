@@ -99,14 +99,15 @@ def found_through_calls_and_blocks(program, folder, made):
 
 
 def own_calls_that_no_level_reaches(program, folder, made):
-    """An own call at the end that stands in a block, has a quantifier, or has something behind it that can be left out."""
+    """An own call at the end that stands in a block, has a quantifier, or has something behind it that can be empty."""
     for alternative, told in (
         ("NOT ( e )", "stands in a block"),
         ("NOT ( X | Y e )?", "stands in a block"),
         ("UP e?", "has a quantifier"),
         ("UP e+", "has a quantifier"),
-        ("DOWN e X*", "has something behind it that can be left out"),
-        ("DOWN e n", "has something behind it that can be left out"),
+        ("DOWN e X*", "has something behind it that can be empty"),
+        ("DOWN e n", "has something behind it that can be empty"),
+        ("DOWN e EOF", "has something behind it that can be empty"),
     ):
         text = joined(program, made, f"e: a | INT | {alternative}; a: e PLUS e; n: X?;")
         found = warnings(text)

@@ -9,6 +9,7 @@ A sheet's name begins with what it is about:
   twice                                           4.5
   counter                                         4.6
   order                                           4.20
+  end-of-input                                    2.11, 2.12
   nullable, corners, cycles                       6
   inlining                                        7.5
   plan                                            7 to 10

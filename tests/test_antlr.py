@@ -93,6 +93,15 @@ class Corners(unittest.TestCase):
         for facts in self.facts(text):
             self.assertEqual(facts.empty, {"e", "a", "b", "i"})
 
+    def test_end_of_input(self):
+        """It can be empty whatever its quantifier, and neither reading ends at it; for ANTLR it is written as it is."""
+        text = "e: EOF a | b EOF+ c; a: EOF+; b: EOF?? EOF; c: X; d: EOF X;"
+        for facts in self.facts(text):
+            self.assertEqual(facts.empty, {"e", "a", "b"})
+            self.assertEqual(facts.corners["e"], {"a", "b", "c"})
+        self.assertIn("e: x_EOF=EOF+ | EOF;", g4.written("G", notation.read("e: x=EOF+ | EOF;")))
+        self.assertNotIn("EOF:", g4.written("G", notation.read(text)))
+
     def test_readings(self):
         text = "e: X? a | none?? b | .* c | n d | ( Y | f? ) g Z h; a: e; b: ; c: ; d: ; f: ; g: ; h: ; n: X?;"
         original, textbook = self.facts(text)

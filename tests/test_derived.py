@@ -13,6 +13,7 @@ STATED = """pub record StringsTold : Type 0 where
   pub anyTwice : Yes (often 3) (A ∷ A ∷ [])
   pub callIsNoToken : No tokenOrCall (tokenSymbol 5 ∷ [])
   pub endlessNothing : (w : Word) → No endless w
+  pub endEmpty : Empty (oftenEnd 0)
 """
 EDIT = """# all tokens are one symbol
 refused: laws/Derivation/From
@@ -40,7 +41,8 @@ class Strings(unittest.TestCase):
     def test_found_by_their_names(self):
         found = derived.strings(self.root / 'crates')
         self.assertEqual(found, {'string anyTwice': (True, '(often 3)', '(A ∷ A ∷ [])'),
-                                 'string callIsNoToken': (False, 'tokenOrCall', '(tokenSymbol 5 ∷ [])')})
+                                 'string callIsNoToken': (False, 'tokenOrCall', '(tokenSymbol 5 ∷ [])'),
+                                 'string endEmpty': (True, '(oftenEnd 0)', '')})
 
     def test_none_where_there_are_no_laws(self):
         self.assertEqual(derived.strings(self.root), {})
@@ -55,6 +57,11 @@ class Strings(unittest.TestCase):
         self.assertIn('\na0 : Yes tokenOrCall (B ∷ [])\n', text)
         self.assertIn('tree = d-left d-eps }', text)
         self.assertNotIn('Could', text)
+
+    def test_contrary_of_a_grammar_that_can_be_empty(self):
+        text = derived.contrary((True, '(oftenEnd 0)', ''), '', ['oftenEnd', 'Empty'])
+        self.assertIn('\nfull (endSymbol ∷ w) m = absurd (false≢true m)\n', text)
+        self.assertIn('\na0 : Empty (oftenEnd 0) → ⊥\n', text)
 
     def test_an_edit_names_one(self):
         edit = edits.read(self.root / 'wrong')[0]

@@ -52,6 +52,11 @@ class Fitting(Tree):
         self.assertEqual(self.misfits('file: ', 'when: asked\nfile: '), [])
         self.assertEqual(self.misfits('file: ', 'when: never\nfile: '), ['lower/turned: when: never, which is not asked'])
 
+    def test_answers_of_one_name_in_two_readings(self):
+        self.assertEqual(wrong.short('ends.txt: sheet 1'), 'sheet 1')
+        self.assertEqual(wrong.short('textbook/ends.txt: sheet 1'), 'textbook/ends.txt: sheet 1')
+        self.assertEqual(wrong.short('reading: sheet-1'), 'reading: sheet-1')
+
     def test_of_either_sort(self):
         definition = self.edit()
         code = self.edit('specs/A.antt', 'src/lib.rt')

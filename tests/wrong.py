@@ -63,8 +63,10 @@ class Named:
 
 
 def short(name):
-    """An answer is named without its file; a call, a run that is compared and a sheet of tests/reading with the word in front."""
-    return name.partition(': ')[2] if name.partition(': ')[0].endswith('.txt') else name
+    """An answer is named without its file, unless that stands in a folder of its own, as those by the textbook do; a call, a run
+    that is compared and a sheet of tests/reading with the word in front."""
+    file, _, rest = name.partition(': ')
+    return rest if file.endswith('.txt') and '/' not in file else name
 
 
 class Lane:

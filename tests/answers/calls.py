@@ -81,10 +81,12 @@ OF_REFUSALS = [
     ('refused 5', 5, (0, 0, 1)),
     ('refused 6', 6, (4, 4, 4)),
 ]
-# By the textbook's left corners (SPECIFICATION 14), of which no answer is stored: a sheet without symbols of quantifier 1
-# to 4 has the same (14.6), and one comes back that the original joins (14.2).
+# By the textbook's left corners (SPECIFICATION 14), of which answers are stored for sheets with the end of input alone: a sheet
+# without symbols of quantifier 1 to 4 has the same (14.6), and one comes back that the original joins (14.2).
 SAME_BY_TEXTBOOK = ('joined by the textbook', 'examples.txt: example 1')
 BACK_BY_TEXTBOOK = ('comes back by the textbook', 'written.txt: written 1')
+# With the end of input, by both readings.
+ENDS = ['end of input 33', 'end of input 42']
 # Zeros of so many bytes, and the refusal.
 OF_ZEROS = [
     ('32772 bytes', 32772, 1),
@@ -108,20 +110,24 @@ def calls_of_each(stored):
     """Two calls for each answer: with buffers longer than needed, if the sheet is not too long, and with one a byte short."""
     for at, one in enumerate(stored):
         if len(one.sheet) <= MOST:
-            yield Call(one.name, one, (1, 2, 3))
-        yield Call(f'{one.name}, a buffer short', one, short_at(at % 3))
+            yield Call(one.name, one, (1, 2, 3), reading=one.reading)
+        yield Call(f'{one.name}, a buffer short', one, short_at(at % 3), reading=one.reading)
 
 
 def calls(stored):
     """All calls that the gate computes, with the sheets of these answers."""
     by_name = {one.name: one for one in stored}
-    by_size = sorted(stored, key=lambda one: len(one.sheet))
+    by_size = sorted((one for one in stored if one.reading == 'rust'), key=lambda one: len(one.sheet))
     made = [Call(what, by_name[name], longer) for what, name, longer in OF_ANSWERS]
     for what, number, longer in OF_REFUSALS:
         made.append(Call(what, next(one for one in by_size if one.refused == number), longer))
     (what, name), (other, back) = SAME_BY_TEXTBOOK, BACK_BY_TEXTBOOK
     made.append(Call(what, by_name[name], reading='textbook'))
     made.append(Call(other, comes_back(by_name[back]), reading='textbook'))
+    for name in ENDS:
+        for file in ('ends.txt', 'textbook/ends.txt'):
+            one = by_name[f'{file}: {name}']
+            made.append(Call(f'{name}, {one.reading}', one, (1, 0, 2), reading=one.reading))
     for what, many, number in OF_ZEROS:
         zeros = Stored(what)
         zeros.refused = number

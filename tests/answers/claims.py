@@ -36,8 +36,8 @@ def node_term(node):
 def asked_term(stored):
     """The computation: by `answerTo`, or from the tree of a sheet that is long for `read`."""
     if len(stored.sheet) <= READ or stored.refused in (1, 3, 4, 5, 6):
-        return f'to {sheet_term(stored.sheet)}'
-    return f'from ({literal(words_of(stored.sheet))})'
+        return f'to {stored.reading} {sheet_term(stored.sheet)}'
+    return f'from {stored.reading} ({literal(words_of(stored.sheet))})'
 
 
 def answer_terms(stored):
@@ -48,7 +48,7 @@ def answer_terms(stored):
         return asked, answer, 'sameAnswer'
     nodes = ' ∷ '.join([node_term(node) for node in stored.origins] + ['[]'])
     origins = lists_term([node[2:] for node in stored.origins] + [[len(stored.origins)]])
-    how = 'left' if stored.clauses else 'joined'
+    how = f'left {stored.reading}' if stored.clauses else 'joined'
     return f'{how} ({asked}) ({nodes})', f'whole ({answer}) ({lists_term(stored.clauses)}) ({origins})', 'sameWhole'
 
 

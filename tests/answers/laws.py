@@ -5,10 +5,10 @@ from answers.claims import answer_term, asked_term, literal, sheet_term
 from answers.stored import Stored, bytes_of, words_of
 
 KEPT, NAME, LABEL, CARRIED = range(4)
-EPSILON, ACTION, PREDICATE, CALL, TOKEN, OTHER, BLOCK = range(7)
+EPSILON, ACTION, PREDICATE, CALL, TOKEN, OTHER, BLOCK, END_OF_INPUT = range(8)
 TRAILER = 8
-# The starred grammars, and one in which both rules can be the hub and options of three names are joined.
-COMPARED = [f'example {at}' for at in range(1, 12)] + ['written 96']
+# The starred grammars, one in which both rules can be the hub and options of three names are joined, and one with the end of input.
+COMPARED = [f'example {at}' for at in range(1, 12)] + ['written 96', 'end of input 40']
 MOST_NAME = 4294967295
 
 
@@ -68,8 +68,8 @@ def renamed(word):
 class Answered:
     """What is computed from a sheet, what it must be, and the test for that."""
 
-    def __init__(self, name, sheet, plans, steps, result, trail):
-        self.name, self.stored = name, Stored(name)
+    def __init__(self, name, sheet, plans, steps, result, trail, reading='rust'):
+        self.name, self.stored = name, Stored(name, reading)
         self.stored.sheet, self.stored.plans, self.stored.steps = bytes_of(sheet), plans, steps
         self.stored.result, self.stored.trail = result, trail
         self.sheet = self.stored.sheet
@@ -84,7 +84,7 @@ class AlikeButCarried(Answered):
     def terms(self):
         carried = [at for at, sort in enumerate(Sorts(self.stored.result).sorts) if sort == CARRIED]
         self.stored.result = changed(self.stored.result, carried=lambda word: 0)
-        return f'blanked ({literal(carried)}) (to {sheet_term(self.sheet)})', answer_term(self.stored), 'sameAnswer'
+        return f'blanked ({literal(carried)}) (to rust {sheet_term(self.sheet)})', answer_term(self.stored), 'sameAnswer'
 
 
 def short(stored):
@@ -94,12 +94,13 @@ def short(stored):
 
 def own_results(stored):
     """The pass on each result that is not its sheet."""
-    return [Answered(f'again: {short(one)}', one.result, 0, 0, one.result, []) for one in stored if one.plans]
+    by = {'rust': '', 'textbook': ' by the textbook'}
+    return [Answered(f'again{by[one.reading]}: {short(one)}', one.result, 0, 0, one.result, [], one.reading) for one in stored if one.plans]
 
 
 def compared(stored):
     """Some grammars with other names, and with carried numbers counted up; and every result once more."""
-    by_name, made = {short(one): one for one in stored}, own_results(stored)
+    by_name, made = {short(one): one for one in stored if one.reading == 'rust'}, own_results(stored)
     for name in COMPARED:
         one = by_name[name]
         words = words_of(one.sheet)

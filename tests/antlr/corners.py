@@ -1,7 +1,7 @@
 """What can be empty, left corners in both readings, and cycles (SPECIFICATION 6, 13.9, 13.11, 14)."""
 
 SKIPPING = ("?", "??", "*", "*?")
-EMPTY = ("epsilon", "action", "predicate")
+EMPTY = ("epsilon", "action", "predicate", "end")
 
 
 class Facts:

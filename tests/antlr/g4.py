@@ -45,6 +45,8 @@ class Writer:
             return f"({self.alternatives(own.alternatives)}){own.quantifier}"
         if own.kind == "call" and own.name in self.rules:
             return f"{label(own)}{own.name}{own.quantifier}"
+        if own.kind == "end":
+            return f"{label(own)}{own.name}{own.quantifier}"
         prefix = {"call": "NO_RULE_", "other": "OTHER_"}.get(own.kind, "")
         return f"{label(own)}{self.token(prefix + own.name)}{options(own.options)}{own.quantifier}"
 

@@ -6,7 +6,7 @@ import re
 from collections import namedtuple
 
 Alternative = namedtuple("Alternative", "options elements")
-# Kinds: call, token, other (kind 5), epsilon, action, predicate, block.
+# Kinds: call, token, other (kind 5), end (of input), epsilon, action, predicate, block.
 Element = namedtuple("Element", "kind name quantifier label options alternatives")
 
 COMMENT = re.compile(r"//[^\n]*")
@@ -118,6 +118,8 @@ class Reader:
             return "action" if word == "{" else "predicate", "", []
         if word in ("_", "."):
             return "epsilon" if word == "_" else "other", "", []
+        if word == "EOF":
+            return "end", word, []
         if not NAME.match(word):
             self.at -= 1
             raise self.fault("an element")

@@ -16,7 +16,7 @@ use Rattle.grammar.specs.Ids.{leafIds}
 use Rattle.grammar.specs.Corners.{Corners, rust, textbook}
 use Rattle.grammar.specs.Fold.{Steps, folded, alternativeFold, blockFold, WalkedOne, WalkedMany}
 use Rattle.grammar.specs.Found.{RuleSpans}
-use Rattle.reference.specs.Walks.{silent, consuming, calling, sortOf, isOptional}
+use Rattle.reference.specs.Walks.{silent, consuming, calling, sortOf, isEnd, isOptional}
 use Rattle.reach.specs.Rows.{bit}
 use Rattle.analysis.specs.Names.{isNamed, anyBelow}
 use Rattle.analysis.specs.declared.leaf.Known.{Known}
@@ -69,7 +69,8 @@ module _ (v : View) where
 
   unfoldable pub leafNull : Leaf → Bool
   leafNull l =
-      elim (sortOf l) [
+      isEnd l
+      || elim (sortOf l) [
         | silent ↦ true
         | consuming ↦ false
         | calling c ↦ anyBelow (λ j. isNamed (v .names) (v .n) (c .name) j && bit (v .nullable) j) (v .n)
@@ -78,11 +79,12 @@ module _ (v : View) where
   unfoldable pub leafEnds : Leaf → Bool
   leafEnds l =
       not (v .past)
+      && (not (isEnd l)
       && elim (sortOf l) [
         | silent ↦ false
         | consuming ↦ true
         | calling c ↦ not (anyBelow (isNamed (v .names) (v .n) (c .name)) (v .n))
-      ]
+      ])
 
   -- Past a leaf; `skips` where its quantifier lets it be left out.
   unfoldable pub pastLeaf : Seen → Bool → Leaf → Seen

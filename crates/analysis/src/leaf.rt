@@ -135,6 +135,9 @@ pub fn see_leaf(
     if kind == Kind::CALL {
         return see_name(names, known, table, word(s, payload), skips, p, t);
     }
+    if kind == Kind::END_OF_INPUT {
+        return p;
+    }
     if Kind::CALL < kind {
         return see_symbol(known.past, skips, p);
     }

@@ -3,10 +3,11 @@ use Prim.Native.Nat.{ℕ, zero, suc, _+_, _*_}
 use mathlib.Core.List.{List, [], _∷_, _++_}
 use lib.ListN.{length}
 use Rattle.grammar.specs.Lists.{each}
-use Rattle.grammar.specs.Numbers.{epsilonKind, actionKind, predicateKind, callKind, tokenKind, terminalKind, blockKind, kindEnd}
+use Rattle.grammar.specs.Numbers.{epsilonKind, actionKind, predicateKind, callKind, tokenKind, terminalKind, endKind, blockKind}
+use Rattle.grammar.specs.Numbers.{kindEnd}
 use Rattle.grammar.specs.Tree.{OptionDecl, Reference, Label, unlabelled, labelled, ElementHead, Leaf, epsilon, action, predicate}
-use Rattle.grammar.specs.Tree.{call, token, terminal, Element, leaf, block, AlternativeOf, Block, RuleOf, Rule, bodyDepth, Counters}
-use Rattle.grammar.specs.Tree.{Sheet}
+use Rattle.grammar.specs.Tree.{call, token, terminal, endOfInput, Element, leaf, block, AlternativeOf, Block, RuleOf, Rule, bodyDepth}
+use Rattle.grammar.specs.Tree.{Counters, Sheet}
 
 abbrev pub encodeOption : OptionDecl → List ℕ
 encodeOption o = o .name ∷ o .value ∷ []
@@ -40,6 +41,7 @@ leafKind (predicate p) = predicateKind
 leafKind (call c) = callKind
 leafKind (token n) = tokenKind
 leafKind terminal = terminalKind
+leafKind endOfInput = endKind
 
 unfoldable pub encodeLeaf : Leaf → List ℕ
 encodeLeaf epsilon = []
@@ -48,6 +50,7 @@ encodeLeaf (predicate p) = p .id ∷ length (p .references) ∷ each encodeRefer
 encodeLeaf (call c) = c .name ∷ c .arguments ∷ []
 encodeLeaf (token n) = n ∷ []
 encodeLeaf terminal = []
+encodeLeaf endOfInput = []
 
 module _ {B : Type 0} (enc : B → List ℕ) where
   unfoldable pub encodeElement : Element B → List ℕ

@@ -4,7 +4,7 @@ use mathlib.Core.List.{List, [], _∷_, _++_, map}
 use mathlib.Core.Bool.{Bool, true, false, _&&_}
 use lib.Dec.{eqb}
 use Rattle.grammar.specs.Tree.{Label, unlabelled, labelled, ElementHead, Leaf, epsilon, action, predicate, call, token, terminal}
-use Rattle.grammar.specs.Tree.{Element, leaf, block, AlternativeOf, Block, Rule, bodyDepth, Counters}
+use Rattle.grammar.specs.Tree.{endOfInput, Element, leaf, block, AlternativeOf, Block, Rule, bodyDepth, Counters}
 use Rattle.grammar.specs.Numbers.{alternativeSort, elementSort, labelSort, actionSort, predicateSort}
 use Rattle.grammar.specs.Lists.{each, only, distinct, below}
 
@@ -23,6 +23,7 @@ module _ (sort : ℕ) where
   leafIds (call c) = []
   leafIds (token n) = []
   leafIds terminal = []
+  leafIds endOfInput = []
 
   module _ {B : Type 0} (blockIds : B → List ℕ) where
     unfoldable pub elementIds : Element B → List ℕ

@@ -96,6 +96,9 @@ terminalKind = 5
 abbrev pub blockKind : ℕ
 blockKind = 6
 
+abbrev pub endKind : ℕ
+endKind = 7
+
 abbrev pub kindEnd : ℕ
 kindEnd = 256
 

@@ -6,7 +6,7 @@ use lib.ListN.{getD}
 use lib.Dec.{leb, eqb}
 use Rattle.grammar.specs.Numbers.{mostName, nonLocal, kindEnd, blockKind, oneOrMoreNongreedy, mostAlternativeFlag, mostRuleFlags}
 use Rattle.grammar.specs.Tree.{OptionDecl, Reference, Label, unlabelled, labelled, ElementHead, Leaf, epsilon, action, predicate}
-use Rattle.grammar.specs.Tree.{call, token, terminal, Element, leaf, block, AlternativeOf, Block, RuleOf, Rule, bodyDepth}
+use Rattle.grammar.specs.Tree.{call, token, terminal, endOfInput, Element, leaf, block, AlternativeOf, Block, RuleOf, Rule, bodyDepth}
 use Rattle.grammar.specs.Parse.{Got, got, bad, _then_, given, many}
 
 abbrev pub isName : ℕ → Bool
@@ -61,7 +61,9 @@ module _ (ws : List ℕ) (end : ℕ) where
   leafAt (suc (suc (suc zero))) at = callAt at
   leafAt (suc (suc (suc (suc zero)))) at = tokenAt at
   leafAt (suc (suc (suc (suc (suc zero))))) at = got terminal at
-  leafAt (suc (suc (suc (suc (suc (suc k)))))) at = bad
+  leafAt (suc (suc (suc (suc (suc (suc zero)))))) at = bad
+  leafAt (suc (suc (suc (suc (suc (suc (suc zero))))))) at = got endOfInput at
+  leafAt (suc (suc (suc (suc (suc (suc (suc (suc k)))))))) at = bad
 
   -- The six fixed words of an element.
   unfoldable pub isHead : ℕ → Bool

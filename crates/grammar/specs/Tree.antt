@@ -41,7 +41,7 @@ pub record Call : Type 0 where
   pub name : ℕ
   pub arguments : ℕ
 
--- The kinds of element that hold no alternatives. `terminal` is kind 5, any terminal but a token.
+-- The kinds of element that hold no alternatives. `terminal` is kind 5, any terminal but a token; `endOfInput` is kind 7.
 pub data Leaf : Type 0 where
   epsilon : Leaf
   action : Action → Leaf
@@ -49,6 +49,7 @@ pub data Leaf : Type 0 where
   call : Call → Leaf
   token : (name : ℕ) → Leaf
   terminal : Leaf
+  endOfInput : Leaf
 
 pub data Element (B : Type 0) : Type 0 where
   leaf : ElementHead → Leaf → Element B

@@ -9,7 +9,8 @@ use Rattle.grammar.specs.Numbers.{lexer, combined, oneOrMoreNongreedy, n
 use Rattle.grammar.specs.Numbers.{wordEnd}
 use Rattle.grammar.specs.Lists.{all, rising}
 use Rattle.grammar.specs.Tree.{OptionDecl, Reference, Label, unlabelled, labelled, ElementHead, Leaf, epsilon, action, predicate}
-use Rattle.grammar.specs.Tree.{call, token, terminal, Element, leaf, block, AlternativeOf, Block, RuleOf, Rule, bodyDepth, Sheet}
+use Rattle.grammar.specs.Tree.{call, token, terminal, endOfInput, Element, leaf, block, AlternativeOf, Block, RuleOf, Rule, bodyDepth}
+use Rattle.grammar.specs.Tree.{Sheet}
 use Rattle.grammar.specs.Encode.{encode}
 use Rattle.grammar.specs.Read.{isName}
 use Rattle.grammar.specs.Ids.{isDistinct, isBelow}
@@ -34,6 +35,7 @@ okLeaf (predicate p) = all okReference (p .references)
 okLeaf (call c) = isName (c .name)
 okLeaf (token n) = isName n
 okLeaf terminal = true
+okLeaf endOfInput = true
 
 module _ {B : Type 0} (okBlock : B → Bool) where
   unfoldable pub okElement : Element B → Bool

@@ -7,6 +7,7 @@ pub mod Quantifier
 pub mod Copies
 pub mod Removal
 pub mod Empty
+pub mod Marks
 pub mod Corner
 pub mod Elements
 pub mod Rules

@@ -2,9 +2,9 @@
 use Prim.Native.Nat.{ℕ}
 use mathlib.Core.Path.{_≡_}
 use mathlib.Core.Option.{Option, none, some}
-use mathlib.Core.Bool.{Bool, true, false}
+use mathlib.Core.Bool.{Bool, true, false, not}
 use Rattle.grammar.specs.Tree.{Call, Leaf, call, token, terminal}
-use Rattle.language.specs.Shape.{Shape, eps, fail, symbol, callOf, seq, alt, opt, star, plus, Shapes, find}
+use Rattle.language.specs.Shape.{Shape, eps, fail, symbol, callOf, seq, alt, opt, star, plus, Shapes, find, isMark}
 use Rattle.language.specs.Derive.{CanBeEmpty}
 use Rattle.grammar.specs.Corners.{Corners, rust, textbook}
 
@@ -13,11 +13,12 @@ abbrev pub isMissing : Option Shape → Bool
 isMissing none = true
 isMissing (some b) = false
 
--- A token, a kind 5 element or a call of an unknown name, with any quantifier. A block is none: it erases to `alt` or `fail`.
+-- A token, a kind 5 element or a call of an unknown name, with any quantifier. End of input is none, and neither is a block: it
+-- erases to `alt` or `fail`.
 unfoldable pub isSymbol : Shapes → Shape → Bool
 isSymbol G eps = false
 isSymbol G fail = false
-isSymbol G (symbol a) = true
+isSymbol G (symbol a) = not (isMark a)
 isSymbol G (callOf n) = isMissing (find G n)
 isSymbol G (seq s t) = false
 isSymbol G (alt s t) = false
@@ -25,7 +26,7 @@ isSymbol G (opt s) = isSymbol G s
 isSymbol G (star s) = isSymbol G s
 isSymbol G (plus s) = isSymbol G s
 
--- The symbols (SPECIFICATION 13.2).
+-- The same, of a leaf (SPECIFICATION 14.1).
 pub data IsSymbol (G : Shapes) : Leaf → Type 0 where
   is-token : {n : ℕ} → IsSymbol G (token n)
   is-terminal : IsSymbol G terminal

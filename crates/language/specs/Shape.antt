@@ -3,18 +3,28 @@
 use Prim.Native.Nat.{ℕ, zero, suc}
 use mathlib.Core.List.{List, [], _∷_, map}
 use mathlib.Core.Option.{Option, none, some}
-use mathlib.Core.Bool.{true, false}
+use mathlib.Core.Bool.{Bool, true, false}
 use lib.Dec.{leb, eqb}
 use Rattle.grammar.specs.Lists.{AllOf}
 use Rattle.grammar.specs.Numbers.{once, optionalNongreedy, zeroOrMoreNongreedy}
-use Rattle.grammar.specs.Tree.{Leaf, epsilon, action, predicate, call, token, terminal, ElementHead, Element, leaf, block, Block, RuleOf}
+use Rattle.grammar.specs.Tree.{Leaf, epsilon, action, predicate, call, token, terminal, endOfInput, ElementHead, Element, leaf, block}
+use Rattle.grammar.specs.Tree.{Block, RuleOf}
 
--- A symbol (SPECIFICATION 13.2): a token or an unknown call, by its name; a kind 5 element, by its carried number.
+-- A symbol (SPECIFICATION 13.2): a token or an unknown call, by its name; a kind 5 element, by its carried number;
+-- the end mark of kind 7, the same for all.
 pub data Symbol : Type 0 where
   tokenSymbol : (name : ℕ) → Symbol
   unknownSymbol : (name : ℕ) → Symbol
   otherSymbol : (carried : ℕ) → Symbol
+  endSymbol : Symbol
   deriving IsSet as Symbol-set′
+
+-- The end mark.
+unfoldable pub isMark : Symbol → Bool
+isMark (tokenSymbol n) = false
+isMark (unknownSymbol n) = false
+isMark (otherSymbol c) = false
+isMark endSymbol = true
 
 -- A token string.
 abbrev pub Word : Type 0
@@ -63,6 +73,7 @@ eraseLeaf c (predicate p) = eps
 eraseLeaf c (call k) = callOf (k .name)
 eraseLeaf c (token n) = symbol (tokenSymbol n)
 eraseLeaf c terminal = symbol (otherSymbol c)
+eraseLeaf c endOfInput = symbol endSymbol
 
 module _ {B : Type 0} (eraseB : B → Shape) where
   unfoldable pub eraseElement : Element B → Shape

@@ -6,3 +6,5 @@ pub mod Corners
 pub mod LeftCorners
 pub mod Textbook
 pub mod Cycles
+pub mod End
+pub mod Without

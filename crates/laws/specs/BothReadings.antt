@@ -4,3 +4,5 @@ pub mod Later
 pub mod Symbols
 pub mod SameRun
 pub mod Sheets
+pub mod Ends
+pub mod Without

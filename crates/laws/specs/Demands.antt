@@ -1,5 +1,5 @@
--- What is promised of the definition: properties, numbered 1 to 17, words told a second time, and sheets that show where a promise
--- ends or what is meant; Theorems says of what each property holds. The proof is in Proved.
+-- What is promised of the definition: properties, numbered 1 to 17, those of end of input, words told a second time, and sheets that
+-- show where a promise ends or what is meant; Theorems says of what each property holds. The proof is in Proved.
 pub mod Lists
 pub mod Numbers
 pub mod Format
@@ -9,6 +9,7 @@ pub mod Counted
 pub mod Corners
 pub mod Names
 pub mod Analysis
+pub mod End
 pub mod Shape
 pub mod Readings
 pub mod Run

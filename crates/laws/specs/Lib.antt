@@ -1,3 +1,4 @@
+pub mod Before
 pub mod Examples
 pub mod Demands
 pub mod Lists

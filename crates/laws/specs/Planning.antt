@@ -26,6 +26,7 @@ pub mod Removed
 pub mod Renumber
 pub mod Erased
 pub mod OnePlan
+pub mod Everywhere
 pub mod Paired
 pub mod Settled
 pub mod Chain

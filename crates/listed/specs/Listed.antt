@@ -5,8 +5,8 @@ use lib.ListN.{length}
 use Rattle.grammar.specs.Numbers.{blockKind}
 use Rattle.grammar.specs.Lists.{each}
 use Rattle.grammar.specs.Corners.{Corners}
-use Rattle.grammar.specs.Tree.{ElementHead, Leaf, epsilon, action, predicate, call, token, terminal, Element, leaf, block, AlternativeOf}
-use Rattle.grammar.specs.Tree.{Block, Rule, bodyDepth, Sheet}
+use Rattle.grammar.specs.Tree.{ElementHead, Leaf, epsilon, action, predicate, call, token, terminal, endOfInput, Element, leaf, block}
+use Rattle.grammar.specs.Tree.{AlternativeOf, Block, Rule, bodyDepth, Sheet}
 use Rattle.grammar.specs.Encode.{leafKind}
 use Rattle.grammar.specs.Reading.{Reading, refused, sheet, read}
 use Rattle.reference.specs.Substitute.{Limits}
@@ -41,6 +41,7 @@ leafName (predicate p) = 0
 leafName (call c) = c .name
 leafName (token n) = n
 leafName terminal = 0
+leafName endOfInput = 0
 
 -- One element's own line; the level is how many blocks it is in.
 abbrev pub elementLine : (level : ℕ) → ElementHead → (kind name : ℕ) → List ℕ

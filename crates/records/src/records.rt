@@ -1,19 +1,17 @@
 // Whether a record stands between a place and the end of the rules, and where it stops.
 use words::numbers::AlternativeFlag;
-use words::numbers::Block;
 use words::numbers::Kind;
 use words::numbers::Name;
 use words::numbers::Quantifier;
 use words::numbers::ReferenceKind;
-use words::numbers::RuleFlags;
 use words::words::word;
 ghost use mathlib.Core.Path.{_≡_};
 ghost use Prim.Native.Nat.{_+_, _-_, _*_, _≤_};
 ghost use lib.ListN.{length};
-ghost use Rattle.grammar.specs.Tree.{ElementHead, bodyDepth};
+ghost use Rattle.grammar.specs.Tree.{ElementHead};
 ghost use Rattle.grammar.specs.Words.{words};
 ghost use Rattle.grammar.specs.Read.{isName, isLabel, actionOf, optionAt, referenceAt, bodyAt, callAt, tokenAt, leafAt};
-ghost use Rattle.grammar.specs.Read.{headAt, payloadAt, elementAt, alternativeAt, blockAt, ruleAt};
+ghost use Rattle.grammar.specs.Read.{headAt, payloadAt, elementAt, alternativeAt, blockAt};
 ghost use Rattle.grammar.specs.Parse.{many};
 ghost use Rattle.records.specs.Step.{isFixed, stepOf};
 
@@ -30,7 +28,7 @@ pub fn left(at: usize, end: usize) -> usize
     if at < end { end - at } else { 0 }
 }
 
-fn is_name(w: u32) -> bool
+pub fn is_name(w: u32) -> bool
     ensures { λ r. ⌜ r ≡ isName w ⌝ }
 {
     Name::LEAST <= w && w <= Name::MOST
@@ -154,6 +152,9 @@ fn leaf_at(s: &[u8], end: usize, kind: u32, at: usize) -> Step
     if kind == Kind::TERMINAL {
         return Step::Next(at);
     }
+    if kind == Kind::END_OF_INPUT {
+        return Step::Next(at);
+    }
     if kind == Kind::CALL {
         return call_at(s, end, at);
     }
@@ -270,7 +271,7 @@ fn alternatives_at(s: &[u8], end: usize, depth: u32, n: u32, at: usize) -> Step
 }
 
 // The count and the alternatives of a block that may nest blocks less than `depth` deep.
-fn block_at(s: &[u8], end: usize, depth: u32, at: usize) -> Step
+pub fn block_at(s: &[u8], end: usize, depth: u32, at: usize) -> Step
     requires { ⌜ 4 * end ≤ length (now s) ⌝ }
     ensures { λ r. ⌜ r ≡ stepOf (blockAt (words (now (s .entry))) end depth at) ⌝ }
 {
@@ -281,20 +282,4 @@ fn block_at(s: &[u8], end: usize, depth: u32, at: usize) -> Step
         return Step::Bad;
     }
     alternatives_at(s, end, depth - 1, word(s, at), at + 1)
-}
-
-pub fn rule_at(s: &[u8], end: usize, at: usize) -> Step
-    requires { ⌜ 4 * end ≤ length (now s) ⌝ }
-    ensures { λ r. ⌜ r ≡ stepOf (ruleAt (words (now (s .entry))) end (blockAt (words (now (s .entry))) end bodyDepth) at) ⌝ }
-{
-    if left(at, end) < 3 {
-        return Step::Bad;
-    }
-    if RuleFlags::MOST < word(s, at + 2) {
-        return Step::Bad;
-    }
-    if is_name(word(s, at + 1)) {
-        return block_at(s, end, Block::BODY_DEPTH, at + 3);
-    }
-    Step::Bad
 }

@@ -1,14 +1,20 @@
 // The rules of a sheet: their ids, names and places, found by reading every record.
 use crate::records::Step;
+use crate::records::block_at;
+use crate::records::is_name;
 use crate::records::left;
-use crate::records::rule_at;
+use words::numbers::Block;
+use words::numbers::RuleFlags;
 use words::words::word;
 ghost use mathlib.Core.Path.{_≡_};
 ghost use mathlib.Core.Bool.{true, false};
 ghost use Prim.Native.Nat.{_+_, _-_, _*_, _<_, _≤_, _^_};
 ghost use lib.ListN.{length};
 ghost use Rattle.grammar.specs.Numbers.{ruleLimit};
+ghost use Rattle.grammar.specs.Tree.{bodyDepth};
 ghost use Rattle.grammar.specs.Words.{words};
+ghost use Rattle.grammar.specs.Read.{blockAt, ruleAt};
+ghost use Rattle.records.specs.Step.{stepOf};
 ghost use Rattle.records.specs.Rules.{IsEmpty, IsWith, RulesRead};
 
 // One row of each array for each rule, zeros behind; a place is counted in words.
@@ -45,6 +51,23 @@ impl Rules {
         self.n = self.n + 1;
         self
     }
+}
+
+// One rule between a place and the end of the rules.
+fn rule_at(s: &[u8], end: usize, at: usize) -> Step
+    requires { ⌜ 4 * end ≤ length (now s) ⌝ }
+    ensures { λ r. ⌜ r ≡ stepOf (ruleAt (words (now (s .entry))) end (blockAt (words (now (s .entry))) end bodyDepth) at) ⌝ }
+{
+    if left(at, end) < 3 {
+        return Step::Bad;
+    }
+    if RuleFlags::MOST < word(s, at + 2) {
+        return Step::Bad;
+    }
+    if is_name(word(s, at + 1)) {
+        return block_at(s, end, Block::BODY_DEPTH, at + 3);
+    }
+    Step::Bad
 }
 
 // The rules, where every record is good; else no rules.

@@ -9,7 +9,7 @@ use lib.Dec.{eqb}
 use Rattle.grammar.specs.Tree.{Leaf, Element, leaf, block, Block, RuleOf}
 use Rattle.grammar.specs.Lists.{each, member, all, nothing, any, push, keep, first, sorted, rounds}
 use Rattle.grammar.specs.Corners.{Corners, rust, textbook}
-use Rattle.reference.specs.Walks.{silent, consuming, calling, sortOf, isOptional, blockGives, elementsGive}
+use Rattle.reference.specs.Walks.{silent, consuming, calling, sortOf, isEnd, isOptional, blockGives, elementsGive}
 
 -- A rule's name with its id.
 pub record Name : Type 0 where
@@ -52,9 +52,10 @@ module _ (g : Grammar) where
   unfoldable pub collectCallsInto : (d : ℕ) → Block d → List ℕ
   collectCallsInto = blockGives nothing calls
 
-  unfoldable pub leafNullable : Leaf → Bool  -- The arms of element_nullable for leaves, l. 1269 to 1274.
+  unfoldable pub leafNullable : Leaf → Bool  -- Behind `isEnd`, the arms of element_nullable for leaves, l. 1269 to 1274.
   leafNullable l =
-      elim (sortOf l) [
+      isEnd l
+      || elim (sortOf l) [
         | silent ↦ true
         | consuming ↦ false
         | calling c ↦ elim (target g (c .name)) [ none ↦ false | some t ↦ member t (g .nullable) ]
@@ -90,7 +91,8 @@ module _ (d : ℕ) (rs : List (RuleOf (Block d))) where
 unfoldable pub isStop : Corners → Grammar → Leaf → Bool
 isStop textbook g l = false
 isStop rust g l =
-    elim (sortOf l) [ silent ↦ false | consuming ↦ true | calling c ↦ elim (target g (c .name)) [ none ↦ true | some t ↦ false ] ]
+    not (isEnd l)
+    && elim (sortOf l) [ silent ↦ false | consuming ↦ true | calling c ↦ elim (target g (c .name)) [ none ↦ true | some t ↦ false ] ]
 
 module _ (c : Corners) (g : Grammar) where
   module _ {B : Type 0} (blockCorners : B → List ℕ) (blockNullable : B → Bool) where

@@ -4,9 +4,9 @@ use Prim.Native.Nat.{ℕ, zero, suc}
 use mathlib.Core.List.{List, [], _∷_, _++_, map, foldl}
 use mathlib.Core.Bool.{Bool, true, false, not, _&&_}
 use lib.Dec.{eqb}
-use Rattle.grammar.specs.Tree.{Label, unlabelled, labelled, ElementHead, Leaf, epsilon, action, predicate, call, token, terminal, Element}
-use Rattle.grammar.specs.Tree.{leaf, block, AlternativeOf, Block, RuleOf, Counters, withActionId, withPredicateId, withHeadId, withLabel}
-use Rattle.grammar.specs.Tree.{withAlternativeId, withElements, withRuleBody}
+use Rattle.grammar.specs.Tree.{Label, unlabelled, labelled, ElementHead, Leaf, epsilon, action, predicate, call, token, terminal}
+use Rattle.grammar.specs.Tree.{endOfInput, Element, leaf, block, AlternativeOf, Block, RuleOf, Counters, withActionId, withPredicateId}
+use Rattle.grammar.specs.Tree.{withHeadId, withLabel, withAlternativeId, withElements, withRuleBody}
 use Rattle.grammar.specs.Lists.{member, keep, any}
 use Rattle.grammar.specs.Numbers.{ruleSort, alternativeSort, elementSort, labelSort, actionSort, predicateSort}
 use Rattle.reference.specs.Numbers.{ruleBoundary, blockBoundary}
@@ -94,6 +94,7 @@ renumberLeaf (predicate p) c =
 renumberLeaf (call k) c = unchanged (call k) c
 renumberLeaf (token n) c = unchanged (token n) c
 renumberLeaf terminal c = unchanged terminal c
+renumberLeaf endOfInput c = unchanged endOfInput c
 
 module _ {B : Type 0} (renumberBlock : B → Counters → Fresh B) where
   -- renumber_element, l. 1304: the element and its label, then what is in it.

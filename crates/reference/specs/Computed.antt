@@ -33,7 +33,7 @@ unfolding Lists.member Lists.distinct Lists.below Lists.any Lists.keep Lists.fir
     Valid.fits
     Reading.isTrailer Reading.preservedIds Reading.countersOf Reading.rulesOf Reading.sheetOf Reading.judge Reading.readWords
     Reading.read
-    Walks.sortOf Walks.isEpsilonOnly Walks.bareReference Walks.elementGives Walks.blockGives Walks.elementsGive Walks.leafNames
+    Walks.sortOf Walks.isEnd Walks.isEpsilonOnly Walks.bareReference Walks.elementGives Walks.blockGives Walks.elementsGive Walks.leafNames
     Walks.references
     Analysis.namesOf Analysis.ruleWithId Analysis.target Analysis.calls Analysis.collectCallsInElements Analysis.collectCallsInto
     Analysis.leafNullable Analysis.elementNullable Analysis.blockIsNullable Analysis.nullableRound Analysis.nullableRules

@@ -5,11 +5,12 @@ use mathlib.Core.List.{List, [], _∷_, _++_}
 use mathlib.Core.Bool.{Bool, true, false, _&&_}
 use lib.Dec.{leb, eqb}
 use Rattle.grammar.specs.Tree.{Reference, Label, unlabelled, labelled, ElementHead, Call, Leaf, epsilon, action, predicate, call, token}
-use Rattle.grammar.specs.Tree.{terminal, Element, leaf, block, Block}
+use Rattle.grammar.specs.Tree.{terminal, endOfInput, Element, leaf, block, Block}
 use Rattle.grammar.specs.Lists.{each, isEmpty}
 use Rattle.grammar.specs.Numbers.{once, optionalGreedy, zeroOrMoreNongreedy}
 
--- The arms of most matches, as in classify_corner, l. 259: what takes no input; tokens and kind 5; calls. Blocks are apart.
+-- The arms of most matches, as in classify_corner, l. 259: what takes no input; tokens and kind 5, and end of input, which the
+-- Rust does not have; calls. Blocks are apart.
 pub data Sort : Type 0 where
   silent consuming : Sort
   calling : Call → Sort
@@ -21,6 +22,17 @@ sortOf (predicate p) = silent
 sortOf (call c) = calling c
 sortOf (token n) = consuming
 sortOf terminal = consuming
+sortOf endOfInput = consuming
+
+-- End of input takes nothing (SPECIFICATION 6.2 and 6.5). It is asked for in front of the Rust's matches.
+unfoldable pub isEnd : Leaf → Bool
+isEnd epsilon = false
+isEnd (action a) = false
+isEnd (predicate p) = false
+isEnd (call c) = false
+isEnd (token n) = false
+isEnd terminal = false
+isEnd endOfInput = true
 
 -- is_epsilon_only, l. 877.
 unfoldable pub isEpsilonOnly : {B : Type 0} → Element B → Bool
@@ -65,6 +77,7 @@ leafNames (predicate p) = []
 leafNames (call c) = c .name ∷ []
 leafNames (token n) = n ∷ []
 leafNames terminal = []
+leafNames endOfInput = []
 
 -- What actions and predicates refer to. The Rust asks action_reference_parser, l. 535 and 723, for each body, and for a
 -- predicate's `fail` too; here the sheet brings all its answers in one list.
@@ -75,3 +88,4 @@ references (predicate p) = p .references
 references (call c) = []
 references (token n) = []
 references terminal = []
+references endOfInput = []

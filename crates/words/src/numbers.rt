@@ -94,6 +94,8 @@ impl Kind {
 
     pub const BLOCK: u32 = 6;
 
+    pub const END_OF_INPUT: u32 = 7;
+
     pub const END: u32 = 256;
 }
 

@@ -7,7 +7,7 @@ use sheets::tree::{Alternative, Element, Kind, Sheet};
 
 #[derive(Clone, Copy)]
 enum Item {
-    /// Epsilon, an action, a predicate.
+    /// Epsilon, an action, a predicate, and the end of input, whatever its quantifier.
     Nothing,
     /// A token, kind 5, an unknown call.
     Symbol { optional: bool },
@@ -104,7 +104,7 @@ fn item<'a>(
 ) -> Item {
     let optional = (1..=4).contains(&element.quantifier);
     match &element.kind {
-        Kind::Epsilon | Kind::Action(_) | Kind::Predicate(_) => Item::Nothing,
+        Kind::Epsilon | Kind::Action(_) | Kind::Predicate(_) | Kind::EndOfInput => Item::Nothing,
         Kind::Token(_) | Kind::Other => Item::Symbol { optional },
         Kind::Call { name, .. } => match names.get(name) {
             Some(rule) => Item::Node {

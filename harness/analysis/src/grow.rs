@@ -69,7 +69,7 @@ struct Shape {
     optional: usize,
     blocks: usize,
     hollow: usize,
-    /// One alternative in so many starts with an optional symbol: there the readings part.
+    /// One alternative in so many starts with an optional symbol, at which the readings part, or with the end of input.
     veiled: usize,
 }
 
@@ -153,8 +153,11 @@ impl Grower<'_> {
         let count = self.random.within(1, self.shape.elements);
         let mut list = Vec::new();
         if self.random.once_in(self.shape.veiled) && self.fits(ELEMENT_WORDS) {
-            let quantifier = self.random.within(1, 4);
-            list.push(self.element(Payload::Other, quantifier));
+            let (payload, quantifier) = match self.random.once_in(3) {
+                true => (Payload::EndOfInput, self.random.below(7)),
+                false => (Payload::Other, self.random.within(1, 4)),
+            };
+            list.push(self.element(payload, quantifier));
         }
         for _ in 0..count {
             if !self.fits(ELEMENT_WORDS) {
@@ -190,11 +193,12 @@ impl Grower<'_> {
             let called = self.called(at);
             return Payload::Call(self.names[called], self.random.below(2) as u32);
         }
-        match self.random.below(8) {
+        match self.random.below(9) {
             0 => Payload::Epsilon,
             1 => Payload::Action(0, Vec::new()),
             2 => Payload::Predicate(0, Vec::new()),
             3 => Payload::Other,
+            4 => Payload::EndOfInput,
             // A token may have the name of a rule.
             _ => Payload::Token(self.names[self.random.below(self.names.len())]),
         }

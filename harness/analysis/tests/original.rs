@@ -8,6 +8,7 @@ use analysis::facts::{Facts, Row, facts, of_tree};
 use analysis::run::sheet;
 use analysis::stored::stored;
 use common::members;
+use sheets::blocks::{ends_in_blocks, has_end_of_input};
 use sheets::codec::{self, bytes_of, encode};
 use sheets::generate::PROFILES;
 use sheets::tree::Sheet;
@@ -28,7 +29,7 @@ fn cycles(found: &Facts, sheet: &Sheet) -> Vec<Vec<u32>> {
 fn agree(bytes: &[u8], name: &str) -> Option<usize> {
     let tree = codec::read(bytes).ok()?;
     let ours = facts(bytes, false);
-    let theirs = traced::facts(&tree);
+    let theirs = traced::facts(&ends_in_blocks(&tree));
     let ids = |row| ids(row, &tree);
     assert_eq!(ours.numbers[1] as usize, tree.rules.len(), "{name}");
     assert_eq!(ids(ours.nullable()), theirs.nullable, "{name}");
@@ -40,6 +41,18 @@ fn agree(bytes: &[u8], name: &str) -> Option<usize> {
     }
     assert_eq!(cycles(&ours, &tree), theirs.cycles, "{name}");
     Some(theirs.cycles.len())
+}
+
+/// The sheets of which the next tests say that they agree have the end of input too, in each profile that is named for it.
+#[test]
+fn the_end_of_input_is_among_them() {
+    let stored = stored().expect("the stored answers").into_iter();
+    let all = stored
+        .map(|one| one.bytes)
+        .chain((0..4_000).map(|index| sheet(9, index)));
+    let trees = all.filter_map(|bytes| codec::read(&bytes).ok());
+    let count = trees.filter(has_end_of_input).count();
+    assert!(count > 1_000, "{count}");
 }
 
 #[test]
@@ -82,6 +95,9 @@ fn as_the_pass_itself_reports() {
         let Ok(mut sheet) = codec::read(&one.bytes) else {
             continue;
         };
+        if has_end_of_input(&sheet) {
+            continue;
+        }
         sheet.kind = 2;
         let Ok((_, trace)) = traced::run(&sheet, Limits::STANDARD) else {
             continue;

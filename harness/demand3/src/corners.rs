@@ -4,13 +4,13 @@ use std::collections::{BTreeMap, BTreeSet};
 
 use sheets::tree::{Alternative, Element, Kind, Sheet};
 
-use crate::strings::{Languages, can_be_empty, symbol};
+use crate::strings::{EMPTY_STRING, Languages, Symbol, can_be_empty, symbol};
 
 #[derive(Clone, Copy, Debug, Eq, Ord, PartialEq, PartialOrd)]
 pub enum Reading {
     /// SPECIFICATION 13.11: past everything that can be empty.
     Textbook,
-    /// The original: never past a symbol, whatever its quantifier.
+    /// The original: never past a symbol, whatever its quantifier. No reading ends at the end of input.
     Original,
 }
 
@@ -19,11 +19,18 @@ pub enum Reading {
 pub struct Grammar<'a> {
     pub sheet: &'a Sheet,
     pub languages: &'a Languages,
+    /// Without end marks.
+    pub bare: &'a Languages,
 }
 
 impl Grammar<'_> {
     pub fn is_empty(&self, elements: &[Element]) -> bool {
-        can_be_empty(elements, self.languages)
+        can_be_empty(elements, self.bare)
+    }
+
+    /// Whether the rule of this name derives a string of end marks alone.
+    pub fn rule_can_be_empty(&self, name: u32) -> bool {
+        self.bare[&name] & EMPTY_STRING != 0
     }
 
     /// Ids of the rules that are left corners of an alternative.
@@ -47,7 +54,8 @@ impl Grammar<'_> {
                 }
                 _ => {}
             }
-            let stops = reading == Reading::Original && symbol(element, self.sheet).is_some();
+            let symbol = symbol(element, self.sheet).filter(|found| *found != Symbol::End);
+            let stops = reading == Reading::Original && symbol.is_some();
             if stops || !self.is_empty(std::slice::from_ref(element)) {
                 return;
             }

@@ -1,18 +1,26 @@
 //! Small grammars: from seeds, and all of a kind.
 
+use sheets::blocks::has_end_of_input;
 use sheets::codec;
-use sheets::generate::{PROFILES, fold_symbols};
+use sheets::generate::{PROFILES, Profile, fold_symbols};
 use sheets::parse::least_counters;
 use sheets::tree::{Alternative, Element, Kind, Rule, Sheet, quantifier};
+use sheets::walk;
 
 const MOST_WORDS: usize = 180;
 
 /// The grammar of a seed, with three symbols at most; nothing where it is large.
 pub fn from_seed(seed: u64) -> Option<Sheet> {
-    let profiles: Vec<_> = PROFILES
-        .iter()
-        .filter(|profile| !profile.about_limits)
-        .collect();
+    of_profiles(seed, |profile| !profile.about_limits && !profile.has_ends)
+}
+
+/// The same of the profiles with the end of input.
+pub fn from_seed_with_ends(seed: u64) -> Option<Sheet> {
+    of_profiles(seed, |profile| profile.has_ends)
+}
+
+fn of_profiles(seed: u64, wanted: impl Fn(&Profile) -> bool) -> Option<Sheet> {
+    let profiles: Vec<_> = PROFILES.iter().filter(|profile| wanted(profile)).collect();
     let many = profiles.len() as u64;
     let mut sheet = profiles[(seed % many) as usize].sheet(seed / many);
     fold_symbols(&mut sheet, seed % 2 == 1);
@@ -47,6 +55,20 @@ pub fn numbered(number: usize) -> Sheet {
     };
     sheet.counters = least_counters(&sheet);
     sheet
+}
+
+/// The same grammar with `EOF` for `X?`; nothing where it has none.
+pub fn numbered_with_ends(number: usize) -> Option<Sheet> {
+    let mut sheet = numbered(number);
+    for rule in &mut sheet.rules {
+        walk::edit(&mut rule.alternatives, &mut |own| {
+            if own.may_be_absent() && matches!(own.kind, Kind::Token(_)) {
+                own.kind = Kind::EndOfInput;
+                own.quantifier = quantifier::ONE;
+            }
+        });
+    }
+    has_end_of_input(&sheet).then_some(sheet)
 }
 
 fn alternatives(body: usize, ids: &mut (u32, u32)) -> Vec<Alternative> {

@@ -11,10 +11,11 @@ use std::collections::{BTreeMap, BTreeSet};
 use corners::{Grammar, Reading};
 use oracle::{Done, ask_sheet};
 use readings::{Census, Numbers, Table};
+use sheets::blocks::ends_in_blocks;
 use sheets::codec;
 use sheets::tree::{Alternative, Kind, Rule, Sheet};
 use sheets::walk;
-use strings::{EMPTY_STRING, Languages};
+use strings::{Languages, Symbol};
 
 /// A sentence that does not hold of an answer.
 #[derive(Clone, Copy, Debug, Eq, Ord, PartialEq, PartialOrd)]
@@ -37,7 +38,7 @@ pub enum Fault {
     Plans,
     /// A rule reaches after a plan what it did not reach before.
     ReachGrew(Reading),
-    /// The original's nullable rules are not those that derive the empty string.
+    /// The original's nullable rules are not those that derive a string of end marks alone.
     Nullable,
     /// The cycles that the original found last are not the strongly connected sets.
     Cycles,
@@ -67,7 +68,8 @@ impl Fault {
 /// Whether a token, kind 5 or an unknown call stands in `sheet` with quantifier 1 to 4.
 pub fn has_optional_symbol(sheet: &Sheet) -> bool {
     let mut elements = sheet.rules.iter().flat_map(walk::elements);
-    elements.any(|one| one.may_be_absent() && strings::symbol(one, sheet).is_some())
+    let symbol = |one| strings::symbol(one, sheet).filter(|found| *found != Symbol::End);
+    elements.any(|one| one.may_be_absent() && symbol(one).is_some())
 }
 
 /// What was found of an answer.
@@ -100,10 +102,21 @@ pub fn checked(sheet: &Sheet, done: &Done) -> Option<Checked> {
         .iter()
         .map(|grammar| strings::languages(grammar, &alphabet))
         .collect();
+    let bare: Vec<Languages> = match alphabet.contains_key(&Symbol::End) {
+        true => all
+            .iter()
+            .map(|grammar| strings::without_marks(grammar, &alphabet))
+            .collect(),
+        false => languages.clone(),
+    };
     let grammars: Vec<Grammar<'_>> = all
         .iter()
-        .zip(&languages)
-        .map(|(sheet, languages)| Grammar { sheet, languages })
+        .zip(languages.iter().zip(&bare))
+        .map(|(sheet, (languages, bare))| Grammar {
+            sheet,
+            languages,
+            bare,
+        })
         .collect();
     let mut found = Checked::default();
     if done.plans() > 0 {
@@ -219,7 +232,7 @@ impl Run<'_> {
     fn no_later_cycle(&self, reading: Reading) -> bool {
         self.joined().all(|(place, hub)| {
             let later = &self.grammars[place + 1..];
-            let can_be_empty = later[0].languages[&hub.name] & EMPTY_STRING != 0;
+            let can_be_empty = later[0].rule_can_be_empty(hub.name);
             let holds = |cycle: &Vec<u32>| cycle.contains(&hub.id);
             can_be_empty
                 || later
@@ -254,14 +267,14 @@ impl Run<'_> {
 
     fn nullable_agrees(&self) -> bool {
         self.grammars.iter().all(|grammar| {
-            let derives = |rule: &&Rule| grammar.languages[&rule.name] & EMPTY_STRING != 0;
+            let derives = |rule: &&Rule| grammar.rule_can_be_empty(rule.name);
             let own = grammar
                 .sheet
                 .rules
                 .iter()
                 .filter(derives)
                 .map(|rule| rule.id);
-            original::nullable_by_analysis(grammar.sheet) == own.collect()
+            original::nullable_by_analysis(&ends_in_blocks(grammar.sheet)) == own.collect()
         })
     }
 

@@ -1,10 +1,11 @@
 //! `demand3 seeds FIRST COUNT` checks that many small grammars from seeds on;
 //! `demand3 all FIRST COUNT` those of the enumerated ones, `demand3 all` all.
+//! `demand3 end-seeds` and `demand3 end-all` do the same with the end of input.
 
 use std::collections::BTreeMap;
 use std::process::ExitCode;
 
-use demand3::grammars::{ALL, from_seed, numbered};
+use demand3::grammars::{ALL, from_seed, from_seed_with_ends, numbered, numbered_with_ends};
 use demand3::readings::Census;
 use demand3::{Fault, checked, has_optional_symbol};
 use oracle::ask_sheet;
@@ -79,11 +80,11 @@ fn size(sheet: &Sheet) -> usize {
     codec::encode(sheet).len()
 }
 
-fn seeds(first: u64, count: usize) -> Tally {
+fn seeds(made: fn(u64) -> Option<Sheet>, first: u64, count: usize) -> Tally {
     let mut tally = Tally::default();
     let mut seed = first;
     while tally.checked < count {
-        if let Some(sheet) = from_seed(seed) {
+        if let Some(sheet) = made(seed) {
             tally.add(&sheet);
         }
         seed += 1;
@@ -92,12 +93,16 @@ fn seeds(first: u64, count: usize) -> Tally {
     tally
 }
 
-fn all(first: usize, count: usize) -> Tally {
+fn all(made: fn(usize) -> Option<Sheet>, first: usize, count: usize) -> Tally {
     let mut tally = Tally::default();
-    for number in first..first.saturating_add(count).min(ALL) {
-        tally.add(&numbered(number));
+    for sheet in (first..first.saturating_add(count).min(ALL)).filter_map(made) {
+        tally.add(&sheet);
     }
     tally
+}
+
+fn every(number: usize) -> Option<Sheet> {
+    Some(numbered(number))
 }
 
 fn main() -> ExitCode {
@@ -105,11 +110,16 @@ fn main() -> ExitCode {
     let words: Vec<&str> = arguments.iter().map(String::as_str).collect();
     let number = |text: &str| text.parse().expect("a number");
     let tally = match words[..] {
-        ["seeds", first, count] => seeds(number(first) as u64, number(count)),
-        ["all"] => all(0, ALL),
-        ["all", first, count] => all(number(first), number(count)),
+        ["seeds", first, count] => seeds(from_seed, number(first) as u64, number(count)),
+        ["end-seeds", first, count] => {
+            seeds(from_seed_with_ends, number(first) as u64, number(count))
+        }
+        ["all"] => all(every, 0, ALL),
+        ["all", first, count] => all(every, number(first), number(count)),
+        ["end-all"] => all(numbered_with_ends, 0, ALL),
+        ["end-all", first, count] => all(numbered_with_ends, number(first), number(count)),
         _ => {
-            eprintln!("usage: demand3 seeds FIRST COUNT | all [FIRST COUNT]");
+            eprintln!("usage: demand3 [end-]seeds FIRST COUNT | [end-]all [FIRST COUNT]");
             return ExitCode::FAILURE;
         }
     };

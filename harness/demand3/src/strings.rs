@@ -17,12 +17,13 @@ const POWER: [u32; LONGEST + 1] = [1, 3, 9, 27, 81];
 pub type Strings = u128;
 pub const EMPTY_STRING: Strings = 1;
 
-/// A token, a call whose name no rule has, or kind 5 with its carried number.
+/// A token, a call whose name no rule has, kind 5 with its carried number, or the end mark, which is one whatever kind 7 carries.
 #[derive(Clone, Copy, Debug, Eq, Ord, PartialEq, PartialOrd)]
 pub enum Symbol {
     Token(u32),
     Unknown(u32),
     Other(u32),
+    End,
 }
 
 /// The symbols of several grammars, numbered.
@@ -32,6 +33,7 @@ pub fn symbol(element: &Element, sheet: &Sheet) -> Option<Symbol> {
     match element.kind {
         Kind::Token(name) => Some(Symbol::Token(name)),
         Kind::Other => Some(Symbol::Other(element.carried)),
+        Kind::EndOfInput => Some(Symbol::End),
         Kind::Call { name, .. } if sheet.rules.iter().all(|rule| rule.name != name) => {
             Some(Symbol::Unknown(name))
         }
@@ -57,9 +59,20 @@ pub fn alphabet<'a>(sheets: impl Iterator<Item = &'a Sheet>) -> Option<Alphabet>
 pub type Languages = BTreeMap<u32, Strings>;
 
 pub fn languages(sheet: &Sheet, alphabet: &Alphabet) -> Languages {
+    solved(sheet, alphabet, false)
+}
+
+/// The same with all end marks left out of the strings. So the empty string is there exactly where a string of end marks
+/// alone is derived, of any length.
+pub fn without_marks(sheet: &Sheet, alphabet: &Alphabet) -> Languages {
+    solved(sheet, alphabet, true)
+}
+
+fn solved(sheet: &Sheet, alphabet: &Alphabet, erases: bool) -> Languages {
     let mut reader = Reader {
         sheet,
         alphabet,
+        erases,
         languages: Languages::new(),
     };
     loop {
@@ -77,6 +90,8 @@ pub fn languages(sheet: &Sheet, alphabet: &Alphabet) -> Languages {
 struct Reader<'a> {
     sheet: &'a Sheet,
     alphabet: &'a Alphabet,
+    /// Whether end marks are left out.
+    erases: bool,
     languages: Languages,
 }
 
@@ -103,6 +118,9 @@ impl Reader<'_> {
     }
 
     fn once(&self, element: &Element) -> Strings {
+        if self.erases && element.is_end_of_input() {
+            return EMPTY_STRING;
+        }
         if let Some(found) = symbol(element, self.sheet) {
             return 1 << (START[1] + self.alphabet[&found]);
         }
@@ -114,12 +132,12 @@ impl Reader<'_> {
     }
 }
 
-/// Whether an element, or a list of them, can be empty in the grammar of `languages`.
+/// Whether an element, or a list of them, can be empty in the grammar that derives these strings `without_marks`.
 pub fn can_be_empty(elements: &[Element], languages: &Languages) -> bool {
     elements.iter().all(|element| {
         element.may_be_absent()
             || match &element.kind {
-                Kind::Epsilon | Kind::Action(_) | Kind::Predicate(_) => true,
+                Kind::Epsilon | Kind::Action(_) | Kind::Predicate(_) | Kind::EndOfInput => true,
                 Kind::Token(_) | Kind::Other => false,
                 Kind::Call { name, .. } => languages
                     .get(name)

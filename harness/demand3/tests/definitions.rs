@@ -3,7 +3,7 @@
 use std::collections::BTreeSet;
 
 use demand3::corners::{Grammar, Reading};
-use demand3::strings::{Languages, alphabet, languages};
+use demand3::strings::{Languages, alphabet, languages, without_marks};
 use sheets::parse::sheet;
 use sheets::tree::Sheet;
 
@@ -65,15 +65,18 @@ fn symbols_are_told_apart_by_kind_and_name() {
     assert_eq!(count("e: X X . .~1;"), Some(3));
     assert_eq!(count("e: X_9 r_9;"), Some(2));
     assert_eq!(count("e: e X;"), Some(1));
+    assert_eq!(count("e: EOF~4 EOF+~5;"), Some(1));
     assert_eq!(count("e: X Y Z V;"), None);
 }
 
 fn with_grammar<T>(made: &Sheet, work: impl Fn(Grammar<'_>) -> T) -> T {
     let symbols = alphabet([made].into_iter()).expect("three symbols");
     let derived: Languages = languages(made, &symbols);
+    let bare: Languages = without_marks(made, &symbols);
     work(Grammar {
         sheet: made,
         languages: &derived,
+        bare: &bare,
     })
 }
 
@@ -96,6 +99,35 @@ fn left_corners_are_past_what_can_be_empty() {
         assert_eq!(corners("e: {} _ ( X | a )? e; a: X;", reading), [1, 2]);
         assert_eq!(corners("e: ( X | a ) e; a: X;", reading), [2]);
         assert_eq!(corners("e: X e;", reading), [0; 0]);
+    }
+}
+
+/// A string of end marks alone, of any length, is what can be empty; the mark is a symbol of it all the same.
+#[test]
+fn end_marks_are_derived_and_can_be_empty() {
+    // The mark is the third symbol.
+    let marks = |grammar: &str| {
+        let made = sheet(&format!("all: X Y EOF; {grammar}"));
+        let symbols = alphabet([&made].into_iter()).expect("three symbols");
+        languages(&made, &symbols)[&made.rules[1].name]
+    };
+    assert_eq!(marks("e: EOF~4 | EOF~5;"), set(&["Z"]));
+    assert_eq!(marks("e: EOF+;"), set(&["Z", "ZZ", "ZZZ", "ZZZZ"]));
+    assert_eq!(marks("e: X EOF? | EOF Y;"), set(&["X", "XZ", "ZY"]));
+    for reading in [Reading::Textbook, Reading::Original] {
+        for front in [
+            "EOF",
+            "EOF+",
+            "EOF??",
+            "( EOF | X )",
+            "n",
+            "EOF EOF EOF EOF EOF",
+        ] {
+            let grammar = format!("e: {front} e; n: EOF EOF EOF EOF EOF;");
+            assert!(corners(&grammar, reading).contains(&1), "{grammar}");
+        }
+        assert_eq!(corners("e: EOF X e;", reading), [0; 0]);
+        assert_eq!(corners("e: ( EOF X ) e;", reading), [0; 0]);
     }
 }
 

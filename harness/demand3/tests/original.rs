@@ -4,7 +4,7 @@
 use std::collections::BTreeSet;
 
 use demand3::corners::Reading::Textbook;
-use demand3::grammars::{ALL, from_seed, numbered};
+use demand3::grammars::{ALL, from_seed, from_seed_with_ends, numbered, numbered_with_ends};
 use demand3::readings::Census;
 use demand3::{Fault, checked, faults, has_optional_symbol};
 use oracle::ask_sheet;
@@ -101,4 +101,41 @@ fn no_other_fault_in_every_997th_enumerated_grammar() {
     let (count, trees) = summed(joined);
     assert!(count > 10);
     assert!(trees.several > 100 && trees.without_end > 50);
+}
+
+/// With the end of input no other fault either, and none of its own: no reading ends at it.
+#[test]
+fn no_other_fault_with_the_end_of_input() {
+    let from_seeds = (0..4_000).filter_map(|seed| {
+        let given = from_seed_with_ends(seed)?;
+        holds(&given, &format!("seed {seed} with ends"))
+    });
+    let (count, trees) = summed(from_seeds);
+    assert!(count > 1_000, "{count}");
+    assert!(trees.one > 3_000 && trees.several > 800 && trees.without_end > 100);
+    let enumerated = (0..ALL).step_by(997).filter_map(|number| {
+        let given = numbered_with_ends(number)?;
+        assert!(!has_optional_symbol(&given));
+        holds(&given, &format!("number {number} with ends"))
+    });
+    let (count, trees) = summed(enumerated);
+    assert!(count > 5, "{count}");
+    assert!(trees.several > 50, "{}", trees.several);
+}
+
+/// What would be joined if it were kind 5 has another shape than demand 3 asks for, and is left.
+#[test]
+fn the_end_of_input_parts_no_demands() {
+    for grammar in [
+        "e: a; a: e . | EOF e;",
+        "e: a | X; a: e EOF+;",
+        "e: EOF a | X; a: e Y;",
+    ] {
+        assert_eq!(joined(grammar), grammar);
+        assert_eq!(found(grammar), BTreeSet::new());
+    }
+    for grammar in ["e: a | EOF; a: e Y;", "e: a | X; a: e Y EOF+;"] {
+        assert_ne!(joined(grammar), grammar);
+        assert_eq!(found(grammar), BTreeSet::new());
+    }
 }

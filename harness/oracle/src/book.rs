@@ -12,12 +12,15 @@ use sheets::codec::{bytes_of, encode, words_of};
 use sheets::generate;
 use sheets::parse::sheet;
 
+use crate::ends::ENDS;
+use crate::folded::Reading;
 use crate::written::WRITTEN;
-use crate::{Answer, ask, edges, examples, text};
+use crate::{Answer, ask, ask_by_textbook, edges, examples, text};
 
 /// A file of `answers/` and what is in it.
 pub struct File {
     pub name: &'static str,
+    pub reading: Reading,
     pub parts: &'static [Part],
 }
 
@@ -26,6 +29,7 @@ pub enum Part {
     Examples,
     Written,
     Edges,
+    Ends,
     Seeds {
         profile: &'static str,
         sheets: usize,
@@ -41,26 +45,39 @@ const fn seeds(profile: &'static str, sheets: usize, words: usize) -> Part {
     }
 }
 
-pub const FILES: [File; 7] = [
+const fn file(name: &'static str, parts: &'static [Part]) -> File {
     File {
-        name: "examples.txt",
-        parts: &[Part::Examples],
-    },
-    File {
-        name: "written.txt",
-        parts: &[Part::Written],
-    },
-    File {
-        name: "small.txt",
-        parts: &[
+        name,
+        reading: Reading::Original,
+        parts,
+    }
+}
+
+/// Sheets with the end of input, whose answers are stored for both readings of left corners.
+const WITH_ENDS: &[Part] = &[
+    Part::Ends,
+    seeds("end-front", 16, 120),
+    seeds("end-alone", 12, 120),
+    seeds("end-tail", 12, 120),
+    seeds("end-block", 16, 140),
+    seeds("end-satellite", 16, 120),
+    seeds("end-anywhere", 16, 110),
+];
+
+pub const FILES: [File; 9] = [
+    file("examples.txt", &[Part::Examples]),
+    file("written.txt", &[Part::Written]),
+    file(
+        "small.txt",
+        &[
             seeds("tiny", 60, 90),
             seeds("wild", 40, 110),
             seeds("plain", 20, 90),
         ],
-    },
-    File {
-        name: "cycles.txt",
-        parts: &[
+    ),
+    file(
+        "cycles.txt",
+        &[
             seeds("several", 20, 330),
             seeds("nullable-front", 20, 150),
             seeds("nullable-behind", 15, 150),
@@ -87,23 +104,23 @@ pub const FILES: [File; 7] = [
             seeds("hollow", 20, 130),
             seeds("long-chain", 12, 600),
         ],
-    },
-    File {
-        name: "limits.txt",
-        parts: &[
+    ),
+    file(
+        "limits.txt",
+        &[
             seeds("near-7", 26, 1_000),
             seeds("near-8", 70, 300),
             seeds("near-9", 10, 400),
             seeds("just-9", 3, 8_192),
         ],
-    },
+    ),
+    file("edges.txt", &[Part::Edges]),
+    file("reading.txt", &[seeds("damaged", 90, 200)]),
+    file("ends.txt", WITH_ENDS),
     File {
-        name: "edges.txt",
-        parts: &[Part::Edges],
-    },
-    File {
-        name: "reading.txt",
-        parts: &[seeds("damaged", 90, 200)],
+        name: "textbook/ends.txt",
+        reading: Reading::Textbook,
+        parts: WITH_ENDS,
     },
 ];
 
@@ -123,6 +140,10 @@ impl File {
     }
 
     pub fn text(&self) -> String {
+        let ask = match self.reading {
+            Reading::Original => ask,
+            Reading::Textbook => ask_by_textbook,
+        };
         self.questions()
             .iter()
             .map(|asked| record(asked, &ask(&asked.bytes)))
@@ -136,6 +157,7 @@ impl Part {
             Part::Examples => examples::examples().into_iter().map(from_example).collect(),
             Part::Written => WRITTEN.iter().enumerate().map(from_written).collect(),
             Part::Edges => edges::edges().into_iter().map(from_edge).collect(),
+            Part::Ends => ENDS.iter().enumerate().map(from_ends).collect(),
             Part::Seeds {
                 profile,
                 sheets,
@@ -154,9 +176,17 @@ fn from_example(example: examples::Example) -> Question {
 }
 
 fn from_written((place, grammar): (usize, &&'static str)) -> Question {
+    from_grammar(format!("written {}", place + 1), grammar)
+}
+
+fn from_ends((place, grammar): (usize, &&'static str)) -> Question {
+    from_grammar(format!("end of input {}", place + 1), grammar)
+}
+
+fn from_grammar(name: String, grammar: &str) -> Question {
     Question {
-        name: format!("written {}", place + 1),
-        grammar: Some((*grammar).to_owned()),
+        name,
+        grammar: Some(grammar.to_owned()),
         bytes: bytes_of(&encode(&sheet(grammar))),
     }
 }

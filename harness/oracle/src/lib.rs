@@ -7,7 +7,9 @@
 
 pub mod book;
 pub mod edges;
+pub mod ends;
 pub mod examples;
+pub mod folded;
 mod reasons;
 pub mod text;
 mod wide;
@@ -15,6 +17,8 @@ pub mod written;
 
 use std::panic::{AssertUnwindSafe, catch_unwind};
 
+use folded::{Folding, Reading};
+use sheets::blocks::has_end_of_input;
 use sheets::codec;
 use sheets::tree::Sheet;
 use sheets::walk::{self, Sort};
@@ -63,11 +67,24 @@ pub fn ask(bytes: &[u8]) -> Answer {
 
 /// For a sheet that passes 1 to 6.
 pub fn ask_sheet(sheet: &Sheet) -> Answer {
+    if has_end_of_input(sheet) {
+        return ask_folded(sheet, Reading::Original);
+    }
     let (outcome, trace) = ask_within(sheet, Limits::STANDARD);
     Ok(done(sheet, outcome?, trace))
 }
 
-/// What the original leaves of such a sheet, or the refusal by these limits; and the copy's trace, as far as it came.
+/// The answer by the textbook's reading of left corners.
+pub fn ask_by_textbook(bytes: &[u8]) -> Answer {
+    ask_folded(&codec::read(bytes)?, Reading::Textbook)
+}
+
+fn ask_folded(sheet: &Sheet, reading: Reading) -> Answer {
+    Folding::of(sheet, reading).run(sheet).map(|ran| ran.done())
+}
+
+/// What the original leaves of such a sheet without end of input, or the refusal by these limits; and the copy's trace, as
+/// far as it came.
 pub fn ask_within(sheet: &Sheet, limits: Limits) -> (Result<original::Answer, u32>, Trace) {
     let (traced, trace) = traced::trace(sheet, limits);
     if let Err(refusal @ (7 | 9)) = traced {
@@ -86,8 +103,11 @@ pub fn ask_within(sheet: &Sheet, limits: Limits) -> (Result<original::Answer, u3
 }
 
 fn done(sheet: &Sheet, unchanged: original::Answer, trace: Trace) -> Done {
+    let mut nodes = walk::ids(sheet);
+    nodes.extend(walk::ids(&unchanged.result));
+    nodes.extend(trace.trail.iter().map(|entry| (sort(entry[0]), entry[1])));
     Done {
-        origins: origins(&unchanged, sheet, &trace.trail),
+        origins: origins(&unchanged, nodes),
         result: unchanged.result,
         trail: trace.trail,
         stages: trace.stages,
@@ -105,11 +125,8 @@ fn unchanged(sheet: &Sheet) -> Option<original::Answer> {
     }
 }
 
-/// Asked of every node of sheet and result, and of every node in the trail.
-fn origins(unchanged: &original::Answer, sheet: &Sheet, trail: &[Entry]) -> Vec<Origins> {
-    let mut nodes = walk::ids(sheet);
-    nodes.extend(walk::ids(&unchanged.result));
-    nodes.extend(trail.iter().map(|entry| (sort(entry[0]), entry[1])));
+/// The lists of those of these nodes that have one, by kind and id.
+fn origins(unchanged: &original::Answer, mut nodes: Vec<(Sort, u32)>) -> Vec<Origins> {
     nodes.sort_unstable();
     nodes.dedup();
     let lists = nodes.into_iter().map(|(sort, id)| {

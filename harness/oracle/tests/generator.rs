@@ -140,6 +140,62 @@ fn large_names_splices_and_lists_are_joined_and_declined() {
     assert!(how_many("long-list", lists) >= 30);
 }
 
+/// Each way in which the end of input matters is met by the profile that is named for it, and joined where it can be.
+#[test]
+fn the_end_of_input_leads_to_what_its_profiles_name() {
+    let joined = |_: &Sheet, done: &Done| done.plans() > 0;
+    let least = [
+        ("end-front", 5),
+        ("end-alone", 100),
+        ("end-tail", 120),
+        ("end-block", 50),
+        ("end-satellite", 100),
+        ("end-anywhere", 3),
+    ];
+    for (name, least) in least {
+        let times = how_many(name, joined);
+        assert!(times >= least, "{name} is joined {times} times");
+    }
+    let clauses = [
+        ("end-front", 10, 40),
+        ("end-front", 11, 80),
+        ("end-alone", 11, 15),
+        ("end-tail", 11, 10),
+        ("end-block", 10, 20),
+        ("end-block", 11, 40),
+        ("end-satellite", 11, 15),
+        ("end-anywhere", 6, 5),
+    ];
+    for (name, clause, least) in clauses {
+        let met = |_: &Sheet, done: &Done| done.declined.iter().any(|one| one.clause == clause);
+        let times = how_many(name, met);
+        assert!(times >= least, "{name} meets clause {clause} {times} times");
+    }
+}
+
+/// Outermost and in blocks, with every quantifier, with labels, options and carried numbers.
+#[test]
+fn the_end_of_input_occurs_in_every_form() {
+    let (mut forms, mut labels, mut options) = (BTreeSet::new(), 0, 0);
+    for profile in PROFILES.iter().filter(|profile| profile.has_ends) {
+        for seed in 0..SEEDS {
+            for rule in &profile.sheet(seed).rules {
+                walk::alternatives(&rule.alternatives, 0, &mut |node| {
+                    if let walk::Node::Element(depth, own) = node
+                        && own.is_end_of_input()
+                    {
+                        forms.insert((depth.min(1), own.quantifier, own.carried.min(2)));
+                        labels += usize::from(own.label.is_some());
+                        options += own.options.len();
+                    }
+                });
+            }
+        }
+    }
+    assert_eq!(forms.len(), 2 * 7 * 3, "{forms:?}");
+    assert!(labels > 100 && options > 100, "{labels} and {options}");
+}
+
 #[test]
 fn satellites_are_kept_and_removed_for_each_reason() {
     let kept = |sheet: &Sheet, done: &Done| {

@@ -202,6 +202,7 @@ fn kind(source: &tree::Element) -> ElementKind {
         tree::Kind::Token(name) => ElementKind::Terminal(Terminal::Token(name.to_string())),
         tree::Kind::Other => other(source.carried),
         tree::Kind::Block(alternatives) => ElementKind::Block(block(alternatives)),
+        tree::Kind::EndOfInput => panic!("the original is asked about end of input by blocks"),
     }
 }
 

@@ -1,5 +1,6 @@
 //! Sheets pass through the original's model unchanged, every word of them.
 
+use sheets::blocks::ends_in_blocks;
 use sheets::generate::PROFILES;
 use sheets::parse::sheet;
 use sheets::tree::Counters;
@@ -9,7 +10,7 @@ use sheets::walk::{self, Sort};
 fn a_sheet_comes_back_from_the_model() {
     for profile in &PROFILES {
         for seed in 0..100 {
-            let made = profile.sheet(seed);
+            let made = ends_in_blocks(&profile.sheet(seed));
             assert_eq!(
                 original::through_the_model(&made),
                 made,

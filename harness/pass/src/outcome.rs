@@ -1,6 +1,7 @@
 //! What a call must answer, by the original.
 
 use oracle::ask_within;
+use sheets::blocks::has_end_of_input;
 use sheets::codec::{bytes_of, encode};
 use sheets::tree::Sheet;
 use traced::{Limits, Stage};
@@ -59,6 +60,8 @@ pub struct Judged {
     pub readings: [Outcome; 2],
     /// Whether a symbol may be absent, so that the readings can part.
     pub folded: bool,
+    /// Whether the end of input stands in it.
+    pub ends: bool,
     /// Whether two names have one remainder modulo 65,536.
     pub alike: bool,
 }
@@ -79,6 +82,7 @@ pub fn judged(sheet: &[u8]) -> Judged {
             return Judged {
                 readings: [refused(), refused()],
                 folded: false,
+                ends: false,
                 alike: false,
             };
         }
@@ -87,6 +91,7 @@ pub fn judged(sheet: &[u8]) -> Judged {
     let textbook = folded::outcome(&tree);
     Judged {
         folded: textbook.is_some(),
+        ends: has_end_of_input(&tree),
         alike: sheets::walk::shares_a_remainder(&tree),
         readings: [original.clone(), textbook.unwrap_or(original)],
     }
@@ -94,6 +99,9 @@ pub fn judged(sheet: &[u8]) -> Judged {
 
 /// For a sheet that passes 1 to 6.
 pub fn original(tree: &Sheet) -> Outcome {
+    if has_end_of_input(tree) {
+        return folded::outcome_with_ends(tree);
+    }
     let (outcome, trace) = ask_within(tree, Limits::STANDARD);
     match outcome {
         Ok(unchanged) => Outcome::accepted(&trace.stages, &unchanged.result, &trace.trail),

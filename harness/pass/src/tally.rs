@@ -21,6 +21,8 @@ pub struct Tally {
     /// Sheets with a symbol that may be absent; those answered otherwise for it.
     pub folded: u64,
     pub parted: u64,
+    /// Of the sheets with the end of input that are not refused by 1 to 6, what was answered in the original's reading.
+    pub ends: Answers,
     /// Accepted sheets in which two names have one remainder modulo 65,536; those of them that are joined.
     pub alike: u64,
     pub alike_joined: u64,
@@ -43,6 +45,9 @@ impl Tally {
         self.answers[1].add(textbook);
         self.folded += u64::from(judged.folded);
         self.parted += u64::from(original != textbook);
+        if judged.ends {
+            self.ends.add(original);
+        }
         let accepted = original.number() == 0;
         self.alike += u64::from(judged.alike && accepted);
         self.alike_joined += u64::from(judged.alike && original.plans() != 0);
@@ -57,6 +62,7 @@ impl Tally {
         }
         self.folded += other.folded;
         self.parted += other.parted;
+        self.ends.and(&other.ends);
         self.alike += other.alike;
         self.alike_joined += other.alike_joined;
         self.calls += other.calls;

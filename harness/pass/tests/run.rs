@@ -30,7 +30,11 @@ fn a_run_has_enough_of_each_sort() {
         assert!(answers.numbers[0] > 1_500, "{answers}");
         assert!(answers.joined > 400 && answers.again > 100, "{answers:?}");
     }
-    assert!(tally.folded > 600 && tally.parted > 20, "{tally:?}");
+    assert!(tally.folded > 600 && tally.parted > 8, "{tally:?}");
+    assert!(
+        tally.ends.numbers[0] > 400 && tally.ends.joined > 100,
+        "{tally:?}"
+    );
     assert!(tally.alike > 600 && tally.alike_joined > 150, "{tally:?}");
     assert_eq!(tally.result, 32_768);
 }

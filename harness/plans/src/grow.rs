@@ -92,7 +92,7 @@ fn each_name(alternatives: &mut [Alternative], see: &mut dyn FnMut(&mut u32)) {
                 all.iter_mut().for_each(|(_, name)| see(name));
             }
             Payload::Block(inner) => each_name(inner, see),
-            Payload::Epsilon | Payload::Other => {}
+            Payload::Epsilon | Payload::Other | Payload::EndOfInput => {}
         }
     }
 }

@@ -1,10 +1,13 @@
 //! The original's decisions, in both readings of left corners.
 
+use std::collections::HashMap;
 use std::rc::Rc;
 
 use analysis::facts::{Row, row};
+use sheets::blocks::{ends_in_blocks, in_blocks};
 use sheets::codec;
-use sheets::tree::{Alternative, Element, Kind, Sheet, quantifier};
+use sheets::tree::{Element, Kind, Sheet};
+use sheets::walk;
 use traced::{Decision, Limits};
 
 use crate::places::Places;
@@ -37,11 +40,35 @@ pub fn judged(sheet: &[u8]) -> Result<[Judged; 2], u32> {
 }
 
 fn decided(sheet: &Sheet, places: &Places) -> Rc<[(Row, Decision)]> {
-    let found = traced::plans(sheet, Limits::STANDARD).into_iter();
+    let found = traced::plans(&ends_in_blocks(sheet), Limits::STANDARD).into_iter();
     let members = |cycle: Vec<u32>| row(cycle.into_iter().map(|id| places.rules[&id]));
+    let ends = ends(sheet);
     found
-        .map(|(cycle, decision)| (members(cycle), decision))
+        .map(|(cycle, decision)| (members(cycle), with_ends(decision, &ends)))
         .collect()
+}
+
+/// The quantifier of each element of kind 7, by id.
+fn ends(sheet: &Sheet) -> HashMap<u32, u32> {
+    let all = sheet.rules.iter().flat_map(walk::elements);
+    all.filter(|own| own.is_end_of_input())
+        .map(|own| (own.id, own.quantifier))
+        .collect()
+}
+
+/// The decision with the quantifiers of kind 7, of which no plan changes one.
+fn with_ends(decision: Decision, ends: &HashMap<u32, u32>) -> Decision {
+    let Decision::Planned(mut plan) = decision else {
+        return decision;
+    };
+    for (id, now) in plan
+        .alternatives
+        .iter_mut()
+        .flat_map(|own| &mut own.elements)
+    {
+        *now = ends.get(id).copied().unwrap_or(*now);
+    }
+    Decision::Planned(plan)
 }
 
 /// The sheet with each symbol of quantifier 1 to 4 in a block of its own, if there is one. The original's left corners go
@@ -49,32 +76,9 @@ fn decided(sheet: &Sheet, places: &Places) -> Rc<[(Row, Decision)]> {
 /// both settle a corner, both bind the same names, neither calls a rule. The block has the symbol's id and quantifier.
 pub fn folded(sheet: &Sheet) -> Option<Sheet> {
     let names: Vec<u32> = sheet.rules.iter().map(|rule| rule.name).collect();
-    let mut folded = sheet.clone();
-    let mut found = false;
-    for rule in &mut folded.rules {
-        fold(&mut rule.alternatives, &names, &mut found);
-    }
-    found.then_some(folded)
-}
-
-fn fold(list: &mut [Alternative], names: &[u32], found: &mut bool) {
-    for element in list.iter_mut().flat_map(|own| &mut own.elements) {
-        if let Kind::Block(inner) = &mut element.kind {
-            fold(inner, names, found);
-        } else if element.may_be_absent() && is_symbol(element, names) {
-            *found = true;
-            let inner = Element {
-                quantifier: quantifier::ONE,
-                ..element.clone()
-            };
-            element.label = None;
-            element.options = Vec::new();
-            element.kind = Kind::Block(vec![Alternative {
-                elements: vec![inner],
-                ..Alternative::default()
-            }]);
-        }
-    }
+    let wanted = |own: &Element| own.may_be_absent() && is_symbol(own, &names);
+    let mut all = sheet.rules.iter().flat_map(walk::elements);
+    all.any(wanted).then(|| in_blocks(sheet, wanted))
 }
 
 /// A token, kind 5, an unknown call.

@@ -70,7 +70,7 @@ fn alternative_words(own: &Alternative) -> usize {
 fn element_words(element: &Element) -> usize {
     let body = |own: &Semantics| 2 + PAIR * own.references.len();
     let payload = match &element.kind {
-        Kind::Epsilon | Kind::Other => 0,
+        Kind::Epsilon | Kind::Other | Kind::EndOfInput => 0,
         Kind::Action(own) | Kind::Predicate(own) => body(own),
         Kind::Call { .. } => 2,
         Kind::Token(_) => 1,

@@ -2,6 +2,7 @@
 
 use std::fmt;
 
+use sheets::blocks::has_end_of_input;
 use sheets::tree::{Kind, Rule};
 use sheets::walk::{self, Node};
 use traced::{Decision, Limits, Plan};
@@ -54,6 +55,8 @@ pub struct Tally {
     /// Sheets with a cycle and a preserved rule; with a cycle and, in a block, a label or a reference.
     pub preserved: u64,
     pub nested: u64,
+    /// Cycles of sheets with the end of input, in the original's reading.
+    pub ends: Outcomes,
 }
 
 impl Tally {
@@ -77,6 +80,10 @@ impl Tally {
         }
         self.parted += u64::from(readings[0].cycles != readings[1].cycles);
         let Judged { tree, cycles, .. } = &readings[0];
+        if has_end_of_input(tree) {
+            let decisions = cycles.iter().map(|(_, decision)| decision);
+            decisions.for_each(|decision| self.ends.add(decision));
+        }
         if !cycles.is_empty() {
             let mut ids = tree.rules.iter().map(|rule| rule.id);
             let preserved = ids.any(|id| tree.preserved.contains(&id));

@@ -5,6 +5,7 @@ use analysis::stored::stored;
 use plans::judge::{Judged, folded, judged};
 use plans::places::Places;
 use plans::run::sheet;
+use sheets::blocks::ends_in_blocks;
 use sheets::codec;
 use traced::{Decision, Limits};
 
@@ -52,7 +53,7 @@ fn a_folded_sheet_has_the_facts_of_the_textbook() {
             let own = rules.filter(move |(at, _)| row[at / 64] >> (at % 64) & 1 == 1);
             own.map(|(_, rule)| rule.id).collect()
         };
-        let (ours, theirs) = (facts(&bytes, true), traced::facts(&folded));
+        let (ours, theirs) = (facts(&bytes, true), traced::facts(&ends_in_blocks(&folded)));
         assert_eq!(theirs.nullable, ids(ours.nullable()));
         for (at, rule) in tree.rules.iter().enumerate() {
             let sets = [ours.calls[at], ours.corners[at]].map(ids);
@@ -98,6 +99,7 @@ fn a_run_begins_with_the_first_plan() {
             continue;
         };
         tree.kind = 2;
+        let tree = ends_in_blocks(&tree);
         let Ok([Judged { cycles, .. }, _]) = judged(&bytes) else {
             continue;
         };

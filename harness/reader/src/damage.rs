@@ -161,7 +161,7 @@ fn listed(sheet: &mut Sheet, random: &mut Random) {
     set(sheet, random, wanted, |word, r| match r.below(5) {
         0 => word.wrapping_add(256),
         1 => word.wrapping_add(1),
-        2 => r.below(7) as u32 + 256 * r.below(8) as u32,
+        2 => r.below(8) as u32 + 256 * r.below(8) as u32,
         3 => word | 0x1_0000,
         _ => r.below(9) as u32,
     });

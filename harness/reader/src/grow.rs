@@ -155,12 +155,13 @@ impl Grower<'_> {
         if depth < self.limits.depth && self.random.once_in(self.blocks) {
             return Payload::Block(self.alternatives(depth + 1));
         }
-        match self.random.below(6) {
+        match self.random.below(7) {
             0 => Payload::Epsilon,
             1 => Payload::Action(0, self.references()),
             2 => Payload::Predicate(0, self.references()),
             3 => Payload::Call(self.random.name(), self.random.any()),
             4 => Payload::Token(self.random.name()),
+            5 => Payload::EndOfInput,
             _ => Payload::Other,
         }
     }

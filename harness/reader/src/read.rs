@@ -35,6 +35,7 @@ const CALL: u32 = 3;
 const TOKEN: u32 = 4;
 const OTHER_TERMINAL: u32 = 5;
 const BLOCK: u32 = 6;
+const END_OF_INPUT: u32 = 7;
 
 // The five sorts of counted ids, in the order of the trailer's counters.
 const ALTERNATIVES: usize = 0;
@@ -219,7 +220,7 @@ impl Walk<'_> {
 
     fn read_payload(&mut self, kind: u32, depth: u32) -> Result<(), u32> {
         match kind {
-            EPSILON | OTHER_TERMINAL => Ok(()),
+            EPSILON | OTHER_TERMINAL | END_OF_INPUT => Ok(()),
             ACTION => self.read_code(ACTIONS),
             PREDICATE => self.read_code(PREDICATES),
             CALL => self.read_call(),

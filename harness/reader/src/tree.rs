@@ -69,6 +69,7 @@ pub enum Payload {
     Token(u32),
     Other,
     Block(Vec<Alternative>),
+    EndOfInput,
 }
 
 /// Words, and what each of them is.
@@ -161,7 +162,7 @@ impl Sheet {
 
     fn payload(&mut self, payload: &Payload) {
         match payload {
-            Payload::Epsilon | Payload::Other => {}
+            Payload::Epsilon | Payload::Other | Payload::EndOfInput => {}
             Payload::Action(id, references) => self.body(3, *id, references),
             Payload::Predicate(id, references) => self.body(4, *id, references),
             Payload::Call(name, arguments) => {
@@ -193,6 +194,7 @@ impl Payload {
             Payload::Token(_) => 4,
             Payload::Other => 5,
             Payload::Block(_) => 6,
+            Payload::EndOfInput => 7,
         }
     }
 }

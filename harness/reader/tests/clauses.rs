@@ -11,7 +11,7 @@ fn number(sheet: &[u8]) -> u32 {
 }
 
 /// The packed words of each kind with a payload that fits it.
-const KINDS: [(u32, &[u32]); 7] = [
+const KINDS: [(u32, &[u32]); 8] = [
     (0, &[]),
     (1, &[0, 0]),
     (2, &[0, 0]),
@@ -19,6 +19,7 @@ const KINDS: [(u32, &[u32]); 7] = [
     (4, &[1]),
     (5, &[]),
     (6, &[0]),
+    (7, &[]),
 ];
 
 #[test]
@@ -132,11 +133,11 @@ fn kinds_and_quantifiers() {
         }
     }
     for packed in [
-        7,
         8,
         255,
-        256 + 7,
-        6 * 256 + 7,
+        256 + 8,
+        6 * 256 + 8,
+        7 * 256 + 7,
         1792,
         65_536,
         65_536 + 4,

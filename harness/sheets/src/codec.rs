@@ -73,7 +73,7 @@ fn put_element(element: &Element, out: &mut Vec<u32>) {
     out.extend([label.id, label.name, element.options.len() as u32]);
     put_options(&element.options, out);
     match &element.kind {
-        Kind::Epsilon | Kind::Other => {}
+        Kind::Epsilon | Kind::Other | Kind::EndOfInput => {}
         Kind::Action(body) | Kind::Predicate(body) => put_semantics(body, out),
         Kind::Call { name, arguments } => out.extend([*name, *arguments]),
         Kind::Token(name) => out.push(*name),
@@ -218,7 +218,7 @@ impl Cursor<'_> {
         let (id, carried) = (self.word()?, self.word()?);
         let packed = self.word()?;
         let (kind, quantifier) = (packed % 256, packed / 256);
-        if kind > 6 || quantifier > 6 {
+        if kind > 7 || quantifier > 6 {
             return None;
         }
         let label = self.label()?;
@@ -252,7 +252,8 @@ impl Cursor<'_> {
             },
             4 => Kind::Token(self.name()?),
             5 => Kind::Other,
-            _ => Kind::Block(self.alternatives(depth + 1)?),
+            6 => Kind::Block(self.alternatives(depth + 1)?),
+            _ => Kind::EndOfInput,
         })
     }
 

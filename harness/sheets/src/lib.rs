@@ -1,5 +1,6 @@
 //! Sheets (SPECIFICATION 2): trees and words, a notation for grammars, a generator.
 
+pub mod blocks;
 pub mod codec;
 pub mod generate;
 pub mod names;

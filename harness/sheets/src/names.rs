@@ -48,12 +48,15 @@ impl Names {
         let text = known.map(|(text, _)| text.as_str())?;
         let fits = match place {
             Place::Rule => !is_token(text),
-            Place::Token => is_token(text),
+            Place::Token => is_token(text) && text != END_OF_INPUT,
             Place::Label | Place::Option => true,
         };
         fits.then_some(text)
     }
 }
+
+/// Not a token: the word for the element of kind 7.
+pub const END_OF_INPUT: &str = "EOF";
 
 /// In the notation a capital letter in front makes a token, as in ANTLR.
 pub fn is_token(text: &str) -> bool {

@@ -2,7 +2,7 @@
 
 use std::fmt::Write as _;
 
-use crate::names::{Names, Place, letter};
+use crate::names::{END_OF_INPUT, Names, Place, letter};
 use crate::parse::{FIRST_IDS, least_counters};
 use crate::tree::{Alternative, Element, Kind, OptionDecl, Rule, Semantics, Sheet};
 use crate::walk::Sort;
@@ -141,6 +141,7 @@ impl Printer<'_> {
             }
             Kind::Token(name) => self.name(*name, Place::Token),
             Kind::Other => self.out.push('.'),
+            Kind::EndOfInput => self.out.push_str(END_OF_INPUT),
             Kind::Block(alternatives) => {
                 self.out.push('(');
                 self.alternatives(alternatives);

@@ -70,6 +70,8 @@ pub enum Kind {
     /// Kind 5: another terminal, a range or a set.
     Other,
     Block(Vec<Alternative>),
+    /// Kind 7: the end of input, which is matched without moving on.
+    EndOfInput,
 }
 
 /// The own id of an action or predicate, and what its body refers to.
@@ -106,6 +108,7 @@ impl Kind {
             Kind::Token(_) => 4,
             Kind::Other => 5,
             Kind::Block(_) => 6,
+            Kind::EndOfInput => 7,
         }
     }
 }
@@ -120,6 +123,10 @@ impl Element {
             options: Vec::new(),
             kind,
         }
+    }
+
+    pub fn is_end_of_input(&self) -> bool {
+        self.kind == Kind::EndOfInput
     }
 
     /// Quantifiers 1 to 4: the element may be left out.

@@ -161,7 +161,7 @@ fn marks_of_element(element: &mut Element, change: &mut impl FnMut(Mark, &mut u3
     }
     marks_of_options(&mut element.options, change);
     match &mut element.kind {
-        Kind::Epsilon | Kind::Other => {}
+        Kind::Epsilon | Kind::Other | Kind::EndOfInput => {}
         Kind::Action(body) | Kind::Predicate(body) => {
             for reference in &mut body.references {
                 change(Mark::Reference, &mut reference.name);

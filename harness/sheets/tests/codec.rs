@@ -112,7 +112,7 @@ fn trailers_are_refused_by_3() {
 #[test]
 fn records_are_refused_by_4() {
     let label_id_alone = (12, 1);
-    let faults = [(1, 0), (2, 4), (3, 3), (3, u32::MAX), (6, 2), (11, 7)];
+    let faults = [(1, 0), (2, 4), (3, 3), (3, u32::MAX), (6, 2), (11, 8)];
     for (place, value) in faults
         .into_iter()
         .chain([(11, 3 + 256 * 7), label_id_alone, (63, 61)])
@@ -136,6 +136,33 @@ fn shared_ids_are_refused_by_5_and_counters_by_6() {
     let mut words = case_1();
     (words[4], words[64]) = (12, 12);
     assert_eq!(refusal(&words), Some(5));
+}
+
+/// SPECIFICATION 2.12.
+#[test]
+fn the_word_of_kind_and_quantifier_has_56_good_values() {
+    let payload = |kind: u32| match kind {
+        1 | 2 => vec![0, 0],
+        3 => vec![1, 0],
+        4 => vec![1],
+        6 => vec![0],
+        _ => vec![],
+    };
+    let good = |packed: u32| {
+        let mut words = vec![1, 1, 0, 1, 0, 0, 0, 0, 1, 0, 0, packed, 0, 0, 0];
+        words.extend(payload(packed % 256));
+        let trailer = [2, words.len() as u32, 0, 1, 1, 1, 1, 1];
+        words.extend(trailer);
+        refusal(&words).is_none()
+    };
+    let all: Vec<u32> = (0..4_096).filter(|packed| good(*packed)).collect();
+    let quantifiers = 0..7;
+    let listed: Vec<u32> = quantifiers
+        .flat_map(|own| (0..8).map(move |kind| kind + 256 * own))
+        .collect();
+    assert_eq!(all, listed);
+    assert_eq!(all.len(), 56);
+    assert!(!good(65_536) && !good(1 << 24));
 }
 
 fn nested(depth: u32) -> Sheet {

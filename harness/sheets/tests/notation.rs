@@ -27,6 +27,33 @@ fn plain_text_comes_back_as_it_was_written() {
     assert_eq!(print(&made, &names, Style::Plain), text);
 }
 
+/// `EOF` is kind 7 with whatever an element has, and no token; a label and a reference may have the name.
+#[test]
+fn the_end_of_input_is_a_word_of_its_own() {
+    let text = "e: EOF x=EOF+?<o=1> | EOF=INT {$EOF} EOF*;\n";
+    let (made, names) = parse(text).expect("the notation");
+    assert_eq!(print(&made, &names, Style::Plain), text);
+    let elements = |place: usize| &made.rules[0].alternatives[place].elements;
+    let kinds = |place: usize| -> Vec<(u32, u32)> {
+        let own = elements(place).iter();
+        own.map(|one| (one.kind.number(), one.quantifier)).collect()
+    };
+    assert_eq!(kinds(0), [(7, 0), (7, 6)]);
+    assert_eq!(kinds(1), [(4, 0), (1, 0), (7, 3)]);
+    // A token that has the number of that name is not printed by it.
+    let name = elements(1)[0].label.expect("a label").name;
+    let mut other = made.clone();
+    other.rules[0].alternatives[0].elements[0].kind = Kind::Token(name);
+    let printed = print(&other, &names, Style::Plain);
+    assert!(
+        printed.starts_with(&format!("e: T_{name} x=EOF")),
+        "{printed}"
+    );
+    // With its number it is a token, as any other.
+    let token = sheet("e: EOF_7;").rules[0].alternatives[0].elements[0].clone();
+    assert_eq!(token.kind, Kind::Token(7));
+}
+
 #[test]
 fn names_are_numbered_as_they_appear() {
     let made = sheet("e: a | INT; a: e PLUS e;");

@@ -42,7 +42,7 @@ fn a_sheet_goes_through_every_form() {
 #[test]
 fn every_profile_that_is_named_can_be_generated() {
     let names = String::from_utf8(done(&["profiles"], b"")).expect("text");
-    assert_eq!(names.lines().count(), 37);
+    assert_eq!(names.lines().count(), 43);
     for name in names.lines() {
         let sheet = done(&["generate", name, "3"], b"");
         assert_eq!(sheet, done(&["generate", name, "3"], b""), "{name}");

@@ -69,7 +69,7 @@ impl Ends {
             return true;
         }
         match &own.kind {
-            Kind::Epsilon | Kind::Action(_) | Kind::Predicate(_) => true,
+            Kind::Epsilon | Kind::Action(_) | Kind::Predicate(_) | Kind::EndOfInput => true,
             Kind::Call { name, .. } => self.empty.contains(name),
             Kind::Block(inner) => self.any_empty(inner),
             Kind::Token(_) | Kind::Other => false,
@@ -169,6 +169,8 @@ mod tests {
             ("e: X e[5];", vec![last("e", 1, false)]),
             ("e: X e {}?;", vec![last("e", 1, false)]),
             ("e: X e Y*;", vec![last("e", 1, false)]),
+            ("e: X e EOF;", vec![last("e", 1, false)]),
+            ("e: X e EOF+;", vec![last("e", 1, false)]),
             (
                 "e: X e n; n: Y?;",
                 vec![last("n", 2, true), last("e", 1, false)],

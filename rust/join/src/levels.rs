@@ -203,7 +203,7 @@ fn how(own: &Alternative, last: Last) -> &'static str {
         Kind::Block(_) => "stands in a block",
         _ if element.quantifier != 0 => "has a quantifier",
         Kind::Call { arguments, .. } if arguments != 0 => "has arguments",
-        _ => "has something behind it that can be left out",
+        _ => "has something behind it that can be empty",
     }
 }
 

@@ -120,8 +120,9 @@ fn records() {
             (
                 "a value outside its list",
                 vec![
-                    (one(7), one(5)),
+                    (one(8), one(7)),
                     (one(0x705), one(0x605)),
+                    (one(0x707), one(0x607)),
                     (flags(4), flags(3)),
                 ],
             ),

@@ -97,7 +97,7 @@ fn put_element(own: &Element, out: &mut Vec<u32>) {
     out.extend([label.id, label.name, own.options.len() as u32]);
     put_options(&own.options, out);
     match &own.kind {
-        Kind::Epsilon | Kind::Other => {}
+        Kind::Epsilon | Kind::Other | Kind::EndOfInput => {}
         Kind::Action(body) | Kind::Predicate(body) => {
             out.extend([body.id, body.references.len() as u32]);
             out.extend(body.references.iter().flat_map(|one| [one.kind, one.name]));
@@ -191,6 +191,7 @@ impl Cursor<'_> {
             4 => Kind::Token(self.word()?),
             5 => Kind::Other,
             6 => Kind::Block(self.alternatives(depth + 1)?),
+            7 => Kind::EndOfInput,
             _ => return None,
         })
     }

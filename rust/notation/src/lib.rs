@@ -12,6 +12,7 @@
 //! | `a`, `INT` | a call; a token, which begins with a capital |
 //! | `?` `*` `+`, each with `?` behind it | quantifiers, greedy and not |
 //! | `( .. )`, `_`, `.~7` | a block; epsilon; kind 5 with its carried number |
+//! | `EOF` | the end of input, kind 7; no token has this name |
 //! | `{$x $x.text $r::a}`, `&{..}` | an action, a predicate, each with its references |
 //! | `x=INT`, `a[5]`, `INT<o=1>` | a label, arguments, options of an element |
 //! | `#`, `<o=1>` in front of an alternative | that it is labelled, its options; `#:` where a token comes first |

@@ -45,11 +45,11 @@ impl Place {
         }
     }
 
-    /// Whether a text can stand here: a call and a token are told apart by the first letter.
+    /// Whether a text can stand here: a call and a token are told apart by the first letter, and `EOF` is neither.
     pub(crate) fn fits(self, text: &str) -> bool {
         match self {
             Place::Call => !is_token(text),
-            Place::Token => is_token(text),
+            Place::Token => is_token(text) && text != END_OF_INPUT,
             Place::Rule | Place::Label | Place::Option => true,
         }
     }
@@ -109,6 +109,9 @@ impl Names {
         self.by_number.insert(number, text.to_owned());
     }
 }
+
+/// The word for the end of input, which is no token. A label or an option may still have the name.
+pub(crate) const END_OF_INPUT: &str = "EOF";
 
 /// A capital letter in front makes a token, as in ANTLR.
 pub(crate) fn is_token(text: &str) -> bool {

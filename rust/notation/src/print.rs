@@ -3,7 +3,7 @@
 use std::collections::{BTreeMap, BTreeSet};
 use std::fmt::Write as _;
 
-use crate::names::{Names, Place};
+use crate::names::{END_OF_INPUT, Names, Place};
 use crate::parse::{FIRST_IDS, Grammar};
 use crate::tree::{Alternative, Element, Kind, OptionDecl, Rule, Semantics};
 use crate::walk::{Node, Sort, alternatives, least_counters};
@@ -189,6 +189,7 @@ impl<'a> Printer<'a> {
             }
             Kind::Token(name) => self.name(*name, Place::Token),
             Kind::Other => ".".to_owned(),
+            Kind::EndOfInput => END_OF_INPUT.to_owned(),
             Kind::Block(inner) => format!("({} )", self.alternatives(inner)),
         }
     }

@@ -74,6 +74,8 @@ pub enum Kind {
     /// Kind 5: any other terminal, a range or a set.
     Other,
     Block(Vec<Alternative>),
+    /// Kind 7, which is matched without moving on; no carried number tells two of them apart.
+    EndOfInput,
 }
 
 /// The own id of an action or predicate, and what its body refers to.
@@ -100,6 +102,7 @@ impl Kind {
             Kind::Token(_) => 4,
             Kind::Other => 5,
             Kind::Block(_) => 6,
+            Kind::EndOfInput => 7,
         }
     }
 }

@@ -80,6 +80,24 @@ fn names_of_numbers_read_back() {
     assert_eq!(made.sheet.rules[0].name, 2);
 }
 
+/// `EOF` is an element of kind 7 with all that an element has, and no name; a label may be called so, a token is not.
+#[test]
+fn the_end_of_input_is_no_token() {
+    let text = "e: EOF x=EOF+?<o=1>~4 EOF=INT {$EOF};\n";
+    let made = parse(text).unwrap();
+    assert_eq!(print(&made, Style::Plain), text);
+    let elements = &made.sheet.rules[0].alternatives[0].elements;
+    let kinds: Vec<u32> = elements.iter().map(|own| own.kind.number()).collect();
+    assert_eq!(kinds, [7, 7, 4, 1]);
+    assert_eq!((elements[1].quantifier, elements[1].carried), (6, 4));
+    assert_eq!(parse("e: EOF INT;").unwrap().names.number("EOF"), None);
+    let mut made = parse("e: a INT EOF; a: INT;").unwrap();
+    made.names = named("%names e=1 a=2 EOF=3;");
+    let text = print(&made, Style::Plain);
+    assert_eq!(text, "e: a T%3 EOF;\na: T%3;\n");
+    assert_eq!(parse(&text).unwrap().sheet, made.sheet);
+}
+
 #[test]
 fn names_can_have_numbers_of_their_own() {
     let made = parse("%names INT=9 e=4; e: INT X;").unwrap();

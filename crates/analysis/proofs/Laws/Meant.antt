@@ -8,13 +8,13 @@ use lib.ListN.{getD}
 use lib.Dec.{eqb, ltb}
 use Rattle.grammar.specs.Numbers.{actionSort, predicateSort}
 use Rattle.grammar.specs.Tree.{Label, unlabelled, labelled, ElementHead, Leaf, epsilon, action, predicate, call, token, terminal}
-use Rattle.grammar.specs.Tree.{Element, leaf, block, AlternativeOf, Block, Rule, bodyDepth, innerDepth}
+use Rattle.grammar.specs.Tree.{endOfInput, Element, leaf, block, AlternativeOf, Block, Rule, bodyDepth, innerDepth}
 use Rattle.grammar.specs.Lists.{isEmpty, nothing, each, all, any, member}
 use Rattle.grammar.specs.Ids.{labelIds, headIds, leafIds, elementIds, alternativeIds, blockIds}
 use Rattle.grammar.specs.Corners.{rust}
 use Rattle.grammar.specs.Fold.{folded, elementFold, alternativeFold, blockFold}
 use Rattle.grammar.specs.Found.{RuleSpans}
-use Rattle.reference.specs.Walks.{sortOf, isOptional, elementGives, blockGives}
+use Rattle.reference.specs.Walks.{sortOf, isEnd, isOptional, elementGives, blockGives}
 use Rattle.reference.specs.Analysis.{Grammar, target, calls, collectCallsInto, leafNullable, elementNullable, blockIsNullable, isStop}
 use Rattle.reference.specs.Analysis.{collectLeftCornerCalls, blockCorners}
 use Rattle.reference.specs.Plan.{satelliteHasEmbeddedSemantics, satelliteIsInlinable}
@@ -147,7 +147,7 @@ stopsBody d b = not (all (λ a. eqb (a .flag) 0) b && not (satelliteHasEmbeddedS
 
 module _ {g : Grammar} {ids : List ℕ} {v : View} (w : Agrees g ids v) where
   leaf-meant : (l : Leaf) → LeafMeant g ids v l
-  unfolding callsTo leafNull leafEnds sortOf calls leafNullable isStop
+  unfolding callsTo leafNull leafEnds sortOf isEnd calls leafNullable isStop
   leaf-meant epsilon = record { called = none-called ids (v .n); null = refl; ends = ends-by g epsilon (v .past) refl }
   leaf-meant (action a) = record { called = none-called ids (v .n); null = refl; ends = ends-by g (action a) (v .past) refl }
   leaf-meant (predicate p) = record { called = none-called ids (v .n); null = refl; ends = ends-by g (predicate p) (v .past) refl }
@@ -163,6 +163,7 @@ module _ {g : Grammar} {ids : List ℕ} {v : View} (w : Agrees g ids v) where
       unknown (some t) = refl
   leaf-meant (token n) = record { called = none-called ids (v .n); null = refl; ends = ends-by g (token n) (v .past) refl }
   leaf-meant terminal = record { called = none-called ids (v .n); null = refl; ends = ends-by g terminal (v .past) refl }
+  leaf-meant endOfInput = record { called = none-called ids (v .n); null = refl; ends = ends-by g endOfInput (v .past) refl }
 
   -- Elements and an alternative, by what is seen of their blocks.
   module _ {B : Type 0} {f : Seen → B → Seen} {cs ks : B → List ℕ} {nu : B → Bool} (xs ys : B → List ℕ)

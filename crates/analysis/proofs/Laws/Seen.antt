@@ -8,20 +8,20 @@ use lib.ListN.{length, getD, set, length-set}
 use lib.Seq.{getD-set-same, getD-set-other}
 use lib.Dec.{eqb, ltb}
 use borrow.Author.Tests.{eqb-true, eqb-false, ltb-true, ltb-false, ne-eqb}
-use Rattle.grammar.specs.Numbers.{ruleLimit, callKind, epsilonKind}
+use Rattle.grammar.specs.Numbers.{ruleLimit, callKind, epsilonKind, endKind}
 use Rattle.grammar.specs.Laws.Parse.{either}
 use Rattle.grammar.specs.Stands.{Stands}
-use Rattle.grammar.specs.Tree.{Call, Leaf, epsilon, action, predicate, call, token, terminal}
+use Rattle.grammar.specs.Tree.{Call, Leaf, epsilon, action, predicate, call, token, terminal, endOfInput}
 use Rattle.grammar.specs.Encode.{leafKind, encodeLeaf}
 use Rattle.grammar.specs.Ids.{leafIds}
 use Rattle.grammar.specs.Laws.Stands.{stands-head}
-use Rattle.reference.specs.Walks.{sortOf}
+use Rattle.reference.specs.Walks.{sortOf, isEnd}
 use Rattle.reach.specs.Rows.{bit, AddIf}
 use Rattle.analysis.specs.Names.{isNamed, anyBelow, At, Nowhere, IsTarget}
 use Rattle.analysis.specs.declared.names.Target.{Target}
 use Rattle.analysis.specs.declared.names.Target.the-variants.{Unknown, Rule}
-use Rattle.analysis.specs.Survey.{View, Seen, seenOf, isSemantic, callsTo, leafNull, leafEnds, pastLeaf, StopSeen, BitSeen, pastCall, SymbolSeen}
-use Rattle.analysis.specs.Survey.{NameSeen, LeafSeen}
+use Rattle.analysis.specs.Survey.{View, Seen, seenOf, isSemantic, callsTo, leafNull, leafEnds, pastLeaf, StopSeen, BitSeen, pastCall}
+use Rattle.analysis.specs.Survey.{SymbolSeen, NameSeen, LeafSeen}
 use Rattle.reach.proofs.Laws.Rows.{two-words}
 
 -- one bit
@@ -101,7 +101,7 @@ same-seen p q x y z t = record { calls = λ j. p j t; corners = λ j. q j t; sto
 module _ (v : View) (s : Seen) (skips : Bool) where
   -- a leaf that calls rule i
   calls-rule : (c : Call) (i : ℕ) → At (v .names) (v .n) (c .name) i → pastCall s i (skips || bit (v .nullable) i) ≡ pastLeaf v s skips (call c)
-  unfolding pastCall pastLeaf callsTo leafNull leafEnds sortOf isSemantic leafIds
+  unfolding pastCall pastLeaf callsTo leafNull leafEnds sortOf isEnd isSemantic leafIds
   calls-rule c i a =
       same-seen (λ j. ap (λ x. s .calls j || x) (sym (a .only j))) (λ j. ap (λ x. s .corners j || (s .seeks && x)) (sym (a .only j)))
       (sym (or-false (s .stops))) (rw (empty, known, and-false (not (v .past))) refl) (rw empty refl)
@@ -131,18 +131,18 @@ module _ (v : View) (s : Seen) (skips : Bool) where
         (r .seeking ∙ rw (e, n, Bool·not-not (v .past), or-false skips) refl) (r .nulls ∙ rw (n, or-false skips) refl)
 
     calls-nothing : (c : Call) → Nowhere (v .names) (v .n) (c .name) → symbol ≡ pastLeaf v s skips (call c)
-    unfolding callsTo leafNull leafEnds sortOf isSemantic leafIds
+    unfolding callsTo leafNull leafEnds sortOf isEnd isSemantic leafIds
     calls-nothing c a =
         past-symbol (call c) (a .none) refl
         (rw (any-none (isNamed (v .names) (v .n) (c .name)) (a .none) (v .n)) (and-true (not (v .past))))
         (any-none (λ j. isNamed (v .names) (v .n) (c .name) j && bit (v .nullable) j) (λ j. rw (a .none j) refl) (v .n))
 
     past-token : (n : ℕ) → symbol ≡ pastLeaf v s skips (token n)
-    unfolding callsTo leafNull leafEnds sortOf isSemantic leafIds
+    unfolding callsTo leafNull leafEnds sortOf isEnd isSemantic leafIds
     past-token n = past-symbol (token n) (λ j. refl) refl (and-true (not (v .past))) refl
 
     past-terminal : symbol ≡ pastLeaf v s skips terminal
-    unfolding callsTo leafNull leafEnds sortOf isSemantic leafIds
+    unfolding callsTo leafNull leafEnds sortOf isEnd isSemantic leafIds
     past-terminal = past-symbol terminal (λ j. refl) refl (and-true (not (v .past))) refl
 
   -- what takes no input
@@ -191,11 +191,13 @@ module _ (v : View) {ws : List ℕ} {end k p : ℕ} {skips : Bool} where
       go (call c) q h u = n .is c (sym (stands-head u) ∙ sym f)
       go (token a) q h u = absurd (omega arith)
       go terminal q h u = absurd (omega arith)
+      go endOfInput q h u = absurd (omega arith)
 
-  pub leaf-symbol : (xs : List ℕ) {seeks null seeks′ null′ : Bool} → callKind < k → SymbolSeen (v .past) skips seeks null seeks′ null′
+  pub leaf-symbol : (xs : List ℕ) {seeks null seeks′ null′ : Bool} → callKind < k → (k ≡ endKind → ⊥)
+      → SymbolSeen (v .past) skips seeks null seeks′ null′
       → LeafSeen v ws end k p skips (seenOf xs seeks null) (seenOf xs seeks′ null′)
   unfolding leafKind seenOf symbol
-  leaf-symbol xs {seeks} {null} {seeks′} {null′} e r = record { is = go }
+  leaf-symbol xs {seeks} {null} {seeks′} {null′} e z r = record { is = go }
     where
       go : (l : Leaf) (q : ℕ) → k ≡ leafKind l → Stands ws end (encodeLeaf l) p q → seenOf xs seeks′ null′ ≡ pastLeaf v (seenOf xs seeks null) skips l
       go epsilon q h u = absurd (omega arith)
@@ -204,10 +206,11 @@ module _ (v : View) {ws : List ℕ} {end k p : ℕ} {skips : Bool} where
       go (call c) q h u = absurd (omega arith)
       go (token a) q h u = past-token v (seenOf xs seeks null) skips r a
       go terminal q h u = past-terminal v (seenOf xs seeks null) skips r
+      go endOfInput q h u = absurd (z h)
 
   pub leaf-epsilon : (xs : List ℕ) (seeks null : Bool) → k ≡ epsilonKind
       → LeafSeen v ws end k p skips (seenOf xs seeks null) (seenOf xs seeks null)
-  unfolding leafKind seenOf callsTo leafNull leafEnds sortOf isSemantic leafIds
+  unfolding leafKind seenOf callsTo leafNull leafEnds sortOf isEnd isSemantic leafIds
   leaf-epsilon xs seeks null e = record { is = go }
     where
       go : (l : Leaf) (q : ℕ) → k ≡ leafKind l → Stands ws end (encodeLeaf l) p q → seenOf xs seeks null ≡ pastLeaf v (seenOf xs seeks null) skips l
@@ -219,10 +222,27 @@ module _ (v : View) {ws : List ℕ} {end k p : ℕ} {skips : Bool} where
       go (call c) q h u = absurd (omega arith)
       go (token a) q h u = absurd (omega arith)
       go terminal q h u = absurd (omega arith)
+      go endOfInput q h u = absurd (omega arith)
+
+  pub leaf-end : (xs : List ℕ) (seeks null : Bool) → k ≡ endKind
+      → LeafSeen v ws end k p skips (seenOf xs seeks null) (seenOf xs seeks null)
+  unfolding leafKind seenOf callsTo leafNull leafEnds sortOf isEnd isSemantic leafIds
+  leaf-end xs seeks null e = record { is = go }
+    where
+      go : (l : Leaf) (q : ℕ) → k ≡ leafKind l → Stands ws end (encodeLeaf l) p q → seenOf xs seeks null ≡ pastLeaf v (seenOf xs seeks null) skips l
+      go epsilon q h u = absurd (omega arith)
+      go (action a) q h u = absurd (omega arith)
+      go (predicate a) q h u = absurd (omega arith)
+      go (call c) q h u = absurd (omega arith)
+      go (token a) q h u = absurd (omega arith)
+      go terminal q h u = absurd (omega arith)
+      go endOfInput q h u =
+          same-seen (λ j. refl) (λ j. refl) (sym (or-false (eqb (getD xs 4 0) 1))) refl refl
+          ∙ past-silent v (seenOf xs seeks null) skips endOfInput (λ j. refl) (and-false (not (v .past))) refl
 
   pub leaf-semantic : {xs ys : List ℕ} (seeks null : Bool) → StopSeen xs ys → (k ≡ callKind → ⊥) → k ≤ callKind → (k ≡ epsilonKind → ⊥)
       → LeafSeen v ws end k p skips (seenOf xs seeks null) (seenOf ys seeks null)
-  unfolding leafKind callsTo leafNull leafEnds sortOf isSemantic leafIds
+  unfolding leafKind callsTo leafNull leafEnds sortOf isEnd isSemantic leafIds
   leaf-semantic {xs} {ys} seeks null s a b c = record { is = go }
     where
       there : (e : Leaf) → isSemantic e ≡ true → ((j : ℕ) → callsTo v e j ≡ false) → leafEnds v e ≡ false → leafNull v e ≡ true
@@ -239,7 +259,8 @@ module _ (v : View) {ws : List ℕ} {end k p : ℕ} {skips : Bool} where
       go (call x) q h u = absurd (a (omega arith))
       go (token x) q h u = absurd (omega arith)
       go terminal q h u = absurd (omega arith)
+      go endOfInput q h u = absurd (omega arith)
 
 pub ruleset sees = (bit-seen, stop-seen, call-seen, target-low, name-unknown, name-known)
 
-pub ruleset leaves = (leaf-call, leaf-symbol, leaf-epsilon, leaf-semantic)
+pub ruleset leaves = (leaf-call, leaf-symbol, leaf-epsilon, leaf-end, leaf-semantic)

@@ -21,8 +21,8 @@ use Rattle.grammar.specs.Laws.Opened.{HeadWords, Opened, opened-leaf, opened-bl
 use Rattle.grammar.specs.Laws.Found.{alternative-room, block-depth}
 use Rattle.grammar.specs.Laws.Fold.{Folding, folding-found, fold-leaf, fold-block, fold-alternative}
 use Rattle.reference.specs.Walks.{isOptional}
-use Rattle.analysis.specs.Survey.{View, Seen, seenOf, surveying, skipping, pastBlock, pastAlternative, pastLeaf, SymbolSeen, LeafSeen, StopSeen, unseen, whole}
-use Rattle.analysis.specs.Survey.{pastOutermost, OutermostWalked, BodyWalked, BodySeen}
+use Rattle.analysis.specs.Survey.{View, Seen, seenOf, surveying, skipping, pastBlock, pastAlternative, pastLeaf, SymbolSeen, LeafSeen}
+use Rattle.analysis.specs.Survey.{StopSeen, unseen, whole, pastOutermost, OutermostWalked, BodyWalked, BodySeen}
 use Rattle.reach.proofs.Laws.Rows.{no-bits}
 use Rattle.analysis.proofs.Laws.Seen.{same-seen, leaf-symbol}
 
@@ -50,7 +50,7 @@ module _ (v : View) {ws : List ℕ} {end at k p : ℕ} (head : HeadAt ws end at 
   pub survey-token : (d : ℕ) → k ≡ tokenKind → {there : ℕ} (xs : List ℕ) {seeks null seeks′ null′ : Bool} → LeafEnd ws end d at p there
       → SymbolSeen (v .past) skips seeks null seeks′ null′
       → ElementWalked (surveying v) ws end d at (seenOf xs seeks null) there (seenOf xs seeks′ null′)
-  survey-token d four xs e f = survey-leaf d (λ z. omega arith) e (leaf-symbol v xs (omega arith) f)
+  survey-token d four xs e f = survey-leaf d (λ z. omega arith) e (leaf-symbol v xs (omega arith) (λ z. omega arith) f)
 
   pub survey-block : (d : ℕ) → k ≡ blockKind → {m q : ℕ} (xs ys : List ℕ) (seeks null seeks′ null′ : Bool) → m ≡ getD ws p 0
       → AlternativesWalked (surveying v) ws end (d - 1) m (p + 1) (seenOf xs seeks false) q (seenOf ys seeks′ null′)

@@ -8,7 +8,8 @@ use lib.ListN.{getD}
 use lib.Dec.{leb, eqb}
 use borrow.Author.Tests.{eqb-true, eqb-false, leb-true, eq-eqb, ne-eqb}
 use Rattle.grammar.specs.Numbers.{mostName, callKind, tokenKind}
-use Rattle.grammar.specs.Tree.{Label, unlabelled, labelled, Leaf, epsilon, action, predicate, call, token, terminal, Element, Block}
+use Rattle.grammar.specs.Tree.{Label, unlabelled, labelled, Leaf, epsilon, action, predicate, call, token, terminal, endOfInput, Element}
+use Rattle.grammar.specs.Tree.{Block}
 use Rattle.grammar.specs.Encode.{labelName, leafKind, encodeLeaf}
 use Rattle.grammar.specs.Stands.{Spans}
 use Rattle.grammar.specs.Valid.{okLabel, okLeaf}
@@ -73,6 +74,7 @@ module _ (ws bs : List ℕ) where
       go (call a) q h u = bound n (f ∙ stands-head (u .stands))
       go (token a) q h u = absurd (omega arith)
       go terminal q h u = absurd (omega arith)
+      go endOfInput q h u = absurd (omega arith)
 
   pub clash-token : {end k p w : ℕ} {c r : Clash} → k ≡ tokenKind → w ≡ getD ws p 0 → NameBound ws bs w c r
       → LeafSeen ws end k p (clashLeaf (hasName ws bs referencesBit)) c r
@@ -86,6 +88,7 @@ module _ (ws bs : List ℕ) where
       go (call a) q h u = absurd (omega arith)
       go (token a) q h u = bound n (f ∙ stands-head (u .stands))
       go terminal q h u = absurd (omega arith)
+      go endOfInput q h u = absurd (omega arith)
 
   pub clash-other : {end k p : ℕ} (c : Clash) → (k ≡ callKind → ⊥) → (k ≡ tokenKind → ⊥) → LeafSeen ws end k p (clashLeaf (hasName ws bs referencesBit)) c c
   unfolding clashLeaf leafNames leafKind any
@@ -101,6 +104,7 @@ module _ (ws bs : List ℕ) where
       go (call x) h = absurd (a h)
       go (token x) h = absurd (b h)
       go terminal h = same
+      go endOfInput h = same
 
 pub ruleset clashes = (clash-unlabelled, clash-labelled, clash-call, clash-token, clash-other)
 

@@ -8,7 +8,8 @@ use lib.Dec.{eqb}
 use borrow.Author.Tests.{not-true, not-false}
 use Rattle.grammar.specs.Lists.{each, all, any, isEmpty, nothing, meet, keep}
 use Rattle.grammar.specs.Numbers.{actionSort, predicateSort}
-use Rattle.grammar.specs.Tree.{Leaf, epsilon, action, predicate, call, token, terminal, Element, leaf, block, AlternativeOf, Block, RuleOf}
+use Rattle.grammar.specs.Tree.{Leaf, epsilon, action, predicate, call, token, terminal, endOfInput, Element, leaf, block, AlternativeOf}
+use Rattle.grammar.specs.Tree.{Block, RuleOf}
 use Rattle.grammar.specs.Ids.{headIds, leafIds, elementIds, alternativeIds, blockIds}
 use Rattle.grammar.specs.Laws.Parse.{right-true}
 use Rattle.reference.specs.Walks.{elementGives, blockGives, elementsGive, references}
@@ -25,6 +26,7 @@ leaf-none (predicate x) a b = absurd (let z : _≡_ {A = ℕ} 0 1 = cc in omega 
 leaf-none (call c) a b = refl
 leaf-none (token n) a b = refl
 leaf-none terminal a b = refl
+leaf-none endOfInput a b = refl
 
 module _ {B : Type 0} (f g h : B → List ℕ) (inner : (b : B) → f b ≡ [] → g b ≡ [] → h b ≡ []) where
   element-none : (e : Element B) → elementIds actionSort f e ≡ [] → elementIds predicateSort g e ≡ [] → elementGives nothing bindingNames h e ≡ []

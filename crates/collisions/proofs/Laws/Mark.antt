@@ -9,7 +9,7 @@ use lib.ListN.{length, getD}
 use lib.Dec.{leb, eqb}
 use borrow.Author.Tests.{leb-true, le-leb, lt-leb}
 use Rattle.grammar.specs.Numbers.{mostName, actionKind, predicateKind, blockKind, qualified, nonLocal}
-use Rattle.grammar.specs.Tree.{Reference, Label, unlabelled, labelled, Leaf, epsilon, action, predicate, call, token, terminal}
+use Rattle.grammar.specs.Tree.{Reference, Label, unlabelled, labelled, Leaf, epsilon, action, predicate, call, token, terminal, endOfInput}
 use Rattle.grammar.specs.Stands.{Spans}
 use Rattle.grammar.specs.Encode.{encodeReference, labelName, leafKind, encodeLeaf}
 use Rattle.grammar.specs.Valid.{okReference, okLabel, okLeaf}
@@ -176,6 +176,7 @@ module _ (name : ℕ) where
         go (call a) q e u = absurd (some (c .count (call a) q e u))
         go (token a) q e u = absurd (some (c .count (token a) q e u))
         go terminal q e u = absurd (some (c .count terminal q e u))
+        go endOfInput q e u = absurd (some (c .count endOfInput q e u))
 
   -- One element.
   module _ (d : ℕ) {ws : List ℕ} {end at k p : ℕ} (head : HeadAt ws end at k p) {bs cs : List ℕ} (b : LabelMarked ws end at bs cs) (dangling : Bool) where

@@ -8,13 +8,15 @@ use native.Mathlib.Omega.{arith}
 use lib.ListN.{length, getD}
 use lib.Dec.{leb}
 use Rattle.grammar.specs.Numbers.{actionKind, predicateKind, blockKind, oneOrMoreNongreedy}
-use Rattle.grammar.specs.Tree.{Label, ElementHead, Leaf, epsilon, action, predicate, call, token, terminal, Element, leaf, block, Block}
+use Rattle.grammar.specs.Tree.{Label, ElementHead, Leaf, epsilon, action, predicate, call, token, terminal, endOfInput, Element, leaf}
+use Rattle.grammar.specs.Tree.{block, Block}
 use Rattle.grammar.specs.Stands.{Spans}
 use Rattle.grammar.specs.Encode.{encodeReference, leafKind, encodeLeaf}
 use Rattle.grammar.specs.Valid.{okReference, okLabel, okHead, okLeaf}
 use Rattle.grammar.specs.Lists.{each, all}
 use Rattle.grammar.specs.Found.{FoundElement, HeadAt, AlternativeAt, LeafEnd}
-use Rattle.grammar.specs.Fold.{Steps, folded, elementFold, alternativeFold, blockFold, ElementWalked, ElementsWalked, AlternativeWalked, AlternativesWalked}
+use Rattle.grammar.specs.Fold.{Steps, folded, elementFold, alternativeFold, blockFold, ElementWalked, ElementsWalked, AlternativeWalked}
+use Rattle.grammar.specs.Fold.{AlternativesWalked}
 use Rattle.grammar.specs.Laws.Parse.{left-true, right-true}
 use Rattle.grammar.specs.Laws.Stands.{run-stands}
 use Rattle.grammar.specs.Laws.Complete.{leaf-kind}
@@ -74,7 +76,9 @@ body-of (call c) (inr e) s = absurd (omega arith)
 body-of (token n) (inl e) s = absurd (omega arith)
 body-of (token n) (inr e) s = absurd (omega arith)
 body-of terminal (inl e) s = absurd (omega arith)
+body-of endOfInput (inl e) s = absurd (omega arith)
 body-of terminal (inr e) s = absurd (omega arith)
+body-of endOfInput (inr e) s = absurd (omega arith)
 
 no-body : (l : Leaf) → (leafKind l ≡ actionKind → ⊥) → (leafKind l ≡ predicateKind → ⊥) → references l ≡ []
 unfolding leafKind references
@@ -84,6 +88,7 @@ no-body (predicate x) a b = absurd (b refl)
 no-body (call c) a b = refl
 no-body (token n) a b = refl
 no-body terminal a b = refl
+no-body endOfInput a b = refl
 
 -- how many there are
 module _ (d : ℕ) {ws : List ℕ} {end at k p : ℕ} (head : HeadAt ws end at k p) (f : FoundElement ws end d at) where

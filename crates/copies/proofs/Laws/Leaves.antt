@@ -5,7 +5,7 @@ use mathlib.Core.List.{List, _∷_}
 use native.Mathlib.Omega.{arith}
 use lib.ListN.{length, take, drop}
 use Rattle.grammar.specs.Numbers.{actionKind, predicateKind, actionSort, predicateSort}
-use Rattle.grammar.specs.Tree.{Leaf, epsilon, action, predicate, call, token, terminal}
+use Rattle.grammar.specs.Tree.{Leaf, epsilon, action, predicate, call, token, terminal, endOfInput}
 use Rattle.grammar.specs.Words.{words}
 use Rattle.grammar.specs.Stands.{Stands, Spans}
 use Rattle.grammar.specs.Encode.{leafKind, encodeLeaf}
@@ -61,6 +61,7 @@ module _ {bs : List ℕ} {end kind at there : ℕ} {out out′ t t′ : List ℕ
       go (call c) k s = absurd (omega arith)
       go (token n) k s = absurd (omega arith)
       go terminal k s = absurd (omega arith)
+      go endOfInput k s = absurd (omega arith)
 
   pub leaf-predicate : kind ≡ predicateKind → MarkedCopied predicateSort (p .counters .predicate) (words bs) at there out out′ t t′ p p′
       → LeafCopied (words bs) end kind at there out out′ t t′ p p′
@@ -75,6 +76,7 @@ module _ {bs : List ℕ} {end kind at there : ℕ} {out out′ t t′ : List ℕ
       go (call c) k s = absurd (omega arith)
       go (token n) k s = absurd (omega arith)
       go terminal k s = absurd (omega arith)
+      go endOfInput k s = absurd (omega arith)
 
 pub leaf-other : {bs : List ℕ} {end kind at there : ℕ} {out out′ t : List ℕ} {p p′ : Pen} → Room bs end → there ≤ end
     → (kind ≡ actionKind → ⊥) → (kind ≡ predicateKind → ⊥)
@@ -98,5 +100,6 @@ leaf-other {bs} {end} {kind} {at} {there} {out} {out′} {t} {p} {p′} r h na n
     go (call c) k s = drawn-words t (same (s .stands)) (long (s .stands)) y z
     go (token n) k s = drawn-words t (same (s .stands)) (long (s .stands)) y z
     go terminal k s = drawn-words t (same (s .stands)) (long (s .stands)) y z
+    go endOfInput k s = drawn-words t (same (s .stands)) (long (s .stands)) y z
 
 pub ruleset leaves = (action-room, predicate-room, leaf-action, leaf-predicate, leaf-other)

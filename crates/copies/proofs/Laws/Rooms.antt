@@ -6,8 +6,8 @@ use mathlib.Core.Bool.{Bool, true, false}
 use native.Mathlib.Omega.{arith}
 use lib.ListN.{length, getD}
 use Rattle.grammar.specs.Numbers.{elementSort, actionKind, predicateKind}
-use Rattle.grammar.specs.Tree.{Label, unlabelled, labelled, ElementHead, Leaf, epsilon, action, predicate, call, token, terminal, Element}
-use Rattle.grammar.specs.Tree.{leaf, block, Counters}
+use Rattle.grammar.specs.Tree.{Label, unlabelled, labelled, ElementHead, Leaf, epsilon, action, predicate, call, token, terminal}
+use Rattle.grammar.specs.Tree.{endOfInput, Element, leaf, block, Counters}
 use Rattle.grammar.specs.Stands.{Spans}
 use Rattle.grammar.specs.Encode.{labelName, encodeHead, leafKind, encodeLeaf}
 use Rattle.grammar.specs.Lists.{each}
@@ -103,6 +103,7 @@ leaf-fits {ws} {end} {at} {there} {out} {t} {p} l s f =
     does (call x) k s f = absurd (omega arith)
     does (token n) k s f = absurd (omega arith)
     does terminal k s f = absurd (omega arith)
+    does endOfInput k s f = absurd (omega arith)
 
     tests : (l : Leaf) → leafKind l ≡ predicateKind → Spans ws end encodeLeaf okLeaf at l there
         → Fits encodeLeaf (renumberLeaf l (countersOf (p .counters))) out t p
@@ -118,3 +119,4 @@ leaf-fits {ws} {end} {at} {there} {out} {t} {p} l s f =
     tests (call x) k s f = absurd (omega arith)
     tests (token n) k s f = absurd (omega arith)
     tests terminal k s f = absurd (omega arith)
+    tests endOfInput k s f = absurd (omega arith)

@@ -6,7 +6,7 @@ use mathlib.Core.Bool.{true}
 use native.Mathlib.Omega.{arith}
 use lib.Dec.{ltb}
 use borrow.Author.Tests.{ltb-true, lt-ltb}
-use Rattle.grammar.specs.Tree.{Label, unlabelled, labelled, Leaf, epsilon, action, predicate, call, token, terminal, Element}
+use Rattle.grammar.specs.Tree.{Label, unlabelled, labelled, Leaf, epsilon, action, predicate, call, token, terminal, endOfInput, Element}
 use Rattle.grammar.specs.Tree.{leaf, block, Block, Counters}
 use Rattle.grammar.specs.Lists.{all}
 use Rattle.grammar.specs.Laws.Parse.{both-true, left-true, right-true}
@@ -110,6 +110,7 @@ leaf-grown (predicate p) c =
 leaf-grown (call k) c = grown-same c
 leaf-grown (token n) c = grown-same c
 leaf-grown terminal c = grown-same c
+leaf-grown endOfInput c = grown-same c
 
 pub grows-leaf : Grows renumberLeaf
 grows-leaf = record { grows = leaf-grown }

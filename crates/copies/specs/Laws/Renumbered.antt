@@ -5,7 +5,7 @@ use mathlib.Core.List.{List, [], _∷_, _++_, append-nil}
 use lib.ListN.{length}
 use Rattle.grammar.specs.Numbers.{kindEnd, blockKind, alternativeSort, elementSort}
 use Rattle.grammar.specs.Tree.{Label, unlabelled, labelled, ElementHead, Leaf, epsilon, action, predicate, call, token, terminal}
-use Rattle.grammar.specs.Tree.{leaf, block, AlternativeOf, Block, Counters}
+use Rattle.grammar.specs.Tree.{endOfInput, leaf, block, AlternativeOf, Block, Counters}
 use Rattle.grammar.specs.Encode.{labelId, labelName, encodeOption, encodeHead, leafKind, encodeLeaf, encodeElement, encodeAlternative}
 use Rattle.grammar.specs.Encode.{encodeBlock}
 use Rattle.grammar.specs.Lists.{each}
@@ -55,6 +55,7 @@ leaf-kind-of (predicate p) c = refl
 leaf-kind-of (call k) c = refl
 leaf-kind-of (token n) c = refl
 leaf-kind-of terminal c = refl
+leaf-kind-of endOfInput c = refl
 
 -- Its payload stays as long.
 pub leaf-length-of : (l : Leaf) (c : Counters) → length (encodeLeaf (renumberLeaf l c .node)) ≡ length (encodeLeaf l)
@@ -65,6 +66,7 @@ leaf-length-of (predicate p) c = refl
 leaf-length-of (call k) c = refl
 leaf-length-of (token n) c = refl
 leaf-length-of terminal c = refl
+leaf-length-of endOfInput c = refl
 
 module _ {B : Type 0} (enc : B → List ℕ) (fresh : B → Counters → Fresh B) where
   -- An element that is a leaf.

@@ -9,8 +9,8 @@ use lib.Dec.{leb, eqb}
 use borrow.Author.Tests.{le-leb, eq-eqb, ne-eqb}
 use Rattle.grammar.specs.Numbers.{mostRuleFlags, mostAlternativeFlag, oneOrMoreNongreedy, blockKind, kindEnd}
 use Rattle.grammar.specs.Stands.{Spans, Stands}
-use Rattle.grammar.specs.Tree.{Reference, ElementHead, Leaf, epsilon, action, predicate, call, token, terminal, leaf, block, Rule}
-use Rattle.grammar.specs.Tree.{bodyDepth}
+use Rattle.grammar.specs.Tree.{Reference, ElementHead, Leaf, epsilon, action, predicate, call, token, terminal, endOfInput, leaf}
+use Rattle.grammar.specs.Tree.{block, Rule, bodyDepth}
 use Rattle.grammar.specs.Encode.{encodeOption, encodeReference, encodeHead, leafKind, encodeLeaf, encodeElement, encodeAlternative}
 use Rattle.grammar.specs.Encode.{encodeRule, encodeBlock, encodeRules}
 use Rattle.grammar.specs.Lists.{each, all}
@@ -22,15 +22,20 @@ use Rattle.grammar.specs.Laws.Stands.{run-stands, stands-head, stands-le
 use Rattle.grammar.specs.Laws.Label.{is-label, label-of}
 use Rattle.grammar.specs.Laws.Parse.{both-true, left-true, right-true, then-got, given-got, Complete, many-complete}
 
--- A leaf is no block.
-pub leaf-kind : (l : Leaf) → leafKind l < blockKind
+-- A leaf's kind is packed with a quantifier, and is no block's.
+pub record LeafKind (l : Leaf) : Type 0 where
+  pub under : leafKind l < kindEnd
+  pub noBlock : leafKind l ≡ blockKind → ⊥
+
+pub leaf-kind : (l : Leaf) → LeafKind l
 unfolding leafKind
-leaf-kind epsilon = omega arith
-leaf-kind (action a) = omega arith
-leaf-kind (predicate p) = omega arith
-leaf-kind (call c) = omega arith
-leaf-kind (token n) = omega arith
-leaf-kind terminal = omega arith
+leaf-kind epsilon = record { under = omega arith; noBlock = λ e. omega arith }
+leaf-kind (action a) = record { under = omega arith; noBlock = λ e. omega arith }
+leaf-kind (predicate p) = record { under = omega arith; noBlock = λ e. omega arith }
+leaf-kind (call c) = record { under = omega arith; noBlock = λ e. omega arith }
+leaf-kind (token n) = record { under = omega arith; noBlock = λ e. omega arith }
+leaf-kind terminal = record { under = omega arith; noBlock = λ e. omega arith }
+leaf-kind endOfInput = record { under = omega arith; noBlock = λ e. omega arith }
 
 module _ (ws : List ℕ) (end : ℕ) where
   given-room : {A : Type 0} (n at : ℕ) (f : Unit {0} → Got A) {r : Got A} → at + n ≤ end → f tt ≡ r → given (room ws end n at) f ≡ r
@@ -81,6 +86,7 @@ module _ (ws : List ℕ) (end : ℕ) where
       let e = stands-head (s .stands) in
       given-room-and 1 at _ _ (omega arith) (rw e (s .fine)) λ i. got (token (e i)) (sym (w .1 .0) i)
   leaf-complete terminal at q s = let h = stands-length (s .stands) in ap (got terminal) (omega arith)
+  leaf-complete endOfInput at q s = let h = stands-length (s .stands) in ap (got endOfInput) (omega arith)
 
   pub head-complete : (h : ElementHead) (kind at p : ℕ) → kind < kindEnd → Spans ws end (λ e. encodeHead e kind) okHead at h p
       → (headAt ws end at ≡ got h p) × (getD ws (at + 2) 0 % kindEnd ≡ kind)

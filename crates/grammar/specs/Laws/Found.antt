@@ -7,8 +7,8 @@ use native.Mathlib.Numerals.{sub-one}
 use lib.ListN.{length, getD}
 use Rattle.grammar.specs.Numbers.{actionKind, predicateKind, callKind, tokenKind, blockKind, kindEnd}
 use Rattle.grammar.specs.Stands.{Spans, Stands}
-use Rattle.grammar.specs.Tree.{ElementHead, Leaf, epsilon, action, predicate, call, token, terminal, Element, block, AlternativeOf}
-use Rattle.grammar.specs.Tree.{Block}
+use Rattle.grammar.specs.Tree.{ElementHead, Leaf, epsilon, action, predicate, call, token, terminal, endOfInput, Element, block}
+use Rattle.grammar.specs.Tree.{AlternativeOf, Block}
 use Rattle.grammar.specs.Encode.{encodeLeaf, leafKind, encodeBlock, encodeRule}
 use Rattle.grammar.specs.Valid.{okBlock, okRule}
 use Rattle.grammar.specs.Found.{Found, FoundElement, FoundElements, FoundAlternative, FoundAlternatives, ElementSpans, HeadAt}
@@ -35,6 +35,7 @@ leaf-size (predicate p) s = let l = stands-length s in let m = references-length
 leaf-size (call c) s = let l = stands-length s in omega arith
 leaf-size (token n) s = let l = stands-length s in omega arith
 leaf-size terminal s = let l = stands-length s in omega arith
+leaf-size endOfInput s = let l = stands-length s in omega arith
 
 no-payload : (k n : ℕ) → (k ≡ callKind → ⊥) → (k ≡ tokenKind → ⊥) → (k ≡ actionKind → ⊥) → (k ≡ predicateKind → ⊥) → leafSize k n ≡ 0
 unfolding leafSize

@@ -73,7 +73,12 @@ module _ (ws : List ℕ) (end : ℕ) where
     spans = record { stands = stands-none h; fine = refl };
     sort = refl;
   })
-  leaf-sound (suc (suc (suc (suc (suc (suc kind)))))) at h = nothing
+  leaf-sound (suc (suc (suc (suc (suc (suc zero)))))) at h = nothing
+  leaf-sound (suc (suc (suc (suc (suc (suc (suc zero))))))) at h = yields (record {
+    spans = record { stands = stands-none h; fine = refl };
+    sort = refl;
+  })
+  leaf-sound (suc (suc (suc (suc (suc (suc (suc (suc kind)))))))) at h = nothing
 
   pub head-sound : (at : ℕ) → at ≤ end → Yields (Spans ws end (λ h. encodeHead h (getD ws (at + 2) 0 % kindEnd)) okHead at)
       (headAt ws end at)

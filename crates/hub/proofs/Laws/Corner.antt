@@ -7,7 +7,7 @@ use mathlib.Core.Bool.{Bool, true, false, _&&_, not}
 use native.Mathlib.Omega.{arith}
 use lib.ListN.{length, getD}
 use Rattle.grammar.specs.Numbers.{callKind}
-use Rattle.grammar.specs.Tree.{ElementHead, Call, Leaf, epsilon, action, predicate, call, token, terminal, Element, leaf, Block}
+use Rattle.grammar.specs.Tree.{ElementHead, Call, Leaf, epsilon, action, predicate, call, token, terminal, endOfInput, Element, leaf, Block}
 use Rattle.grammar.specs.Stands.{Spans}
 use Rattle.grammar.specs.Encode.{encodeElement, encodeBlock, encodeLeaf, leafKind}
 use Rattle.grammar.specs.Valid.{okElement, okBlock, okLeaf}
@@ -108,6 +108,7 @@ module _ {names : List ℕ} {c : Cycle} {ws : List ℕ} {end d : ℕ} where
         symbol g cycle es h (call a) m = absurd (omega arith)
         symbol g cycle es h (token a) m = refl
         symbol g cycle es h terminal m = refl
+        symbol g cycle es h endOfInput m = refl
 
         go : (g : Grammar) (cycle : List ℕ) (es : List (Element (Block d))) {e : Element (Block d)} {q : ℕ} → Opened ws end d at q e
             → true ≡ not (cornerEntersCycle g cycle (e ∷ es))
@@ -130,6 +131,7 @@ module _ {names : List ℕ} {c : Cycle} {ws : List ℕ} {end d : ℕ} where
             rw same at (v .by g cycle t) ∙ call-corner g cycle h a es (target g (a .name)) refl
         named g cycle t es h (token a) m u = absurd (omega arith)
         named g cycle t es h terminal m u = absurd (omega arith)
+        named g cycle t es h endOfInput m u = absurd (omega arith)
 
         go : (g : Grammar) (cycle : List ℕ) → Tells g cycle names c → (es : List (Element (Block d))) {x : Element (Block d)} {q : ℕ}
             → Opened ws end d at q x → r ≡ not (cornerEntersCycle g cycle (x ∷ es))
@@ -153,6 +155,7 @@ module _ {names : List ℕ} {c : Cycle} {ws : List ℕ} {end d : ℕ} where
         silently g cycle es (opened-leaf {h = h} {l = call a} o w u) = absurd (let x = w .packed in let y = head .kindIs in omega arith)
         silently g cycle es (opened-leaf {h = h} {l = token a} o w u) = absurd (let x = w .packed in let y = head .kindIs in omega arith)
         silently g cycle es (opened-leaf {h = h} {l = terminal} o w u) = absurd (let x = w .packed in let y = head .kindIs in omega arith)
+        silently g cycle es (opened-leaf {h = h} {l = endOfInput} o w u) = absurd (let x = w .packed in let y = head .kindIs in omega arith)
         silently g cycle es (opened-block o w u) = absurd (let x = w .packed in let y = head .kindIs in omega arith)
 
         go : (g : Grammar) (cycle : List ℕ) → Tells g cycle names c → (es : List (Element (Block d))) (q : ℕ)

@@ -11,7 +11,7 @@ use Rattle.grammar.specs.Stands.{Stands}
 use Rattle.grammar.specs.Numbers.{alternativeSort, elementSort, labelSort, actionSort, predicateSort}
 use Rattle.grammar.specs.Numbers.{mostName, oneOrMoreNongreedy, actionKind, predicateKind, blockKind, kindEnd}
 use Rattle.grammar.specs.Tree.{Label, unlabelled, labelled, ElementHead, Leaf, epsilon, action, predicate, call, token, terminal}
-use Rattle.grammar.specs.Tree.{Element, leaf, block, AlternativeOf, Block, Rule, bodyDepth}
+use Rattle.grammar.specs.Tree.{endOfInput, Element, leaf, block, AlternativeOf, Block, Rule, bodyDepth}
 use Rattle.grammar.specs.Encode.{labelId, labelName, encodeLeaf, leafKind}
 use Rattle.grammar.specs.Lists.{each, only}
 use Rattle.grammar.specs.Valid.{okHead, okLabel}
@@ -47,6 +47,7 @@ leaf-ids sort (predicate p) s = simp (and-false, and-true, stands-head s)
 leaf-ids sort (call c) s = simp and-false
 leaf-ids sort (token n) s = simp and-false
 leaf-ids sort terminal s = simp and-false
+leaf-ids sort endOfInput s = simp and-false
 
 module _ {ws : List ℕ} {end at : ℕ} (sort : ℕ) {h : ElementHead} {kind p : ℕ} (w : HeadWords ws end at h kind p) where
   head-ids : only (eqb sort elementSort) (getD ws at 0)

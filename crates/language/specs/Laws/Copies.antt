@@ -2,9 +2,9 @@
 use Prim.Native.Nat.{ℕ, zero, suc}
 use mathlib.Core.Path.{_≡_, refl, sym, ap, ap₂, _∙_}
 use mathlib.Core.List.{List, [], _∷_, map}
-use Rattle.grammar.specs.Tree.{Label, unlabelled, labelled, ElementHead, Leaf, epsilon, action, predicate, call, token, terminal, Element}
-use Rattle.grammar.specs.Tree.{leaf, block, AlternativeOf, Block, withActionId, withPredicateId, withHeadId, withLabel, withAlternativeId}
-use Rattle.grammar.specs.Tree.{withElements}
+use Rattle.grammar.specs.Tree.{Label, unlabelled, labelled, ElementHead, Leaf, epsilon, action, predicate, call, token, terminal}
+use Rattle.grammar.specs.Tree.{endOfInput, Element, leaf, block, AlternativeOf, Block, withActionId, withPredicateId, withHeadId, withLabel}
+use Rattle.grammar.specs.Tree.{withAlternativeId, withElements}
 use Rattle.language.specs.Shape.{Shape, seqs, alts, eraseLeaf, eraseElement, eraseElements, eraseBlock}
 
 -- A change of nodes one by one.
@@ -68,6 +68,7 @@ dropLeafId (predicate p) = predicate (withPredicateId 0 p)
 dropLeafId (call c) = call c
 dropLeafId (token n) = token n
 dropLeafId terminal = terminal
+dropLeafId endOfInput = endOfInput
 
 abbrev pub dropIds : Change
 dropIds =
@@ -85,6 +86,7 @@ drop-leaf c (predicate p) = refl
 drop-leaf c (call k) = refl
 drop-leaf c (token n) = refl
 drop-leaf c terminal = refl
+drop-leaf c endOfInput = refl
 
 drop-keeps : KeepsShape dropIds
 drop-keeps = record { carried = λ h. refl; quantifier = λ h. refl; shape = drop-leaf }

@@ -10,6 +10,7 @@ use mathlib.Core.Bool.{Bool, true, false, _&&_, not, false≢true}
 use borrow.Author.Tests.{not-true}
 use Rattle.language.specs.Shape.{Shape, eps, fail, symbol, callOf, seq, alt, opt, star, plus, quantified, Shapes, find, EachCall}
 use Rattle.language.specs.Derive.{CanBeEmpty}
+use Rattle.language.specs.Laws.Empty.{by-same}
 use Rattle.grammar.specs.Corners.{Corners, rust, textbook}
 use Rattle.language.specs.LeftCorners.{isMissing, isSymbol, stops, Skippable, Corner, c-call, c-first, c-later, c-left, c-right}
 use Rattle.language.specs.LeftCorners.{c-opt, c-star, c-plus, Reaches, r-last, r-more}
@@ -168,7 +169,7 @@ pub removal-corner : {P : ℕ → Type 0} {G K : Shapes} → AlikeOn P G K → {
 removal-corner {P} {G} {K} a s p = (λ k. corner-carries (seen a) k p, λ k. corner-carries (seen (alike-on-sym a)) k p)
   where
     seen : {G K : Shapes} → AlikeOn P G K → SeenAlike P G K
-    seen b = record { known = λ n q. ap isMissing (b .found n q); empties = λ t q d. removal b t q .to [] d }
+    seen b = record { known = λ n q. ap isMissing (b .found n q); empties = λ t q d. by-same (removal b t q .to) d }
 
 -- Where both derive the same strings and the same names are rules', left corners of a shape are the same.
 pub same-corner : {G K : Shapes} → SameStrings G K → ((n : ℕ) → isMissing (find K n) ≡ isMissing (find G n))
@@ -177,7 +178,7 @@ pub same-corner : {G K : Shapes} → SameStrings G K → ((n : ℕ) → isMissin
 same-corner {G} {K} e k s = (λ x. corner-carries there x (each-any s), λ x. corner-carries back x (each-any s))
   where
     there : SeenAlike (λ n. Unit {0}) G K
-    there = record { known = λ n p. k n; empties = λ t p d. e t .to [] d }
+    there = record { known = λ n p. k n; empties = λ t p d. by-same (e t .to) d }
 
     back : SeenAlike (λ n. Unit {0}) K G
-    back = record { known = λ n p. sym (k n); empties = λ t p d. e t .back [] d }
+    back = record { known = λ n p. sym (k n); empties = λ t p d. by-same (e t .back) d }

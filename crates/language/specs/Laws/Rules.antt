@@ -10,7 +10,7 @@ use borrow.Author.Tests.{eqb-true, eq-eqb, ne-eqb, not-true}
 use Rattle.grammar.specs.Tree.{Block, RuleOf}
 use Rattle.grammar.specs.Lists.{member, distinct}
 use Rattle.language.specs.Shape.{Word, Shape, callOf, NamedShape, find, eraseBlock, bodiesBy, eraseRules}
-use Rattle.language.specs.Derive.{Der, d-call, RuleDerives}
+use Rattle.language.specs.Derive.{Der, d-call, CanBeEmpty, RuleDerives, RuleCanBeEmpty}
 use Rattle.grammar.specs.Laws.Lists.{in-member, in-map}
 use Rattle.grammar.specs.Laws.Parse.{left-true, right-true, either}
 use Rattle.language.specs.Laws.Cover.{find-here, find-next}
@@ -50,6 +50,11 @@ module _ (d : ℕ) (key : RuleOf (Block d) → ℕ) where
       let x = found-rule rs n (sym (find-next (bodyOf q) (bodiesBy d key rs) n f) ∙ e) in
       (x .0, List·Memᴰ·tail (x .1), x .2, x .3))
 
+-- A rule that derives the same strings in two grammars can be empty in both.
+pub same-can-be-empty : {d : ℕ} {rs ks : List (RuleOf (Block d))} {i : ℕ} → ((w : Word) → RuleDerives d rs i w → RuleDerives d ks i w)
+    → RuleCanBeEmpty d rs i → RuleCanBeEmpty d ks i
+same-can-be-empty f x = record { word = x .word; marks = x .marks; derives = f (x .word) (x .derives) }
+
 module _ (d : ℕ) (rs : List (RuleOf (Block d))) (ids : distinct (map (λ r. r .id) rs) ≡ true)
     (names : distinct (map (λ r. r .name) rs) ≡ true) where
   -- A rule, known by its id, derives what a call of its name does.
@@ -63,3 +68,11 @@ module _ (d : ℕ) (rs : List (RuleOf (Block d))) (ids : distinct (map (λ r. r 
             d-call n (subst (λ s. Der (eraseRules d rs) s w) same (x .tree)),
         λ t. record { body = eraseBlock d (r .body); found = i; tree = call-same n .to w t },
       )
+
+  -- It can be empty where such a call can.
+  pub rule-can-be-empty : {r : RuleOf (Block d)} → List·Memᴰ r rs
+      → RuleCanBeEmpty d rs (r .id) ↔ CanBeEmpty (eraseRules d rs) (callOf (r .name))
+  rule-can-be-empty m = (
+    λ x. record { word = x .word; marks = x .marks; tree = rule-derives m (x .word) .0 (x .derives) },
+    λ x. record { word = x .word; marks = x .marks; derives = rule-derives m (x .word) .1 (x .tree) },
+  )

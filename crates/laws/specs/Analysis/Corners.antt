@@ -4,16 +4,16 @@ use mathlib.Core.Path.{_≡_, refl, ap, ap₂, _∙_}
 use mathlib.Core.List.{List, [], _∷_, _++_, append-nil}
 use mathlib.Core.Option.{Option, none, some}
 use mathlib.Core.Bool.{Bool, true, false, _&&_, not, true≢false}
-use Rattle.grammar.specs.Tree.{Leaf, epsilon, action, predicate, call, token, terminal, Element, leaf, block, Block}
+use Rattle.grammar.specs.Tree.{Leaf, epsilon, action, predicate, call, token, terminal, endOfInput, Element, leaf, block, Block}
 use Rattle.grammar.specs.Lists.{each}
 use Rattle.grammar.specs.Laws.Lists.{each-append}
-use Rattle.language.specs.Shape.{Shape, quantified, eraseLeaf, eraseElement, eraseElements, eraseBlock, Shapes, find}
+use Rattle.language.specs.Shape.{Shape, quantified, eraseLeaf, eraseElement, eraseElements, eraseBlock, Shapes, find, isMark}
 use Rattle.grammar.specs.Corners.{Corners, rust, textbook}
 use Rattle.language.specs.LeftCorners.{isMissing, isSymbol, stops}
 use Rattle.language.specs.Laws.Quantifier.{quantified-cases}
 use Rattle.language.specs.Laws.Empty.{emptyIf}
 use Rattle.language.specs.Laws.Corner.{cornersOf, given, ifFound, symbol-quantified}
-use Rattle.reference.specs.Walks.{sortOf}
+use Rattle.reference.specs.Walks.{sortOf, isEnd}
 use Rattle.reference.specs.Analysis.{Grammar, target, calls, isStop, blockIsNullable, collectLeftCornerCalls, blockCorners}
 use Rattle.laws.specs.Analysis.Names.{isUnknown}
 use Rattle.laws.specs.Analysis.Nullable.{named, element-test, block-test}
@@ -59,9 +59,10 @@ module _ (c : Corners) (g : Grammar) (G : Shapes) (known : (n : ℕ) → isMissi
   leaf-list k (call c) = found-ids (c .name) (find G (c .name)) (known (c .name))
   leaf-list k (token n) = refl
   leaf-list k terminal = refl
+  leaf-list k endOfInput = refl
 
   leaf-stops : (c : Corners) (k : ℕ) (l : Leaf) → stops c G (eraseLeaf k l) ≡ isStop c g l
-  unfolding stops isStop isSymbol eraseLeaf sortOf
+  unfolding stops isStop isSymbol eraseLeaf sortOf isEnd isMark
   leaf-stops textbook k l = refl
   leaf-stops rust k epsilon = refl
   leaf-stops rust k (action a) = refl
@@ -69,6 +70,7 @@ module _ (c : Corners) (g : Grammar) (G : Shapes) (known : (n : ℕ) → isMissi
   leaf-stops rust k (call c) = known (c .name)
   leaf-stops rust k (token n) = refl
   leaf-stops rust k terminal = refl
+  leaf-stops rust k endOfInput = refl
 
   given-elim : (b : Bool) (xs : List ℕ) → given b xs ≡ elim b as (λ x. List ℕ) [ true ↦ xs | false ↦ [] ]
   given-elim true xs = refl

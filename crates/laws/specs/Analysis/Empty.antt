@@ -1,4 +1,4 @@
--- Empty derivation: what the definition finds nullable is what derives the empty string.
+-- Empty derivation: what the definition finds nullable is what derives a string of end marks alone.
 use Prim.Native.Nat.{ℕ, _≤_}
 use mathlib.Core.Path.{_≡_, sym, ap, _∙_, subst}
 use mathlib.Core.Logic.{_↔_}
@@ -11,9 +11,9 @@ use Rattle.grammar.specs.Laws.Lists.{in-member, member-in, in-map}
 use Rattle.grammar.specs.Tree.{Element, Block, RuleOf}
 use Rattle.grammar.specs.Lists.{member, distinct, all, keep}
 use Rattle.language.specs.Shape.{Shape, callOf, find, eraseElement, eraseElements, eraseBlock, eraseRules}
-use Rattle.language.specs.Derive.{d-call, CanBeEmpty, RuleDerives}
-use Rattle.language.specs.Laws.Empty.{emptyIf, emptyIf-sound, emptyIf-exact}
-use Rattle.language.specs.Laws.Rules.{rule-found, found-rule, rule-derives}
+use Rattle.language.specs.Derive.{CanBeEmpty, RuleCanBeEmpty}
+use Rattle.language.specs.Laws.Empty.{call-empty, emptyIf, emptyIf-sound, emptyIf-exact}
+use Rattle.language.specs.Laws.Rules.{rule-found, found-rule, rule-can-be-empty}
 use Rattle.reference.specs.Analysis.{Grammar, namesOf, target, elementNullable, blockIsNullable, nullableRound, nullableRules, grammarOf}
 use Rattle.graph.specs.Members.{in-keep, keep-in, one-with, keep-part, keep-is-part, part-in, part-map}
 use Rattle.graph.specs.Fixpoint.{part-length, rounds-keep, rounds-grow}
@@ -91,8 +91,11 @@ module _ (d : ℕ) (rs : List (RuleOf (Block d))) where
         let (q, k, e, t) = in-round xs i in
         let same = one-with (λ r. r .id) rs ids k m e in
         let u = subst (λ x. blockIsNullable (given xs) d (x .body) ≡ true) same t in
-        d-call (rule-found d (λ r. r .name) rs names m)
-        (emptyIf-sound (named (given xs)) (named-sound xs s) (eraseBlock d (r .body)) (block-test (given xs) d (r .body) ∙ u))
+        call-empty (r .name) .1 (
+          eraseBlock d (r .body),
+          rule-found d (λ r. r .name) rs names m,
+          emptyIf-sound (named (given xs)) (named-sound xs s) (eraseBlock d (r .body)) (block-test (given xs) d (r .body) ∙ u),
+        )
 
     nullable-sound : Sound (nullableRules d rs)
     unfolding nullableRules
@@ -134,21 +137,25 @@ module _ (d : ℕ) (rs : List (RuleOf (Block d))) where
     elements-empty k es = rewritten (elements-test (grammarOf d rs) k es) (empty-exact (eraseElements (eraseBlock k) es))
 
     -- Of a rule, known by its id.
-    pub rule-empty : (i : ℕ) → (member i (nullableRules d rs) ≡ true) ↔ RuleDerives d rs i []
+    pub rule-empty : (i : ℕ) → (member i (nullableRules d rs) ≡ true) ↔ RuleCanBeEmpty d rs i
     unfolding grammarOf
     rule-empty i = (found, finds)
       where
-        found : member i (nullableRules d rs) ≡ true → RuleDerives d rs i []
+        found : member i (nullableRules d rs) ≡ true → RuleCanBeEmpty d rs i
         found t =
             let m = subst (List·Memᴰ i) (sym nullable-fixed) (member-in (nullableRules d rs) t) in
             let (r, k, e, u) = in-round (nullableRules d rs) m in
-            subst (λ x. RuleDerives d rs x []) e
-            (rule-derives d rs ids names k [] .1
+            subst (RuleCanBeEmpty d rs) e
+            (rule-can-be-empty d rs ids names k .1
             (nullable-sound r k (subst (λ x. List·Memᴰ x (nullableRules d rs)) (sym e) (member-in (nullableRules d rs) t))))
 
-        finds : RuleDerives d rs i [] → member i (nullableRules d rs) ≡ true
+        finds : RuleCanBeEmpty d rs i → member i (nullableRules d rs) ≡ true
         finds x =
-            let (r, m, e, b) = found-rule d (λ r. r .id) rs i (x .found) in
-            let v = block-empty d (r .body) .1 (subst (λ s. CanBeEmpty (eraseRules d rs) s) (sym b) (x .tree)) in
+            let (r, m, e, b) = found-rule d (λ r. r .id) rs i (x .derives .found) in
+            let v = block-empty d (r .body) .1 (subst (CanBeEmpty (eraseRules d rs)) (sym b) (record {
+              word = x .word;
+              marks = x .marks;
+              tree = x .derives .tree;
+            })) in
             in-member (subst (List·Memᴰ i) nullable-fixed
             (subst (λ y. List·Memᴰ y (nullableRound d rs (nullableRules d rs))) e (round-in (nullableRules d rs) m v)))

@@ -4,13 +4,13 @@ use mathlib.Core.Path.{_≡_, refl, ap, ap₂, _∙_, fun-ext}
 use mathlib.Core.List.{List, [], _∷_}
 use mathlib.Core.Option.{Option, none, some}
 use mathlib.Core.Bool.{Bool, true, false, _||_, or-true}
-use Rattle.grammar.specs.Tree.{Leaf, epsilon, action, predicate, call, token, terminal, Element, leaf, block, Block}
+use Rattle.grammar.specs.Tree.{Leaf, epsilon, action, predicate, call, token, terminal, endOfInput, Element, leaf, block, Block}
 use Rattle.grammar.specs.Lists.{member, all, any}
 use Rattle.grammar.specs.Laws.Parse.{both-true, left-true, right-true, either}
 use Rattle.language.specs.Shape.{Shape, eps, fail, symbol, callOf, seq, alt, opt, star, plus, eraseLeaf, eraseElement, eraseElements}
-use Rattle.language.specs.Shape.{eraseBlock}
+use Rattle.language.specs.Shape.{eraseBlock, isMark}
 use Rattle.language.specs.Laws.Empty.{emptyIf, emptyIf-quantified, emptyIf-seqs}
-use Rattle.reference.specs.Walks.{sortOf, isOptional}
+use Rattle.reference.specs.Walks.{sortOf, isEnd, isOptional}
 use Rattle.reference.specs.Analysis.{Grammar, target, leafNullable, elementNullable, blockIsNullable}
 
 module _ (g : Grammar) where
@@ -22,13 +22,14 @@ module _ (g : Grammar) where
   named n = isNull (target g n)
 
   leaf-test : (k : ℕ) (l : Leaf) → emptyIf named (eraseLeaf k l) ≡ leafNullable g l
-  unfolding emptyIf eraseLeaf leafNullable sortOf named
+  unfolding emptyIf eraseLeaf leafNullable sortOf named isEnd isMark
   leaf-test k epsilon = refl
   leaf-test k (action a) = refl
   leaf-test k (predicate p) = refl
   leaf-test k (call c) = refl
   leaf-test k (token n) = refl
   leaf-test k terminal = refl
+  leaf-test k endOfInput = refl
 
   pub element-test : {B : Type 0} (eraseB : B → Shape) (testB : B → Bool) → ((b : B) → emptyIf named (eraseB b) ≡ testB b) → (e : Element B)
       → emptyIf named (eraseElement eraseB e) ≡ elementNullable g testB e

@@ -4,7 +4,8 @@ use mathlib.Core.Path.{refl, ap, subst}
 use mathlib.Core.Logic.{_↔_}
 use mathlib.Core.List.{List, [], _∷_, _++_, map, List·Memᴰ, List·Memᴰ·head, List·Memᴰ·tail}
 use Rattle.grammar.specs.Lists.{AllOf}
-use Rattle.grammar.specs.Tree.{ElementHead, Leaf, epsilon, action, predicate, call, token, terminal, Element, leaf, block, Block}
+use Rattle.grammar.specs.Tree.{ElementHead, Leaf, epsilon, action, predicate, call, token, terminal, endOfInput, Element, leaf, block}
+use Rattle.grammar.specs.Tree.{Block}
 use Rattle.language.specs.Shape.{Shape, alts, callOf, eraseLeaf, eraseElement, eraseElements, eraseBlock, Shapes}
 use Rattle.language.specs.Derive.{CanBeEmpty}
 use Rattle.grammar.specs.Corners.{textbook}
@@ -28,6 +29,7 @@ module _ {G : Shapes} where
   at-leaf h (call c) es (c-call e) = called [] es h c refl tt e
   at-leaf h (token n) es k = elim k [ ]
   at-leaf h terminal es k = elim k [ ]
+  at-leaf h endOfInput es k = elim k [ ]
 
   -- The alternative of a block with the left corner.
   alternative-of : {B : Type 0} (f : B → Shape) (bs : List B) {n : ℕ} → Corner textbook G (alts (map f bs)) n

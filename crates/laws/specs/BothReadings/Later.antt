@@ -3,13 +3,13 @@
 use Prim.Native.Nat.{ℕ}
 use mathlib.Core.Path.{_≡_, refl, sym, ap, _∙_, subst, subst₂}
 use mathlib.Core.Logic.{_⊎_, inl, inr, ⊎-elim}
-use mathlib.Core.List.{List, [], _∷_, _++_, List·Memᴰ}
+use mathlib.Core.List.{List, _∷_, _++_, List·Memᴰ}
 use mathlib.Core.Bool.{true}
 use Rattle.grammar.specs.Lists.{member}
 use Rattle.grammar.specs.Tree.{Alternative, Rule, bodyDepth, Sheet}
 use Rattle.grammar.specs.Corners.{rust, textbook}
 use Rattle.language.specs.Shape.{Shapes, eraseRules}
-use Rattle.language.specs.Derive.{RuleDerives}
+use Rattle.language.specs.Derive.{RuleCanBeEmpty}
 use Rattle.language.specs.LeftCorners.{Corner, Leads, Reaches, r-last, r-more}
 use Rattle.language.specs.Cycles.{LeftCorner, RuleReaches}
 use Rattle.language.specs.Laws.Corner.{reaches-trans}
@@ -136,7 +136,7 @@ module _ (limits : Limits) (preserved : List ℕ) {t : Stage} (told : Told (t .b
   pub later-past : LaterPastSymbols t rest
   later-past = record { led = found }
     where
-      found : (RuleDerives bodyDepth (t .after .node) (t .plan .hub) [] → ⊥) → (cycle : List ℕ)
+      found : (RuleCanBeEmpty bodyDepth (t .after .node) (t .plan .hub) → ⊥) → (cycle : List ℕ)
           → List·Memᴰ cycle (leftCornerCycles textbook (grammarOf bodyDepth rest) bodyDepth rest) → member (t .plan .hub) cycle ≡ true
           → LedPastSymbol rest cycle
       found full cycle m y =
@@ -160,7 +160,7 @@ module _ (limits : Limits) (preserved : List ℕ) {t : Stage} (told : Told (t .b
           (λ p. led rest known cycle m (a .source) (a .source-there) hub p back)
           (reaches-either rest (a .path))
         where
-          alone : (RuleDerives bodyDepth (t .after .node) (t .plan .hub) [] → ⊥)
+          alone : (RuleCanBeEmpty bodyDepth (t .after .node) (t .plan .hub) → ⊥)
               → {j : ℕ} (a : RuleReaches textbook bodyDepth rest (t .plan .hub) j)
               → Reaches rust (eraseRules bodyDepth rest) (a .source .name) (a .goal .name)
               → Reaches rust (eraseRules bodyDepth rest) (a .goal .name) (a .source .name) → j ≡ t .plan .hub

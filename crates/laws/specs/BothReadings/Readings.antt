@@ -6,9 +6,9 @@ use mathlib.Core.List.{List, [], _∷_, _++_, List·Memᴰ, List·Memᴰ·head, 
 use mathlib.Core.Option.{Option, none, some, Option·none-ne-some}
 use mathlib.Core.Bool.{true, false≢true}
 use Rattle.grammar.specs.Lists.{AllOf, AnyOf}
-use Rattle.grammar.specs.Tree.{Leaf, epsilon, action, predicate, call, token, terminal, Element, leaf, block, AlternativeOf, Block, Rule}
-use Rattle.grammar.specs.Tree.{bodyDepth, Sheet}
-use Rattle.language.specs.Shape.{Shape, callOf, eraseLeaf, eraseElement, eraseBlock, Shapes, find, eraseRules}
+use Rattle.grammar.specs.Tree.{Leaf, epsilon, action, predicate, call, token, terminal, endOfInput, Element, leaf, block, AlternativeOf}
+use Rattle.grammar.specs.Tree.{Block, Rule, bodyDepth, Sheet}
+use Rattle.language.specs.Shape.{Shape, callOf, eraseLeaf, eraseElement, eraseBlock, Shapes, find, eraseRules, isMark}
 use Rattle.language.specs.Derive.{CanBeEmpty}
 use Rattle.grammar.specs.Corners.{Corners, rust, textbook}
 use Rattle.language.specs.LeftCorners.{isMissing, isSymbol, stops, Skippable, Corner, c-call, c-first, c-later, c-left, c-right, IsSymbol}
@@ -36,7 +36,7 @@ no-left-corner rules cycle es n =
 module _ (G : Shapes) where
   -- Where the Rust stops stands a symbol.
   leaf-symbol : (c : ℕ) (l : Leaf) → isSymbol G (eraseLeaf c l) ≡ true → IsSymbol G l
-  unfolding isSymbol eraseLeaf
+  unfolding isSymbol eraseLeaf isMark
   leaf-symbol c epsilon t = absurd (false≢true t)
   leaf-symbol c (action a) t = absurd (false≢true t)
   leaf-symbol c (predicate p) t = absurd (false≢true t)
@@ -47,11 +47,12 @@ module _ (G : Shapes) where
       missing (some b) t = absurd (false≢true t)
   leaf-symbol c (token n) t = is-token
   leaf-symbol c terminal t = is-terminal
+  leaf-symbol c endOfInput t = absurd (false≢true t)
 
   symbol-full : (c : ℕ) (l : Leaf) → IsSymbol G l → CanBeEmpty G (eraseLeaf c l) → ⊥
-  unfolding eraseLeaf
-  symbol-full c (token n) is-token o = symbol-empty _ o
-  symbol-full c terminal is-terminal o = symbol-empty _ o
+  unfolding eraseLeaf isMark
+  symbol-full c (token n) is-token o = false≢true (symbol-empty _ .0 o)
+  symbol-full c terminal is-terminal o = false≢true (symbol-empty _ .0 o)
   symbol-full c (call k) (is-unknown e) o = let (b, f, _) = call-empty (k .name) .0 o in Option·none-ne-some b (sym e ∙ f)
 
   block-symbol : (d : ℕ) (b : Block d) → isSymbol G (eraseBlock d b) ≡ true → ⊥

@@ -1,7 +1,6 @@
 -- On sheets without a symbol of quantifier 1 to 4 both readings of left corners give the same run, and the same outcome.
 use Prim.Native.Nat.{ℕ, zero, suc, _+_, _%_, _<_}
 use mathlib.Core.Path.{_≡_, refl, sym, ap, ap₂, _∙_, subst}
-use mathlib.Core.Logic.{⊎-elim}
 use mathlib.Core.List.{List, [], _∷_, map, List·Memᴰ, List·Memᴰ·head, List·Memᴰ·tail}
 use mathlib.Core.Option.{Option, none, some}
 use mathlib.Core.Bool.{Bool, true, false, _&&_, _||_, not, true≢false}
@@ -39,29 +38,29 @@ use Rattle.laws.specs.Planning.Turns.{itemsOf, steps-move}
 use Rattle.laws.specs.Planning.Loop.{substituted}
 use Rattle.laws.specs.Planning.Substituted.{Known}
 use Rattle.laws.specs.Planning.Plans.{Made}
-use Rattle.laws.specs.Planning.OnePlan.{gone, rulesLeft, left-stems, left-closed, left-known}
-use Rattle.laws.specs.BothReadings.Symbols.{OnCall, OnAll, corners-same, left-same, block-both, block-called, moves-on, start-on}
-use Rattle.laws.specs.BothReadings.Symbols.{applied-on}
+use Rattle.laws.specs.Planning.OnePlan.{gone, rulesLeft, left-closed, left-known}
+use Rattle.laws.specs.Planning.Everywhere.{OnAll, moves-on, start-on, left-on}
+use Rattle.laws.specs.BothReadings.Symbols.{OnCall, corners-same, left-same, block-both, block-called, not-optional}
 use Rattle.laws.specs.Running.Stages.{known, valid-told, Happened, stage-made, stage-leaves, Rest, applying, turn, turns-once}
 use Rattle.laws.specs.Running.OneStage.{stage-rules}
 
 -- What is the same of each item is the same of the list.
 module _ {A : Type 0} where
-  map-same : {B : Type 0} (f k : A → B) (as′ : List A) → ((a : A) → List·Memᴰ a as′ → f a ≡ k a) → map f as′ ≡ map k as′
+  pub map-same : {B : Type 0} (f k : A → B) (as′ : List A) → ((a : A) → List·Memᴰ a as′ → f a ≡ k a) → map f as′ ≡ map k as′
   map-same f k [] h = refl
   map-same f k (a ∷ as′) h = ap₂ _∷_ (h a (List·Memᴰ·head refl)) (map-same f k as′ (λ b m. h b (List·Memᴰ·tail m)))
 
-  all-same : (f k : A → Bool) (as′ : List A) → ((a : A) → List·Memᴰ a as′ → f a ≡ k a) → all f as′ ≡ all k as′
+  pub all-same : (f k : A → Bool) (as′ : List A) → ((a : A) → List·Memᴰ a as′ → f a ≡ k a) → all f as′ ≡ all k as′
   unfolding all
   all-same f k [] h = refl
   all-same f k (a ∷ as′) h = ap₂ _&&_ (h a (List·Memᴰ·head refl)) (all-same f k as′ (λ b m. h b (List·Memᴰ·tail m)))
 
-  any-same : (f k : A → Bool) (as′ : List A) → ((a : A) → List·Memᴰ a as′ → f a ≡ k a) → any f as′ ≡ any k as′
+  pub any-same : (f k : A → Bool) (as′ : List A) → ((a : A) → List·Memᴰ a as′ → f a ≡ k a) → any f as′ ≡ any k as′
   unfolding any
   any-same f k [] h = refl
   any-same f k (a ∷ as′) h = ap₂ _||_ (h a (List·Memᴰ·head refl)) (any-same f k as′ (λ b m. h b (List·Memᴰ·tail m)))
 
-then-same : {A B : Type 0} (x : Decided A) (f k : A → Decided B) → ((a : A) → x ≡ decided a → f a ≡ k a) → (x andThen f) ≡ (x andThen k)
+pub then-same : {A B : Type 0} (x : Decided A) (f k : A → Decided B) → ((a : A) → x ≡ decided a → f a ≡ k a) → (x andThen f) ≡ (x andThen k)
 then-same (decided a) f k h = h a refl
 then-same (declined c) f k h = refl
 then-same overfull f k h = refl
@@ -78,7 +77,7 @@ module _ (d : ℕ) (rs : List (RuleOf (Block (suc d)))) (g : Grammar) (G : Shape
       (λ r m. ap (λ t. record { id = r .id; to = t }) (corners-same g G known (suc d) (r .body) (all-on r m))))
 
   -- The test of a planned list.
-  module _ (cycle : List ℕ) (hub : ℕ) (ps : List (Planned d)) (p : OnAll G d (itemsOf d ps)) where
+  module _ (cycle : List ℕ) (hub : ℕ) (ps : List (Planned d)) (p : OnAll (NotOptional G) d (itemsOf d ps)) where
     primary-same : (q : Planned d) → List·Memᴰ q ps
         → isPrimary rust g cycle hub d (q .elements) ≡ isPrimary textbook g cycle hub d (q .elements)
     unfolding isPrimary
@@ -106,7 +105,7 @@ module _ (d : ℕ) (rs : List (RuleOf (Block (suc d)))) (g : Grammar) (G : Shape
           let moves = steps-move d rs g cycle hub (substituted d rs g cycle hub limits fuel (asTheyAre (r .body)) made s) in
           require-same noSteps (not (eqb (made .steps) 0)) _ _
           (ap (λ b. require notDirectlyRewritable b λ _. decided (planOf d rs cycle g preserved hub made))
-          (test-same cycle hub (made .alternatives) (moves-on G all-on moves (start-on G d r (all-on r m)))))
+          (test-same cycle hub (made .alternatives) (moves-on (not-optional G) all-on moves (start-on (not-optional G) d r (all-on r m)))))
 
       substituting-same : substituting limits rust g d rs preserved cycle hub r ≡ substituting limits textbook g d rs preserved cycle hub r
       substituting-same =
@@ -149,16 +148,9 @@ module _ {c : Corners} {d : ℕ} {rs : List (RuleOf (Block (suc d)))} {g : Gramm
   still-plain h (call c) p s (is-unknown e) =
       p (is-unknown (missing (find then (c .name)) (find now (c .name)) (left-known k x counters (c .name) s) e))
 
-  left-on : (q : RuleOf (Block (suc d))) → List·Memᴰ q (rulesLeft k x counters) → OnBlock (NotOptional then) (suc d) (q .body)
-  left-on q m =
-      let s = left-stems k x counters m in
-      let new =
-      applied-on now d (plan .alternatives) counters
-      (moves-on now all-on (x .moves) (start-on now d (x .hub) (all-on (x .hub) (x .isRule)))) in
-      let on : OnBlock (NotOptional now) (suc d) (q .body) =
-      ⊎-elim (λ u. subst (OnBlock (NotOptional now) (suc d)) (sym (u .1)) new)
-      (λ u. subst (λ r. OnBlock (NotOptional now) (suc d) (r .body)) (sym (u .1)) (all-on (s .rule) (s .isRule))) (s .body) in
-      block-both still-plain (suc d) (q .body) on
+  left-plain : (q : RuleOf (Block (suc d))) → List·Memᴰ q (rulesLeft k x counters) → OnBlock (NotOptional then) (suc d) (q .body)
+  left-plain q m =
+      block-both still-plain (suc d) (q .body) (left-on (not-optional now) k x counters all-on q m)
       (block-called (λ n. gone k x counters n ≡ false) (suc d) (q .body) (left-closed k x counters m))
 
 -- The run.
@@ -188,7 +180,7 @@ module _ (limits : Limits) (preserved : List ℕ) where
       → NoOptionalSymbol (t .after .node)
   stage-plain {t} k h p =
       subst NoOptionalSymbol (stage-rules limits rust preserved k h)
-      (record { everywhere = left-on (known (t .before) k) (stage-made limits rust preserved h) (h .counters) (p .everywhere) })
+      (record { everywhere = left-plain (known (t .before) k) (stage-made limits rust preserved h) (h .counters) (p .everywhere) })
 
   pub run-same : (kind turns : ℕ) (rs : List Rule) → Told rs → NoOptionalSymbol rs → (c : Counters) (recorded : ℕ)
       → eliminateInUnit limits rust kind preserved turns rs c recorded ≡ eliminateInUnit limits textbook kind preserved turns rs c recorded

@@ -11,7 +11,8 @@ use Rattle.grammar.specs.Valid.{valid}
 use Rattle.grammar.specs.Numbers.{once, optionalGreedy}
 use Rattle.grammar.specs.Tree.{token, Rule, bodyDepth}
 use Rattle.language.specs.Shape.{quantified, eraseLeaf, eraseElement, eraseBlock, find, eraseRules}
-use Rattle.language.specs.Derive.{d-eps, d-seq, d-left, d-right, d-absent, RuleDerives}
+use Rattle.language.specs.Derive.{d-eps, d-seq, d-left, d-right, d-absent, RuleCanBeEmpty}
+use Rattle.language.specs.Laws.Empty.{nothing}
 use Rattle.grammar.specs.Corners.{Corners, rust, textbook}
 use Rattle.language.specs.Cycles.{LeftCorner, called}
 use Rattle.reference.specs.Analysis.{grammarOf, leftCornerCycles}
@@ -35,7 +36,7 @@ sheets-valid = (refl, refl)
 
 parted-corner : LeftCorner (eraseRules bodyDepth parted) innerDepth behindName 1
 unfolding eraseElement eraseLeaf quantified find
-parted-corner = called (element 29 optionalGreedy (token 5) ∷ []) (element 31 once (token 6) ∷ []) _ _ refl (d-absent, tt) refl
+parted-corner = called (element 29 optionalGreedy (token 5) ∷ []) (element 31 once (token 6) ∷ []) _ _ refl (nothing d-absent, tt) refl
 
 no-shape : JoinedShape (NoLeftCorner parted (1 ∷ 2 ∷ [])) parted 1 → ⊥
 unfolding Lists.member
@@ -67,9 +68,14 @@ no-more-of-rust =
       byTextbook = refl;
     }
 
-returned-empty : RuleDerives bodyDepth returned 1 []
-unfolding eraseElement eraseLeaf quantified find eraseBlock
-returned-empty = record { body = _; found = refl; tree = d-right (d-left (d-seq refl d-absent d-eps)) }
+returned-empty : RuleCanBeEmpty bodyDepth returned 1
+unfolding eraseElement eraseLeaf quantified find eraseBlock Lists.all
+returned-empty =
+    record {
+      word = [];
+      marks = refl;
+      derives = record { body = _; found = refl; tree = d-right (d-left (d-seq refl d-absent d-eps)) };
+    }
 
 abbrev cyclesOf : Corners → List Rule → List (List ℕ)
 cyclesOf corners rules = leftCornerCycles corners (grammarOf bodyDepth rules) bodyDepth rules

@@ -1,32 +1,25 @@
 -- Grammars without a symbol of quantifier 1 to 4: the two readings list the same left corners, and a plan leaves no such symbol.
 use Prim.Native.Nat.{ℕ, zero, suc}
-use mathlib.Core.Path.{_≡_, refl, sym, ap, ap₂, _∙_, subst}
-use mathlib.Core.Logic.{⊎-elim}
-use mathlib.Core.List.{List, [], _∷_, _++_, map, List·Memᴰ, List·Memᴰ·head, List·Memᴰ·tail, List·Memᴰ·cases-cons, List·Memᴰ·append-cases}
-use mathlib.Core.List.{List·Memᴰ·eq-of-singleton, Memᴰ·of-map}
+use mathlib.Core.Path.{_≡_, refl, ap, ap₂, _∙_}
+use mathlib.Core.List.{List, [], _∷_, _++_}
 use mathlib.Core.Option.{Option, none, some}
 use mathlib.Core.Bool.{Bool, true, false, _&&_, not, false≢true}
-use Rattle.grammar.specs.Laws.Lists.{in-map}
 use Rattle.grammar.specs.Lists.{AllOf}
-use Rattle.grammar.specs.Tree.{ElementHead, Leaf, epsilon, action, predicate, call, token, terminal, leaf, block, AlternativeOf, Block}
-use Rattle.grammar.specs.Tree.{RuleOf, Counters}
+use Rattle.grammar.specs.Tree.{ElementHead, Leaf, epsilon, action, predicate, call, token, terminal, endOfInput, leaf, block, Block}
 use Rattle.language.specs.Shape.{Shape, eraseLeaf, eraseElement, eraseBlock, Shapes, find, EachCall, OnElement, OnBlock}
 use Rattle.grammar.specs.Corners.{rust, textbook}
 use Rattle.language.specs.LeftCorners.{isMissing, IsSymbol, is-token, is-terminal, is-unknown}
 use Rattle.grammar.specs.Laws.Parse.{either}
-use Rattle.language.specs.Laws.Copies.{Change, changeElement, changeAlternative, changeBlock, dropIds, dropLeafId}
-use Rattle.reference.specs.Walks.{sortOf}
+use Rattle.language.specs.Laws.Copies.{dropLeafId}
+use Rattle.reference.specs.Walks.{sortOf, isEnd}
 use Rattle.reference.specs.Analysis.{Grammar, target, calls, leafNullable, elementNullable, blockIsNullable, isStop, collectLeftCornerCalls}
 use Rattle.reference.specs.Analysis.{blockCorners, leftCorners}
-use Rattle.reference.specs.Substitute.{plainHead, Planned}
-use Rattle.reference.specs.Plan.{asTheyAre}
-use Rattle.reference.specs.Apply.{freshEach, applyAlternative}
 use Rattle.laws.specs.Demands.Shape.{NotOptional}
 use Rattle.laws.specs.Analysis.Names.{isUnknown}
-use Rattle.laws.specs.Planning.Turns.{Items, itemsOf, as-they-were, Turn, split, splice, Moved, here, later, Moves, still, onward}
+use Rattle.laws.specs.Planning.Turns.{Items}
 use Rattle.laws.specs.Planning.Substituted.{shapeOf}
 use Rattle.laws.specs.Planning.Calls.{unquantified}
-use Rattle.laws.specs.Planning.Renumber.{idless, applied-copies}
+use Rattle.laws.specs.Planning.Everywhere.{Copied}
 
 -- Left corners by either reading.
 module _ (g : Grammar) (G : Shapes) (known : (n : ℕ) → isMissing (find G n) ≡ isUnknown (target g n)) where
@@ -36,7 +29,7 @@ module _ (g : Grammar) (G : Shapes) (known : (n : ℕ) → isMissing (find G n) 
 
   -- Where the Rust stops stands a symbol, and its leaf is not nullable.
   stop-symbol : (l : Leaf) → isStop rust g l ≡ true → IsSymbol G l × (leafNullable g l ≡ false)
-  unfolding isStop sortOf leafNullable
+  unfolding isStop sortOf leafNullable isEnd
   stop-symbol epsilon t = absurd (false≢true t)
   stop-symbol (action a) t = absurd (false≢true t)
   stop-symbol (predicate p) t = absurd (false≢true t)
@@ -49,6 +42,7 @@ module _ (g : Grammar) (G : Shapes) (known : (n : ℕ) → isMissing (find G n) 
       go (some i) k t = absurd (false≢true t)
   stop-symbol (token n) t = (is-token, refl)
   stop-symbol terminal t = (is-terminal, refl)
+  stop-symbol endOfInput t = absurd (false≢true t)
 
   module _ (d : ℕ) (same : (b : Block d) → OnBlock (NotOptional G) d b → blockCorners rust g d b ≡ blockCorners textbook g d b) where
     goes-on : (h : ElementHead) (l : Leaf) → NotOptional G h l
@@ -104,6 +98,7 @@ OnCall Q h (predicate p) = Unit {0}
 OnCall Q h (call c) = Q (c .name)
 OnCall Q h (token n) = Unit {0}
 OnCall Q h terminal = Unit {0}
+OnCall Q h endOfInput = Unit {0}
 
 module _ (Q : ℕ → Type 0) where
   leaf-called : (h : ElementHead) (l : Leaf) → EachCall Q (eraseLeaf (h .carried) l) → OnCall Q h l
@@ -114,6 +109,7 @@ module _ (Q : ℕ → Type 0) where
   leaf-called h (call c) p = p
   leaf-called h (token n) p = tt
   leaf-called h terminal p = tt
+  leaf-called h endOfInput p = tt
 
   elements-called : (d : ℕ) → ((b : Block d) → EachCall Q (eraseBlock d b) → OnBlock (OnCall Q) d b) → (es : Items d)
       → EachCall Q (shapeOf d es)
@@ -130,42 +126,6 @@ module _ (Q : ℕ → Type 0) where
   block-called (suc d) [] p = tt
   block-called (suc d) (a ∷ as′) p = (elements-called d (block-called d) (a .elements) (p .0), block-called (suc d) as′ (p .1))
 
--- Copies with other ids.
-module _ (P : ElementHead → Leaf → Type 0) (f : Change) where
-  -- The change does not touch the property, either way.
-  elements-changed : ((h : ElementHead) (l : Leaf) → P h l → P (f .onHead h) (f .onLeaf l)) → (d : ℕ)
-      → ((b : Block d) → OnBlock P d b → OnBlock P d (changeBlock f d b))
-      → (es : Items d) → AllOf (OnElement P (OnBlock P d)) es
-      → AllOf (OnElement P (OnBlock P d)) (map (changeElement f (changeBlock f d)) es)
-  unfolding changeElement
-  elements-changed k d g [] p = tt
-  elements-changed k d g (leaf h l ∷ es) p = (k h l (p .0), elements-changed k d g es (p .1))
-  elements-changed k d g (block h b ∷ es) p = (g b (p .0), elements-changed k d g es (p .1))
-
-  pub block-changed : ((h : ElementHead) (l : Leaf) → P h l → P (f .onHead h) (f .onLeaf l)) → (d : ℕ) (b : Block d) → OnBlock P d b
-      → OnBlock P d (changeBlock f d b)
-  unfolding OnBlock changeBlock changeAlternative
-  block-changed k zero b p = tt
-  block-changed k (suc d) [] p = tt
-  block-changed k (suc d) (a ∷ as′) p = (elements-changed k d (block-changed k d) (a .elements) (p .0), block-changed k (suc d) as′ (p .1))
-
-  elements-unchanged : ((h : ElementHead) (l : Leaf) → P (f .onHead h) (f .onLeaf l) → P h l) → (d : ℕ)
-      → ((b : Block d) → OnBlock P d (changeBlock f d b) → OnBlock P d b)
-      → (es : Items d) → AllOf (OnElement P (OnBlock P d)) (map (changeElement f (changeBlock f d)) es)
-      → AllOf (OnElement P (OnBlock P d)) es
-  unfolding changeElement
-  elements-unchanged k d g [] p = tt
-  elements-unchanged k d g (leaf h l ∷ es) p = (k h l (p .0), elements-unchanged k d g es (p .1))
-  elements-unchanged k d g (block h b ∷ es) p = (g b (p .0), elements-unchanged k d g es (p .1))
-
-  pub block-unchanged : ((h : ElementHead) (l : Leaf) → P (f .onHead h) (f .onLeaf l) → P h l) → (d : ℕ) (b : Block d)
-      → OnBlock P d (changeBlock f d b) → OnBlock P d b
-  unfolding OnBlock changeBlock changeAlternative
-  block-unchanged k zero b p = tt
-  block-unchanged k (suc d) [] p = tt
-  block-unchanged k (suc d) (a ∷ as′) p =
-      (elements-unchanged k d (block-unchanged k d) (a .elements) (p .0), block-unchanged k (suc d) as′ (p .1))
-
 module _ (G : Shapes) where
   symbol-dropped : (l : Leaf) → IsSymbol G l → IsSymbol G (dropLeafId l)
   symbol-dropped (token n) is-token = is-token
@@ -179,84 +139,12 @@ module _ (G : Shapes) where
   dropped-symbol (call c) (is-unknown e) = is-unknown e
   dropped-symbol (token n) s = is-token
   dropped-symbol terminal s = is-terminal
+  dropped-symbol endOfInput s = elim s [ ]
 
-  abbrev On : (d : ℕ) → Items d → Type 0
-  On d = AllOf (OnElement (NotOptional G) (OnBlock (NotOptional G) d))
-
-  -- What a list of elements has, its copies have.
-  copy-on : (d : ℕ) (es fs : Items d) → idless d es ≡ idless d fs → On d fs → On d es
-  copy-on d es fs e p =
-      let gone =
-      elements-changed (NotOptional G) dropIds (λ h l q s. q (dropped-symbol l s)) d
-      (block-changed (NotOptional G) dropIds (λ h l q s. q (dropped-symbol l s)) d) fs p in
-      elements-unchanged (NotOptional G) dropIds (λ h l q s. q (symbol-dropped l s)) d
-      (block-unchanged (NotOptional G) dropIds (λ h l q s. q (symbol-dropped l s)) d) es (subst (On d) (sym e) gone)
-
-  on-cut : (d : ℕ) (α β : Items d) → On d (α ++ β) → On d α × On d β
-  on-cut d [] β p = (tt, p)
-  on-cut d (e ∷ α) β p = let r = on-cut d α β (p .1) in ((p .0, r .0), r .1)
-
-  on-join : (d : ℕ) (α β : Items d) → On d α → On d β → On d (α ++ β)
-  on-join d [] β p q = q
-  on-join d (e ∷ α) β p q = (p .0, on-join d α β (p .1) q)
-
-  -- Of lists of alternatives.
-  abbrev pub OnAll : (d : ℕ) → List (Items d) → Type 0
-  OnAll d ps = (es : Items d) → List·Memᴰ es ps → On d es
-
-  pub body-on : (d : ℕ) (as′ : Block (suc d)) → OnBlock (NotOptional G) (suc d) as′ → {a : AlternativeOf (Block d)} → List·Memᴰ a as′
-      → On d (a .elements)
-  unfolding OnBlock
-  body-on d as′ p (List·Memᴰ·head {xs = xs} e) = subst (λ a. On d (a .elements)) (sym e) (p .0)
-  body-on d as′ p (List·Memᴰ·tail {xs = xs} m) = body-on d xs (p .1) m
-
-  pub on-body : (d : ℕ) (as′ : Block (suc d)) → ((a : AlternativeOf (Block d)) → List·Memᴰ a as′ → On d (a .elements))
-      → OnBlock (NotOptional G) (suc d) as′
-  unfolding OnBlock
-  on-body d [] h = tt
-  on-body d (a ∷ as′) h = (h a (List·Memᴰ·head refl), on-body d as′ (λ b m. h b (List·Memᴰ·tail m)))
-
-  module _ {d : ℕ} {rs : List (RuleOf (Block (suc d)))}
-      (all-on : (r : RuleOf (Block (suc d))) → List·Memᴰ r rs → OnBlock (NotOptional G) (suc d) (r .body))
-      {g : Grammar} {cycle : List ℕ} {hub : ℕ} where
-    turn-on : {es : Items d} {news : List (Items d)} → Turn d rs g cycle hub es news → On d es → OnAll d news
-    turn-on (split x q) p fs m =
-        let c = on-cut d (x .front) (leaf (x .head) (call (x .site)) ∷ x .rest) (subst (On d) (sym (x .whole)) p) in
-        ⊎-elim
-        (λ e. subst (On d) (sym e) (on-join d (x .front) (leaf (plainHead (x .head)) (call (x .site)) ∷ x .rest) (c .0)
-        (λ s. refl, c .1 .1)))
-        (λ n. subst (On d) (sym (List·Memᴰ·eq-of-singleton n)) (on-join d (x .front) (x .rest) (c .0) (c .1 .1)))
-        (List·Memᴰ·cases-cons m)
-    turn-on (splice x q ne r i e) p fs m =
-        let c = on-cut d (x .front) (leaf (x .head) (call (x .site)) ∷ x .rest) (subst (On d) (sym (x .whole)) p) in
-        let (a, n, w) = Memᴰ·of-map (λ s. x .front ++ (s .elements ++ x .rest)) (r .body) m in
-        subst (On d) w
-        (on-join d (x .front) (a .elements ++ x .rest) (c .0)
-        (on-join d (a .elements) (x .rest) (body-on d (r .body) (all-on r i) n) (c .1 .1)))
-
-    moved-on : {ps qs : List (Items d)} → Moved d rs g cycle hub ps qs → OnAll d ps → OnAll d qs
-    moved-on (here {es = es} {news = news} t) p fs m =
-        ⊎-elim (turn-on t (p es (List·Memᴰ·head refl)) fs) (λ n. p fs (List·Memᴰ·tail n)) (List·Memᴰ·append-cases news m)
-    moved-on (later x) p fs m =
-        ⊎-elim (λ e. p fs (List·Memᴰ·head e)) (λ n. moved-on x (λ es k. p es (List·Memᴰ·tail k)) fs n) (List·Memᴰ·cases-cons m)
-
-    pub moves-on : {ps qs : List (Items d)} {n : ℕ} → Moves d rs g cycle hub ps n qs → OnAll d ps → OnAll d qs
-    moves-on still p = p
-    moves-on (onward x y) p = moves-on y (moved-on x p)
-
-  pub start-on : (d : ℕ) (r : RuleOf (Block (suc d))) → OnBlock (NotOptional G) (suc d) (r .body)
-      → OnAll d (itemsOf d (asTheyAre (r .body)))
-  start-on d r p es n =
-      let (a, k, e) = as-they-were d (r .body) n in
-      subst (On d) e (body-on d (r .body) p k)
-
-  -- A planned list, applied.
-  pub applied-on : (d : ℕ) (ps : List (Planned d)) (c : Counters) → OnAll d (itemsOf d ps)
-      → OnBlock (NotOptional G) (suc d) (freshEach (applyAlternative d) ps c .node)
-  applied-on d ps c p =
-      on-body d (freshEach (applyAlternative d) ps c .node)
-      (λ a m.
-      let (q, n, e) =
-      Memᴰ·of-map (λ p. idless d (p .elements)) ps
-      (subst (List·Memᴰ (idless d (a .elements))) (applied-copies d ps c) (in-map (λ a. idless d (a .elements)) m)) in
-      copy-on d (a .elements) (q .elements) (sym e) (p (q .elements) (in-map (λ p. p .elements) n)))
+  pub not-optional : Copied (NotOptional G)
+  not-optional =
+      record {
+        dropped = λ h l q s. q (dropped-symbol l s);
+        undropped = λ h l q s. q (symbol-dropped l s);
+        plain = λ h k s. refl;
+      }

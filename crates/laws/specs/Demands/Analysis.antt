@@ -7,16 +7,16 @@ use mathlib.Core.Bool.{true}
 use Rattle.grammar.specs.Lists.{member, all, rising}
 use Rattle.grammar.specs.Tree.{Element, Block, RuleOf}
 use Rattle.language.specs.Shape.{eraseElement, eraseElements, eraseBlock, Shapes, eraseRules}
-use Rattle.language.specs.Derive.{CanBeEmpty, RuleDerives}
+use Rattle.language.specs.Derive.{CanBeEmpty, RuleCanBeEmpty}
 use Rattle.grammar.specs.Corners.{Corners, textbook}
 use Rattle.language.specs.LeftCorners.{Corner}
 use Rattle.language.specs.Cycles.{LeftCorner, CornerRule, RuleReaches, IsLargest}
 use Rattle.reference.specs.Analysis.{elementNullable, blockIsNullable, nullableRules}
 use Rattle.reference.specs.Analysis.{grammarOf, leftCorners, blockCorners, leftCornerCycles}
 
--- 1. Nullable is what derives the empty string (SPECIFICATION 1.12 and 13.9): the definition's tests, in the grammar of some rules.
+-- 1. Nullable is what can be empty (SPECIFICATION 1.12 and 13.9): the definition's tests, in the grammar of some rules.
 pub record EmptyDerivation (d : ℕ) (rs : List (RuleOf (Block d))) : Type 0 where
-  pub ofRule : (i : ℕ) → (member i (nullableRules d rs) ≡ true) ↔ RuleDerives d rs i []
+  pub ofRule : (i : ℕ) → (member i (nullableRules d rs) ≡ true) ↔ RuleCanBeEmpty d rs i
   pub ofElement : (k : ℕ) (e : Element (Block k))
       → (elementNullable (grammarOf d rs) (blockIsNullable (grammarOf d rs) k) e ≡ true)
       ↔ CanBeEmpty (eraseRules d rs) (eraseElement (eraseBlock k) e)

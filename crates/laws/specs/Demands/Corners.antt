@@ -10,23 +10,29 @@ use Rattle.grammar.specs.Lists.{all, member}
 use Rattle.grammar.specs.Tree.{ElementHead, Call, call, token, terminal, Element, leaf, block, AlternativeOf, Block, RuleOf}
 use Rattle.grammar.specs.Valid.{okElement, okBlock}
 use Rattle.grammar.specs.Corners.{Corners, rust, textbook}
-use Rattle.language.specs.Shape.{eraseRules}
+use Rattle.language.specs.Shape.{Symbol, endSymbol, Word, eraseRules}
 use Rattle.language.specs.Cycles.{LeftCorner, RuleReaches}
 use Rattle.reference.specs.Analysis.{grammarOf, leftCorners}
 use Rattle.laws.specs.Demands.Derivation.{element, Derives}
 
 module _ (d : ℕ) (rs : List (RuleOf (Block (suc d)))) where
-  -- A symbol (SPECIFICATION 13.2), with any quantifier.
+  -- A token, an element of kind 5 or an unknown call (SPECIFICATION 14.1), with any quantifier. End of input is none of them.
   pub data SymbolAt : (k : ℕ) → Element (Block k) → Type 0 where
     token-at : {k : ℕ} {h : ElementHead} {n : ℕ} → SymbolAt k (leaf h (token n))
     terminal-at : {k : ℕ} {h : ElementHead} → SymbolAt k (leaf h terminal)
     unknown-at : {k : ℕ} {h : ElementHead} {c : Call} → ((r : RuleOf (Block (suc d))) → List·Memᴰ r rs → r .name ≡ c .name → ⊥)
         → SymbolAt k (leaf h (call c))
 
-  -- What left corners are sought behind: what can be empty, and by the Rust's reading is no symbol.
+  -- What can be empty (SPECIFICATION 13.9): it derives a string in which each symbol is the end mark.
+  pub record Empties (k : ℕ) (e : Element (Block k)) : Type 0 where
+    pub word : Word
+    pub marks : (a : Symbol) → List·Memᴰ a word → a ≡ endSymbol
+    pub derived : Derives d rs (element k e) word
+
+  -- What left corners are sought behind: what can be empty, and by the Rust's reading is no such symbol.
   abbrev pub Past : Corners → (k : ℕ) → Element (Block k) → Type 0
-  Past textbook k e = Derives d rs (element k e) []
-  Past rust k e = Derives d rs (element k e) [] × (SymbolAt k e → ⊥)
+  Past textbook k e = Empties k e
+  Past rust k e = Empties k e × (SymbolAt k e → ⊥)
 
   -- The rule called there, by its name, or a left corner of an alternative of the block there.
   pub data CornerTold (c : Corners) (n : ℕ) : (k : ℕ) → List (Element (Block k)) → Type 0 where

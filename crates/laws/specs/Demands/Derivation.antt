@@ -7,21 +7,24 @@ use mathlib.Core.List.{List, [], _∷_, _++_, List·Memᴰ}
 use mathlib.Core.Bool.{true}
 use Rattle.grammar.specs.Lists.{all}
 use Rattle.grammar.specs.Tree.{ElementHead, Action, Predicate, Call, Element, leaf, block, epsilon, action, predicate, call, token}
-use Rattle.grammar.specs.Tree.{terminal, AlternativeOf, Block, RuleOf}
+use Rattle.grammar.specs.Tree.{terminal, endOfInput, AlternativeOf, Block, RuleOf}
 use Rattle.grammar.specs.Valid.{okElement, okBlock}
-use Rattle.language.specs.Shape.{Symbol, tokenSymbol, unknownSymbol, otherSymbol, Word, eraseElement, eraseElements, eraseBlock}
+use Rattle.language.specs.Shape.{Symbol, tokenSymbol, unknownSymbol, otherSymbol, endSymbol, Word, eraseElement, eraseElements, eraseBlock}
 use Rattle.language.specs.Shape.{eraseRules}
 use Rattle.language.specs.Derive.{Der, RuleDerives}
 
--- 13.2. The symbols are of three sorts, and two are equal that are of one sort and have one number.
+-- 13.2. The symbols are the end mark and those of three sorts; of these two are equal that are of one sort and have one number.
 pub record SymbolsTold : Type 0 where
-  pub sorts : (a : Symbol) → (n : ℕ) × ((a ≡ tokenSymbol n) ⊎ ((a ≡ unknownSymbol n) ⊎ (a ≡ otherSymbol n)))
+  pub sorts : (a : Symbol) → (a ≡ endSymbol) ⊎ ((n : ℕ) × ((a ≡ tokenSymbol n) ⊎ ((a ≡ unknownSymbol n) ⊎ (a ≡ otherSymbol n))))
   pub tokens : (n m : ℕ) → (tokenSymbol n ≡ tokenSymbol m) ↔ (n ≡ m)
   pub unknowns : (n m : ℕ) → (unknownSymbol n ≡ unknownSymbol m) ↔ (n ≡ m)
   pub others : (n m : ℕ) → (otherSymbol n ≡ otherSymbol m) ↔ (n ≡ m)
   pub tokenIsNoUnknown : (n m : ℕ) → tokenSymbol n ≡ unknownSymbol m → ⊥
   pub tokenIsNoOther : (n m : ℕ) → tokenSymbol n ≡ otherSymbol m → ⊥
   pub unknownIsNoOther : (n m : ℕ) → unknownSymbol n ≡ otherSymbol m → ⊥
+  pub tokenIsNoEnd : (n : ℕ) → tokenSymbol n ≡ endSymbol → ⊥
+  pub unknownIsNoEnd : (n : ℕ) → unknownSymbol n ≡ endSymbol → ⊥
+  pub otherIsNoEnd : (n : ℕ) → otherSymbol n ≡ endSymbol → ⊥
 
 -- 13.6. A quantifier lets an element be taken n times.
 pub data Often (quantifier n : ℕ) : Type 0 where
@@ -74,6 +77,8 @@ module _ (d : ℕ) (rs : List (RuleOf (Block (suc d)))) where
     -- Kind 4: the token of its name. Kind 5: the symbol of the element's carried number.
     of-token : {k : ℕ} {h : ElementHead} {n : ℕ} → Derives (once k (leaf h (token n))) (tokenSymbol n ∷ [])
     of-terminal : {k : ℕ} {h : ElementHead} → Derives (once k (leaf h terminal)) (otherSymbol (h .carried) ∷ [])
+    -- Kind 7: the end mark, whatever number is carried.
+    of-end : {k : ℕ} {h : ElementHead} → Derives (once k (leaf h endOfInput)) (endSymbol ∷ [])
     -- Kind 6: the strings of its alternatives.
     of-block : {k : ℕ} {h : ElementHead} {b : Block (suc k)} {w : Word} → Derives (choice k b) w → Derives (once (suc k) (block h b)) w
 
@@ -110,6 +115,7 @@ module _ (d : ℕ) (rs : List (RuleOf (Block (suc d)))) where
         ⊎ (((r : RuleOf (Block (suc d))) → List·Memᴰ r rs → r .name ≡ c .name → ⊥) × (w ≡ unknownSymbol (c .name) ∷ [])))
     pub ofToken : (k : ℕ) (h : ElementHead) (n : ℕ) (w : Word) → Derives (once k (leaf h (token n))) w ↔ (w ≡ tokenSymbol n ∷ [])
     pub ofTerminal : (k : ℕ) (h : ElementHead) (w : Word) → Derives (once k (leaf h terminal)) w ↔ (w ≡ otherSymbol (h .carried) ∷ [])
+    pub ofEnd : (k : ℕ) (h : ElementHead) (w : Word) → Derives (once k (leaf h endOfInput)) w ↔ (w ≡ endSymbol ∷ [])
     pub ofBlock : (k : ℕ) (h : ElementHead) (b : Block (suc k)) (w : Word)
         → Derives (once (suc k) (block h b)) w ↔ Derives (choice k b) w
 

@@ -1,5 +1,5 @@
 -- Two sheets on which more cannot be had (SPECIFICATION 14.2 and 13.16), one whose readings are told one by one (13.18), what would be
--- too little to say of readings, and one whose names and carried numbers are changed (18).
+-- too little to say of readings, one whose names and carried numbers are changed (18), and some with end of input (15.15 to 15.19).
 use Prim.Native.Nat.{ℕ, suc, _+_, _≤_}
 use mathlib.Core.Path.{_≡_}
 use mathlib.Core.Logic.{_⊎_}
@@ -8,21 +8,23 @@ use mathlib.Core.List.{List, [], _∷_, map, List·Memᴰ}
 use mathlib.Core.Bool.{true, false}
 use lib.ListN.{length}
 use Rattle.grammar.specs.Lists.{member}
-use Rattle.grammar.specs.Tree.{bodyDepth, Rule}
+use Rattle.grammar.specs.Numbers.{once, oneOrMoreGreedy}
+use Rattle.grammar.specs.Tree.{terminal, endOfInput, bodyDepth, Rule, Sheet}
 use Rattle.grammar.specs.Encode.{encode}
 use Rattle.grammar.specs.Valid.{valid}
-use Rattle.language.specs.Shape.{tokenSymbol, Word, Shape, Shapes, eraseRules}
-use Rattle.language.specs.Derive.{Der, RuleDerives}
+use Rattle.language.specs.Shape.{tokenSymbol, Word, Shape, Shapes, eraseLeaf, eraseRules}
+use Rattle.language.specs.Derive.{Der, RuleDerives, RuleCanBeEmpty}
 use Rattle.language.specs.Readings.{Tree, t-eps, t-symbol, t-call, t-unknown, t-seq, t-left, t-right, t-absent, t-present, t-none}
 use Rattle.language.specs.Readings.{t-more, t-some, yield, Choice, first, next, absent, present, enough, again, choices, treeOf}
 use Rattle.grammar.specs.Corners.{Corners, rust, textbook}
 use Rattle.language.specs.Cycles.{LeftCorner}
-use Rattle.reference.specs.Analysis.{grammarOf, leftCornerCycles}
-use Rattle.reference.specs.Substitute.{standard}
+use Rattle.reference.specs.Analysis.{nullableRules, grammarOf, leftCornerCycles}
+use Rattle.reference.specs.Substitute.{Clause, noSteps, notDirectlyRewritable, declined, standard}
 use Rattle.reference.specs.Run.{innerDepth, Stage, ended, eliminateMutualLeftRecursion, answer}
 use Rattle.laws.specs.Examples.{parting, behindName, parted, returning, returned, everySort, doublingHub, doubling, doubled, merged}
-use Rattle.laws.specs.Examples.{single, rowTwice, rowOnce}
-use Rattle.laws.specs.Demands.Shape.{NoLeftCorner, NoCorner, SameReadings, SameStrings}
+use Rattle.laws.specs.Examples.{single, rowTwice, rowOnce, endInFront, endSettled, tailOf, tailJoined, endAlone, aloneJoined}
+use Rattle.laws.specs.Examples.{endBehind, behindJoined, onlyEnd}
+use Rattle.laws.specs.Demands.Shape.{NoLeftCorner, NoCorner, SameReadings, SameStrings, decisionOn}
 use Rattle.laws.specs.Demands.Run.{Demand3, rulesOf}
 use Rattle.laws.specs.Demands.Marks.{onSheet, namesIn}
 
@@ -47,7 +49,7 @@ pub record NullableHubReturns (corners : Corners) : Type 0 where
   pub run : eliminateMutualLeftRecursion standard corners returning ≡ ended stages
   pub answer : rulesOf returning stages ≡ returned
   pub hub : map (λ t. t .plan .hub) stages ≡ 1 ∷ []
-  pub empty : RuleDerives bodyDepth returned 1 []
+  pub empty : RuleCanBeEmpty bodyDepth returned 1
   pub cycle : leftCornerCycles corners (grammarOf bodyDepth returned) bodyDepth returned ≡ (1 ∷ 2 ∷ []) ∷ []
   pub needed : ((t : Stage) → List·Memᴰ t stages → (cycle : List ℕ)
       → List·Memᴰ cycle (leftCornerCycles corners (grammarOf bodyDepth (t .after .node)) bodyDepth (t .after .node))
@@ -60,33 +62,35 @@ pub record MarksShown : Type 0 where
   pub isValid : valid everySort ≡ true
   pub words : encode everySort
       ≡ 1 ∷ 11 ∷ 2 ∷ 1
-      ∷ 5 ∷ 21 ∷ 1 ∷ 1 ∷ 6 ∷ 12 ∷ 31
+      ∷ 5 ∷ 21 ∷ 1 ∷ 1 ∷ 7 ∷ 12 ∷ 31
       ∷ 1 ∷ 22 ∷ 1 ∷ 0 ∷ 0 ∷ 0 ∷ 1 ∷ 1 ∷ 0 ∷ 13
       ∷ 2 ∷ 23 ∷ 2 ∷ 0 ∷ 0 ∷ 0 ∷ 1 ∷ 1 ∷ 2 ∷ 14
       ∷ 3 ∷ 24 ∷ 259 ∷ 4 ∷ 15 ∷ 1 ∷ 16 ∷ 32 ∷ 17 ∷ 33
       ∷ 4 ∷ 25 ∷ 4 ∷ 0 ∷ 0 ∷ 0 ∷ 18
       ∷ 5 ∷ 26 ∷ 5 ∷ 0 ∷ 0 ∷ 0
+      ∷ 8 ∷ 30 ∷ 7 ∷ 0 ∷ 0 ∷ 0
       ∷ 6 ∷ 27 ∷ 6 ∷ 0 ∷ 0 ∷ 0 ∷ 1
       ∷ 6 ∷ 28 ∷ 0 ∷ 1 ∷ 1 ∷ 19 ∷ 34
       ∷ 7 ∷ 29 ∷ 4 ∷ 0 ∷ 0 ∷ 0 ∷ 20
       ∷ 2 ∷ 10 ∷ 0 ∷ 0
       ∷ 2
-      ∷ 2 ∷ 80 ∷ 1 ∷ 7 ∷ 8 ∷ 5 ∷ 2 ∷ 2 ∷ []
+      ∷ 2 ∷ 86 ∷ 1 ∷ 7 ∷ 9 ∷ 5 ∷ 2 ∷ 2 ∷ []
   pub names : namesIn everySort ≡ 11 ∷ 12 ∷ 13 ∷ 14 ∷ 15 ∷ 16 ∷ 17 ∷ 18 ∷ 19 ∷ 20 ∷ 10 ∷ []
   pub changed : encode (onSheet (λ n. n + 100) (λ n. n + 1000) everySort)
       ≡ 1 ∷ 111 ∷ 2 ∷ 1
-      ∷ 5 ∷ 1021 ∷ 1 ∷ 1 ∷ 6 ∷ 112 ∷ 31
+      ∷ 5 ∷ 1021 ∷ 1 ∷ 1 ∷ 7 ∷ 112 ∷ 31
       ∷ 1 ∷ 1022 ∷ 1 ∷ 0 ∷ 0 ∷ 0 ∷ 1 ∷ 1 ∷ 0 ∷ 113
       ∷ 2 ∷ 1023 ∷ 2 ∷ 0 ∷ 0 ∷ 0 ∷ 1 ∷ 1 ∷ 2 ∷ 114
       ∷ 3 ∷ 1024 ∷ 259 ∷ 4 ∷ 115 ∷ 1 ∷ 116 ∷ 32 ∷ 117 ∷ 33
       ∷ 4 ∷ 1025 ∷ 4 ∷ 0 ∷ 0 ∷ 0 ∷ 118
       ∷ 5 ∷ 1026 ∷ 5 ∷ 0 ∷ 0 ∷ 0
+      ∷ 8 ∷ 1030 ∷ 7 ∷ 0 ∷ 0 ∷ 0
       ∷ 6 ∷ 1027 ∷ 6 ∷ 0 ∷ 0 ∷ 0 ∷ 1
       ∷ 6 ∷ 1028 ∷ 0 ∷ 1 ∷ 1 ∷ 119 ∷ 34
       ∷ 7 ∷ 1029 ∷ 4 ∷ 0 ∷ 0 ∷ 0 ∷ 120
       ∷ 2 ∷ 110 ∷ 0 ∷ 0
       ∷ 2
-      ∷ 2 ∷ 80 ∷ 1 ∷ 7 ∷ 8 ∷ 5 ∷ 2 ∷ 2 ∷ []
+      ∷ 2 ∷ 86 ∷ 1 ∷ 7 ∷ 9 ∷ 5 ∷ 2 ∷ 2 ∷ []
 
 -- The string DOTS.
 abbrev pub dots : Word
@@ -168,3 +172,43 @@ pub record TooLittle : Type 0 where
   pub shortOnes : (n : ℕ) (w : Word) → length w ≤ n
       → Iso (RuleDerives bodyDepth (rowTwice (suc n)) 1 w) (RuleDerives bodyDepth (rowOnce (suc n)) 1 w)
   pub longOne : (n : ℕ) → SameReadings (rowTwice (suc n)) (rowOnce (suc n)) → ⊥
+
+-- In a reading, a sheet of two rules has them as its cycle, which is declined for a clause, so that nothing changes.
+pub record DeclinedFor (why : Clause) (corners : Corners) (s : Sheet) : Type 0 where
+  pub isValid : valid s ≡ true
+  pub cycle : leftCornerCycles corners (grammarOf bodyDepth (s .rules)) bodyDepth (s .rules) ≡ (1 ∷ 2 ∷ []) ∷ []
+  pub decision : decisionOn standard corners s (1 ∷ 2 ∷ []) ≡ declined why
+  pub run : eliminateMutualLeftRecursion standard corners s ≡ ended []
+
+-- In a reading, a sheet is joined to some rules.
+pub record JoinedTo (rules : List Rule) (corners : Corners) (s : Sheet) : Type 0 where
+  pub isValid : valid s ≡ true
+  pub stages : List Stage
+  pub run : eliminateMutualLeftRecursion standard corners s ≡ ended stages
+  pub answer : rulesOf s stages ≡ rules
+
+-- End of input, in either reading (SPECIFICATION 6.2, 6.5, 7.1, 8.2 and 13.2).
+pub record EndOfInputs (corners : Corners) : Type 0 where
+  -- `e: a; a: e . | EOF e;`: e is a left corner behind EOF, and so is left.
+  pub inFront : DeclinedFor notDirectlyRewritable corners endInFront
+  -- `e: EOF a | INT; a: e PLUS;`: EOF in front settles the alternative.
+  pub settled : DeclinedFor noSteps corners endSettled
+  -- `e: a | INT; a: e EOF;` and `.. e EOF+;`: the tail can be empty. `.. e .;` is joined.
+  pub tail : DeclinedFor notDirectlyRewritable corners (tailOf once endOfInput)
+  pub tailPlus : DeclinedFor notDirectlyRewritable corners (tailOf oneOrMoreGreedy endOfInput)
+  pub otherTail : JoinedTo (tailJoined terminal) corners (tailOf once terminal)
+  -- `e: a | EOF; a: e PLUS;`: EOF alone is significant. `e: a | INT; a: e PLUS EOF;`: it does not stop inlining.
+  pub alone : JoinedTo aloneJoined corners endAlone
+  pub behind : JoinedTo behindJoined corners endBehind
+  -- The end mark is one, whatever number is carried.
+  pub oneMark : eraseLeaf 4 endOfInput ≡ eraseLeaf 5 endOfInput
+
+-- To be empty is not to derive the empty string (SPECIFICATION 13.9): `n: EOF;` and `n: EOF+;` can be empty, and derive a string
+-- of one end mark or more.
+pub record EmptyByMark : Type 0 where
+  pub nullable : nullableRules bodyDepth (onlyEnd once) ≡ 1 ∷ []
+  pub nullablePlus : nullableRules bodyDepth (onlyEnd oneOrMoreGreedy) ≡ 1 ∷ []
+  pub empty : RuleCanBeEmpty bodyDepth (onlyEnd once) 1
+  pub emptyPlus : RuleCanBeEmpty bodyDepth (onlyEnd oneOrMoreGreedy) 1
+  pub notNothing : RuleDerives bodyDepth (onlyEnd once) 1 [] → ⊥
+  pub notNothingPlus : RuleDerives bodyDepth (onlyEnd oneOrMoreGreedy) 1 [] → ⊥

@@ -9,7 +9,7 @@ use lib.ListN.{length}
 use lib.Dec.{eqb}
 use Rattle.grammar.specs.Lists.{each, only, AllOf}
 use Rattle.grammar.specs.Tree.{OptionDecl, Reference, Label, unlabelled, labelled, ElementHead, Leaf, epsilon, action, predicate, call}
-use Rattle.grammar.specs.Tree.{token, terminal, Element, leaf, block, AlternativeOf, Block, RuleOf, Sheet}
+use Rattle.grammar.specs.Tree.{token, terminal, endOfInput, Element, leaf, block, AlternativeOf, Block, RuleOf, Sheet}
 use Rattle.grammar.specs.Words.{words, bytes}
 use Rattle.grammar.specs.Encode.{encode}
 use Rattle.grammar.specs.Reading.{sheet, read}
@@ -47,6 +47,7 @@ leafWords h (predicate p) = headWords h 2 ++ bodyWords (p .id) (p .references)
 leafWords h (call c) = headWords h 3 ++ (c .name ∷ c .arguments ∷ [])
 leafWords h (token n) = headWords h 4 ++ (n ∷ [])
 leafWords h terminal = headWords h 5 ++ []
+leafWords h endOfInput = headWords h 7 ++ []
 
 abbrev pub elementWords : {B : Type 0} → (B → List ℕ) → Element B → List ℕ
 elementWords inner (leaf h l) = leafWords h l
@@ -109,6 +110,7 @@ GoodLeaf (predicate p) = AllOf GoodReference (p .references)
 GoodLeaf (call c) = Name (c .name)
 GoodLeaf (token n) = Name n
 GoodLeaf terminal = Unit {0}
+GoodLeaf endOfInput = Unit {0}
 
 abbrev pub GoodElement : {B : Type 0} → (B → Type 0) → Element B → Type 0
 GoodElement Good (leaf h l) = GoodHead h × GoodLeaf l

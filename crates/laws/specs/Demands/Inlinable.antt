@@ -2,7 +2,7 @@
 use Prim.Native.Nat.{ℕ, suc}
 use mathlib.Core.Path.{_≡_}
 use mathlib.Core.List.{List·Memᴰ}
-use Rattle.grammar.specs.Tree.{Leaf, epsilon, action, predicate, call, token, terminal, AlternativeOf, Block, RuleOf}
+use Rattle.grammar.specs.Tree.{Leaf, epsilon, action, predicate, call, token, terminal, endOfInput, AlternativeOf, Block, RuleOf}
 use Rattle.language.specs.Shape.{OnBlock}
 
 -- Neither an action nor a predicate.
@@ -13,6 +13,7 @@ NoCode (predicate p) = ⊥
 NoCode (call c) = Unit {0}
 NoCode (token n) = Unit {0}
 NoCode terminal = Unit {0}
+NoCode endOfInput = Unit {0}
 
 -- Nothing in its flags, no labelled outermost alternative, and no action or predicate, in blocks too.
 pub record Inlinable (d : ℕ) (r : RuleOf (Block (suc d))) : Type 0 where

@@ -4,7 +4,8 @@ use Prim.Native.Nat.{ℕ, zero, suc}
 use mathlib.Core.List.{List, [], _∷_, _++_, map}
 use Rattle.grammar.specs.Lists.{each}
 use Rattle.grammar.specs.Tree.{OptionDecl, Reference, Label, unlabelled, labelled, ElementHead, Call, Leaf, epsilon, action, predicate}
-use Rattle.grammar.specs.Tree.{call, token, terminal, Element, leaf, block, AlternativeOf, Block, RuleOf, Rule, Sheet, bodyDepth}
+use Rattle.grammar.specs.Tree.{call, token, terminal, endOfInput, Element, leaf, block, AlternativeOf, Block, RuleOf, Rule, Sheet}
+use Rattle.grammar.specs.Tree.{bodyDepth}
 use Rattle.reference.specs.Walks.{labelNames}
 
 module _ (f r : ℕ → ℕ) where
@@ -38,6 +39,7 @@ module _ (f r : ℕ → ℕ) where
   onLeaf (call c) = call (onCall c)
   onLeaf (token n) = token (f n)
   onLeaf terminal = terminal
+  onLeaf endOfInput = endOfInput
 
   module _ {B : Type 0} (onB : B → B) where
     unfoldable pub onElement : Element B → Element B
@@ -84,6 +86,7 @@ namesOfLeaf (predicate p) = map (λ o. o .name) (p .references)
 namesOfLeaf (call c) = c .name ∷ []
 namesOfLeaf (token n) = n ∷ []
 namesOfLeaf terminal = []
+namesOfLeaf endOfInput = []
 
 module _ {B : Type 0} (ofB : B → List ℕ) where
   unfoldable pub elementNames : Element B → List ℕ

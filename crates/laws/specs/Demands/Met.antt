@@ -5,7 +5,7 @@ use mathlib.Core.List.{List, [], _∷_, _++_, List·Memᴰ}
 use mathlib.Core.Option.{some}
 use mathlib.Core.Bool.{true}
 use Rattle.grammar.specs.Lists.{AllOf, member}
-use Rattle.grammar.specs.Tree.{Block, Call, ElementHead, Element, Rule, Sheet}
+use Rattle.grammar.specs.Tree.{Block, Call, ElementHead, Element, RuleOf, Rule, Sheet, bodyDepth}
 use Rattle.grammar.specs.Valid.{valid, fits}
 use Rattle.grammar.specs.Numbers.{parser, once}
 use Rattle.grammar.specs.Corners.{Corners, rust, textbook}
@@ -15,6 +15,7 @@ use Rattle.reference.specs.Analysis.{Grammar, target}
 use Rattle.reference.specs.Walks.{isEpsilonOnly}
 use Rattle.reference.specs.Substitute.{Limits}
 use Rattle.reference.specs.Run.{Stage, answer, refusal, answerTo, outcome}
+use Rattle.laws.specs.Demands.End.{NoEnd}
 use Rattle.laws.specs.Demands.Shape.{NoOptionalSymbol}
 use Rattle.laws.specs.Demands.Run.{rulesOf}
 use Rattle.laws.specs.Demands.Table.{Lent}
@@ -46,6 +47,10 @@ pub record Met : Type 0 where
       × (outcome limits c bs result trail work .number ≡ 0)
   pub plainSymbols : (bs : List ℕ) × AreBytes bs × (s : Sheet) × (read bs ≡ sheet s)
       × ((s : Sheet) → read bs ≡ sheet s → NoOptionalSymbol (s .rules))
+  -- Rules without end of input, and bytes of a sheet of such rules.
+  pub noEnd : (d : ℕ) × (rs : List (RuleOf (Block d))) × NoEnd d rs
+  pub bytesNoEnd : (bs : List ℕ) × AreBytes bs × (s : Sheet) × (read bs ≡ sheet s)
+      × ((s : Sheet) → read bs ≡ sheet s → NoEnd bodyDepth (s .rules))
   -- A rule in a cycle.
   pub aMember : (s : Sheet) × (valid s ≡ true) × (hub : Rule) × List·Memᴰ hub (s .rules) × (cycle : List ℕ)
       × (member (hub .id) cycle ≡ true)

@@ -7,8 +7,8 @@ use lib.ListN.{length}
 use lib.Dec.{leb}
 use Rattle.grammar.specs.Numbers.{ruleLimit, mostName, oneOrMoreNongreedy, nonLocal, mostRuleFlags, mostAlternativeFlag}
 use Rattle.grammar.specs.Lists.{all, rising}
-use Rattle.grammar.specs.Tree.{OptionDecl, Reference, Label, unlabelled, labelled, ElementHead, Leaf, epsilon, action, predicate}
-use Rattle.grammar.specs.Tree.{call, token, terminal, Element, leaf, block, AlternativeOf, Block, RuleOf, Rule, bodyDepth, Sheet}
+use Rattle.grammar.specs.Tree.{OptionDecl, Reference, Label, unlabelled, labelled, ElementHead, Leaf, epsilon, action, predicate, call}
+use Rattle.grammar.specs.Tree.{token, terminal, endOfInput, Element, leaf, block, AlternativeOf, Block, RuleOf, Rule, bodyDepth, Sheet}
 use Rattle.grammar.specs.Valid.{isKind, valid}
 use Rattle.grammar.specs.Ids.{isDistinct, isBelow}
 use Rattle.laws.specs.Demands.Marks.{namesIn}
@@ -35,6 +35,7 @@ module _ (name : ℕ → Bool) where
   okLeafBy (call c) = name (c .name)
   okLeafBy (token n) = name n
   okLeafBy terminal = true
+  okLeafBy endOfInput = true
 
   module _ {B : Type 0} (ok : B → Bool) where
     abbrev pub okElementBy : Element B → Bool

@@ -5,7 +5,7 @@ use mathlib.Core.List.{List, [], _++_}
 use Rattle.grammar.specs.Lists.{each}
 use Rattle.grammar.specs.Numbers.{alternativeSort, elementSort, labelSort, actionSort, predicateSort}
 use Rattle.grammar.specs.Tree.{Label, unlabelled, labelled, ElementHead, Leaf, epsilon, action, predicate, call, token, terminal}
-use Rattle.grammar.specs.Tree.{Element, leaf, block, AlternativeOf, Block}
+use Rattle.grammar.specs.Tree.{endOfInput, Element, leaf, block, AlternativeOf, Block}
 
 module _ (taken : (sort id : ℕ) → List ℕ) where
   unfoldable pub labelNodes : Label → List ℕ
@@ -22,6 +22,7 @@ module _ (taken : (sort id : ℕ) → List ℕ) where
   leafNodes (call c) = []
   leafNodes (token n) = []
   leafNodes terminal = []
+  leafNodes endOfInput = []
 
   module _ {B : Type 0} (blockNodes : B → List ℕ) where
     unfoldable pub elementNodes : Element B → List ℕ

@@ -4,13 +4,12 @@ use Prim.Native.Nat.{ℕ, _<_}
 use mathlib.Core.Path.{_≡_}
 use mathlib.Core.List.{List, [], _∷_, map}
 use lib.Dec.{leb}
-use Rattle.grammar.specs.Numbers.{leastBytes, mostBytes, mostWords, resultBytes, trailBytes, workBytes, mostName, ruleLimit, lexer}
-use Rattle.grammar.specs.Numbers.{parser, combined, mostRuleFlags, mostAlternativeFlag, once, optionalGreedy, optionalNongreedy}
-use Rattle.grammar.specs.Numbers.{zeroOrMoreGreedy, zeroOrMoreNongreedy, oneOrMoreGreedy, oneOrMoreNongreedy, epsilonKind, actionKind}
-use Rattle.grammar.specs.Numbers.{predicateKind, callKind, tokenKind, terminalKind, blockKind, kindEnd, attribute, qualified, nonLocal}
-use Rattle.grammar.specs.Numbers.{ruleSort, alternativeSort, elementSort, labelSort, actionSort, predicateSort, trailerWords, badLength}
-use Rattle.grammar.specs.Numbers.{shortBuffer, badTrailer, badRecord, sharedNumber, idPastCounter, planTooLarge, counterPastEnd}
-use Rattle.grammar.specs.Numbers.{resultTooLong, wordEnd}
+use Rattle.grammar.specs.Numbers.{leastBytes, mostBytes, mostWords, resultBytes, trailBytes, workBytes, mostName, ruleLimit, lexer, parser}
+use Rattle.grammar.specs.Numbers.{combined, mostRuleFlags, mostAlternativeFlag, once, optionalGreedy, optionalNongreedy, zeroOrMoreGreedy}
+use Rattle.grammar.specs.Numbers.{zeroOrMoreNongreedy, oneOrMoreGreedy, oneOrMoreNongreedy, epsilonKind, actionKind, predicateKind}
+use Rattle.grammar.specs.Numbers.{callKind, tokenKind, terminalKind, blockKind, endKind, kindEnd, attribute, qualified, nonLocal, ruleSort}
+use Rattle.grammar.specs.Numbers.{alternativeSort, elementSort, labelSort, actionSort, predicateSort, trailerWords, badLength, shortBuffer}
+use Rattle.grammar.specs.Numbers.{badTrailer, badRecord, sharedNumber, idPastCounter, planTooLarge, counterPastEnd, resultTooLong, wordEnd}
 use Rattle.grammar.specs.Read.{isName}
 use Rattle.grammar.specs.Tree.{innerDepth}
 use Rattle.reference.specs.Numbers.{mostEntries, counterEnd, entryWords, ruleBoundary, blockBoundary}
@@ -77,6 +76,7 @@ pub record NumbersBought : Type 0 where
   pub kindToken : tokenKind ≡ 4
   pub kindTerminal : terminalKind ≡ 5
   pub kindBlock : blockKind ≡ 6
+  pub kindEndOfInput : endKind ≡ 7
   pub kinds : kindEnd ≡ 256
   pub referenceAttribute : attribute ≡ 0
   pub referenceQualified : qualified ≡ 1

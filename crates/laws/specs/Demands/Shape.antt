@@ -11,7 +11,7 @@ use Rattle.grammar.specs.Lists.{AnyOf, member}
 use Rattle.grammar.specs.Tree.{ElementHead, Call, Element, leaf, block, call, AlternativeOf, Block, Leaf, Alternative, Rule, bodyDepth}
 use Rattle.grammar.specs.Tree.{Sheet}
 use Rattle.language.specs.Shape.{eraseElements, eraseBlock, Shapes, eraseRules, Word, OnBlock}
-use Rattle.language.specs.Derive.{CanBeEmpty, RuleDerives}
+use Rattle.language.specs.Derive.{CanBeEmpty, RuleDerives, RuleCanBeEmpty}
 use Rattle.grammar.specs.Corners.{Corners, rust, textbook}
 use Rattle.grammar.specs.Numbers.{once}
 use Rattle.language.specs.LeftCorners.{IsSymbol, Corner}
@@ -116,7 +116,7 @@ pub record JoinedShape (Without : Elements → Type 0) (rules : List Rule) (hub 
 
 -- 7. If the rule joined cannot be empty, no later cycle holds it (SPECIFICATION 1.8 and 13.15).
 pub record NoLaterCycle (corners : Corners) (t : Stage) (later : List Rule) : Type 0 where
-  pub free : (RuleDerives bodyDepth (t .after .node) (t .plan .hub) [] → ⊥) → (cycle : List ℕ)
+  pub free : (RuleCanBeEmpty bodyDepth (t .after .node) (t .plan .hub) → ⊥) → (cycle : List ℕ)
       → List·Memᴰ cycle (leftCornerCycles corners (grammarOf bodyDepth later) bodyDepth later) → member (t .plan .hub) cycle ≡ false
 
 -- In some rules, a symbol with quantifier 1 to 4 stands in front of a left corner that leads from a member of a cycle to a
@@ -136,7 +136,7 @@ pub record LedPastSymbol (rules : List Rule) (cycle : List ℕ) : Type 0 where
 -- What is left of 7 by the textbook's left corners in a run by the Rust's (SPECIFICATION 14.8): if the rule joined cannot be
 -- empty, a later cycle by the textbook's may hold it, but only one with such a left corner.
 pub record LaterPastSymbols (t : Stage) (later : List Rule) : Type 0 where
-  pub led : (RuleDerives bodyDepth (t .after .node) (t .plan .hub) [] → ⊥) → (cycle : List ℕ)
+  pub led : (RuleCanBeEmpty bodyDepth (t .after .node) (t .plan .hub) → ⊥) → (cycle : List ℕ)
       → List·Memᴰ cycle (leftCornerCycles textbook (grammarOf bodyDepth later) bodyDepth later) → member (t .plan .hub) cycle ≡ true
       → LedPastSymbol later cycle
 

@@ -1,22 +1,26 @@
 -- Strings that small grammars derive, and strings that they do not (SPECIFICATION 13.2 to 13.8). In comments A, B and C are the
--- tokens 7, 8 and 9, x is a call of 5, which no rule has, and [1] and [2] are elements of kind 5 by their carried numbers.
+-- tokens 7, 8 and 9, x is a call of 5, which no rule has, [1] and [2] are elements of kind 5 by their carried numbers, and EOF is an
+-- element of kind 7.
 use Prim.Native.Nat.{ℕ}
 use mathlib.Core.List.{List, [], _∷_, map}
-use Rattle.grammar.specs.Tree.{unlabelled, epsilon, action, predicate, token, terminal, Element, leaf, block, Block, innerDepth}
+use Rattle.grammar.specs.Tree.{unlabelled, epsilon, action, predicate, token, terminal, endOfInput, Element, leaf, block, Block, innerDepth}
 use Rattle.grammar.specs.Tree.{bodyDepth, Rule}
-use Rattle.language.specs.Shape.{Symbol, tokenSymbol, unknownSymbol, otherSymbol, Word}
-use Rattle.language.specs.Derive.{RuleDerives}
+use Rattle.language.specs.Shape.{Symbol, tokenSymbol, unknownSymbol, otherSymbol, endSymbol, Word}
+use Rattle.language.specs.Derive.{RuleDerives, RuleCanBeEmpty}
 use Rattle.reference.specs.Written.{element, callTo, alternative, rule}
 
 abbrev pub Items : Type 0
 Items = List (Element (Block innerDepth))
 
--- A token, an element of kind 5, a block, a call.
+-- A token, an element of kind 5, one of kind 7, a block, a call.
 abbrev pub tok : (quantifier name : ℕ) → Element (Block innerDepth)
 tok q n = element 0 q (token n)
 
 abbrev pub kind5 : (carried : ℕ) → Element (Block innerDepth)
 kind5 c = leaf (record { id = 0; carried = c; quantifier = 0; label = unlabelled; options = [] }) terminal
+
+abbrev pub eof : (carried quantifier : ℕ) → Element (Block innerDepth)
+eof c q = leaf (record { id = 0; carried = c; quantifier = q; label = unlabelled; options = [] }) endOfInput
 
 abbrev pub inner : (quantifier : ℕ) → List (List (Element (Block 7))) → Element (Block innerDepth)
 inner q ess =
@@ -45,12 +49,19 @@ B = tokenSymbol 8
 abbrev pub C : Symbol
 C = tokenSymbol 9
 
+abbrev pub END : Symbol
+END = endSymbol
+
 -- The first rule derives a string; it does not.
 abbrev pub Yes : List Rule → Word → Type 0
 Yes rs w = RuleDerives bodyDepth rs 1 w
 
 abbrev pub No : List Rule → Word → Type 0
 No rs w = RuleDerives bodyDepth rs 1 w → ⊥
+
+-- It can be empty.
+abbrev pub Empty : List Rule → Type 0
+Empty rs = RuleCanBeEmpty bodyDepth rs 1
 
 -- s: A QUANTIFIER;
 abbrev pub often : (quantifier : ℕ) → List Rule
@@ -77,6 +88,13 @@ twice = two ((cal 4 ∷ cal 4 ∷ []) ∷ []) ((tok 0 7 ∷ []) ∷ (tok 0 8 ∷
 
 abbrev pub inBlock : List Rule
 inBlock = one ((inner 5 ((deep 7 ∷ []) ∷ (deep 8 ∷ []) ∷ []) ∷ tok 0 9 ∷ []) ∷ [])
+
+-- s: EOF QUANTIFIER;    s: EOF EOF; with the carried numbers 4 and 5.
+abbrev pub oftenEnd : (quantifier : ℕ) → List Rule
+oftenEnd q = one ((eof 0 q ∷ []) ∷ [])
+
+abbrev pub twoEnds : List Rule
+twoEnds = one ((eof 4 0 ∷ eof 5 0 ∷ []) ∷ [])
 
 -- s: {action} {predicate}? () ;  and s without an alternative.
 abbrev pub silent : List Rule
@@ -114,6 +132,13 @@ pub record StringsTold : Type 0 where
   pub calledTwice : Yes twice (A ∷ B ∷ [])
   pub blockRepeated : Yes inBlock (B ∷ A ∷ C ∷ [])
   pub nothingThere : Yes silent []
+  pub endOnce : Yes (oftenEnd 0) (END ∷ [])
+  pub endAbsent : Yes (oftenEnd 1) []
+  pub endAny : Yes (oftenEnd 3) (END ∷ END ∷ [])
+  pub endSome : Yes (oftenEnd 5) (END ∷ END ∷ [])
+  pub endsAlike : Yes twoEnds (END ∷ END ∷ [])
+  pub endEmpty : Empty (oftenEnd 0)
+  pub endSomeEmpty : Empty (oftenEnd 5)
   -- Not derived.
   pub notTwice : No (often 0) (A ∷ A ∷ [])
   pub notAbsent : No (often 0) []
@@ -134,4 +159,9 @@ pub record StringsTold : Type 0 where
   pub notCalledOnce : No twice (A ∷ [])
   pub blockNotAbsent : No inBlock (C ∷ [])
   pub silentNothing : No silent (A ∷ [])
+  pub endNotAbsent : No (oftenEnd 0) []
+  pub endNotTwice : No (oftenEnd 0) (END ∷ END ∷ [])
+  pub endSomeNotAbsent : No (oftenEnd 5) []
+  pub endIsNoToken : No (oftenEnd 0) (tokenSymbol 0 ∷ [])
+  pub endIsNoOther : No (oftenEnd 0) (otherSymbol 0 ∷ [])
   pub noAlternative : (w : Word) → No (one []) w

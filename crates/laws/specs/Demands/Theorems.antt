@@ -21,6 +21,7 @@ use Rattle.reference.specs.Run.{innerDepth, Stage, ended, sheetWith, eliminateM
 use Rattle.reference.specs.Run.{answerTo, outcome}
 use Rattle.reference.specs.Walks.{isEpsilonOnly}
 use Rattle.reference.specs.Plan.{chooseHub, satelliteIsInlinable, plannedHubIsDirectlyRewritable, planCycle}
+use Rattle.laws.specs.Before
 use Rattle.laws.specs.Demands.Lists.{ListsTold}
 use Rattle.laws.specs.Demands.Numbers.{NumbersBought}
 use Rattle.laws.specs.Demands.Format.{FormatTold}
@@ -30,6 +31,7 @@ use Rattle.laws.specs.Demands.Counted.{ReadingsCounted}
 use Rattle.laws.specs.Demands.Corners.{LeftCornersTold}
 use Rattle.laws.specs.Demands.Names.{NamesFitted}
 use Rattle.laws.specs.Demands.Analysis.{CyclesListed, EmptyDerivation, LeftCornersListed, TextbookCorners}
+use Rattle.laws.specs.Demands.End.{AsBefore, EmptyIsEmpty, EndSkipped, NoEnd}
 use Rattle.laws.specs.Demands.Shape.{LaterPastSymbols, NoCorner, NoLeftCorner, NoOptionalSymbol, OnlyPastSymbols}
 use Rattle.laws.specs.Demands.Readings.{TreesTold, TurnsTold, JoinedTold, PlanTrees, PlanReadings}
 use Rattle.laws.specs.Demands.Run.{SheetLeft, Bound, Demand3, EnoughTurns, PreservedStay, rulesOf}
@@ -43,7 +45,8 @@ use Rattle.laws.specs.Demands.Trail.{OneOrigin, OriginsTold, RecordedSo,
 use Rattle.laws.specs.Demands.Applied.{CopiesAlike, FreshIds, RemovesMost, RulesStay}
 use Rattle.laws.specs.Demands.Facts.{FactsStay}
 use Rattle.laws.specs.Demands.Answers.{Answered, ComesBack, ReadsBack}
-use Rattle.laws.specs.Demands.Examples.{NoMoreOfRust, NullableHubReturns, MarksShown, NoOtherReadings, TwoReadings, TooLittle}
+use Rattle.laws.specs.Demands.Examples.{EmptyByMark, EndOfInputs, NoMoreOfRust, NullableHubReturns, MarksShown, NoOtherReadings}
+use Rattle.laws.specs.Demands.Examples.{TwoReadings, TooLittle}
 use Rattle.laws.specs.Demands.Hub.{HubTold}
 use Rattle.laws.specs.Demands.Decision.{Decision}
 use Rattle.laws.specs.Demands.Refusals.{HasRoom, RefusedSo}
@@ -77,6 +80,16 @@ pub record Theorems : Type 0 where
   pub leftCornersTold : (s : Sheet) → valid s ≡ true → LeftCornersTold innerDepth (s .rules)
   pub textbookCorners : (G : Shapes) → TextbookCorners G
   pub cyclesListed : (c : Corners) (s : Sheet) → valid s ≡ true → CyclesListed c bodyDepth (s .rules)
+  -- End of input is looked past; without it only the empty string is empty, in every grammar. Some sheets with it.
+  pub endSkipped : (G : Shapes) → EndSkipped G
+  pub emptyIsEmpty : (d : ℕ) (rs : List (RuleOf (Block d))) → NoEnd d rs → EmptyIsEmpty d rs
+  pub endOfInputs : (c : Corners) → EndOfInputs c
+  pub emptyByMark : EmptyByMark
+  -- Without it all is as it was before there was one.
+  pub withoutEnd : (d : ℕ) (rs : List (RuleOf (Block d))) → NoEnd d rs → AsBefore d rs
+  pub outcomeWithoutEnd : (limits : Limits) (c : Corners) (bs result trail work : List ℕ) → AreBytes bs
+      → ((s : Sheet) → read bs ≡ sheet s → NoEnd bodyDepth (s .rules))
+      → outcome limits c bs result trail work ≡ Before.outcome limits c bs result trail work
   -- Of every sheet and all stages.
   pub sheetLeft : (s : Sheet) → SheetLeft s
   -- 4 to 7, of every sheet that is not refused, with left corners and cycles by either reading.

@@ -5,7 +5,7 @@ use mathlib.Core.Path.{_≡_}
 use mathlib.Core.List.{List, [], _∷_, _++_, map, flatMap, flatten, zipWith}
 use lib.ListN.{length}
 use Rattle.grammar.specs.Tree.{OptionDecl, Reference, Label, unlabelled, labelled, ElementHead, Leaf, epsilon, action, predicate, call}
-use Rattle.grammar.specs.Tree.{token, terminal, Element, leaf, block, AlternativeOf, Block, RuleOf, Sheet, bodyDepth}
+use Rattle.grammar.specs.Tree.{token, terminal, endOfInput, Element, leaf, block, AlternativeOf, Block, RuleOf, Sheet, bodyDepth}
 use Rattle.grammar.specs.Encode.{encode}
 use Rattle.laws.specs.Demands.Marks.{onSheet, namesIn}
 
@@ -38,6 +38,7 @@ leafSorts (predicate p) = kept ∷ kept ∷ flatMap referenceSorts (p .reference
 leafSorts (call c) = name ∷ kept ∷ []
 leafSorts (token n) = name ∷ []
 leafSorts terminal = []
+leafSorts endOfInput = []
 
 module _ {B : Type 0} (sorts : B → List Sort) where
   unfoldable pub elementSorts : Element B → List Sort

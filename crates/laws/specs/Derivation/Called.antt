@@ -2,7 +2,7 @@
 use Prim.Native.Nat.{ℕ, zero, suc}
 use mathlib.Core.Path.{_≡_, refl, sym, subst}
 use mathlib.Core.List.{List, [], _∷_, map, List·Memᴰ, List·Memᴰ·head, List·Memᴰ·tail}
-use Rattle.grammar.specs.Tree.{ElementHead, Call, Leaf, epsilon, action, predicate, call, token, terminal, Element, leaf, block}
+use Rattle.grammar.specs.Tree.{ElementHead, Call, Leaf, epsilon, action, predicate, call, token, terminal, endOfInput, Element, leaf, block}
 use Rattle.grammar.specs.Tree.{AlternativeOf, Block}
 use Rattle.language.specs.Shape.{Shape, seqs, alts, quantified, eraseLeaf, eraseElement, eraseElements, eraseBlock, EachCall}
 use Rattle.language.specs.Laws.Quantifier.{quantified-cases}
@@ -56,6 +56,7 @@ module _ (P : ℕ → Type 0) where
   leaf-calls c (call x) h = h x refl
   leaf-calls c (token n) h = tt
   leaf-calls c terminal h = tt
+  leaf-calls c endOfInput h = tt
 
   abbrev Inside : (k : ℕ) → Block k → ℕ → Type 0
   Inside zero b n = ⊥

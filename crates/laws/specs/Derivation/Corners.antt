@@ -7,13 +7,13 @@ use mathlib.Core.Option.{Option, none, some, Option·some-injective}
 use mathlib.Core.Bool.{true, false, true≢false, false≢true}
 use lib.Dec.{leb}
 use Rattle.grammar.specs.Lists.{all, distinct}
-use Rattle.grammar.specs.Tree.{ElementHead, Leaf, epsilon, action, predicate, call, token, terminal, Element, leaf, block, AlternativeOf}
-use Rattle.grammar.specs.Tree.{Block, RuleOf, Sheet, innerDepth}
+use Rattle.grammar.specs.Tree.{ElementHead, Leaf, epsilon, action, predicate, call, token, terminal, endOfInput, Element, leaf, block}
+use Rattle.grammar.specs.Tree.{AlternativeOf, Block, RuleOf, Sheet, innerDepth}
 use Rattle.grammar.specs.Numbers.{mostAlternativeFlag}
 use Rattle.grammar.specs.Valid.{valid, okOption, okHead, okElement, okAlternative, okBlock}
 use Rattle.grammar.specs.Laws.Parse.{left-true, right-true, either}
 use Rattle.grammar.specs.Corners.{Corners, rust, textbook}
-use Rattle.language.specs.Shape.{Shape, alts, callOf, eraseLeaf, eraseElement, eraseElements, eraseBlock, Shapes, eraseRules, find}
+use Rattle.language.specs.Shape.{isMark, Shape, alts, callOf, eraseLeaf, eraseElement, eraseElements, eraseBlock, Shapes, eraseRules, find}
 use Rattle.language.specs.LeftCorners.{isMissing, isSymbol, stops, Skippable, Corner, c-call, c-first, c-later, c-left, c-right, Leads}
 use Rattle.language.specs.LeftCorners.{Reaches, r-last, r-more}
 use Rattle.language.specs.Laws.Corner.{corner-quantified, symbol-quantified}
@@ -24,8 +24,7 @@ use Rattle.laws.specs.Lists.Lookup.{all-in}
 use Rattle.laws.specs.Analysis.LeftCorners.{left-corners}
 use Rattle.laws.specs.Analysis.Textbook.{textbook-corner}
 use Rattle.laws.specs.Running.Stages.{valid-told}
-use Rattle.laws.specs.Derivation.Into.{into}
-use Rattle.laws.specs.Derivation.From.{from-element}
+use Rattle.laws.specs.Derivation.Empty.{empties, can-be-empty}
 use Rattle.laws.specs.Derivation.Same.{good-rules}
 
 module _ (d : ℕ) (rs : List (RuleOf (Block (suc d)))) (names : distinct (map (λ r. r .name) rs) ≡ true)
@@ -46,7 +45,7 @@ module _ (d : ℕ) (rs : List (RuleOf (Block (suc d)))) (names : distinct (map (
   not-missing n (some b) e f = let (r, m, k, s) = found-rule (suc d) (λ r. r .name) rs n e in (r, m, k)
 
   leaf-symbol : {k : ℕ} (h : ElementHead) (l : Leaf) → SymbolAt d rs k (leaf h l) → isSymbol G (eraseLeaf (h .carried) l) ≡ true
-  unfolding isSymbol eraseLeaf
+  unfolding isSymbol isMark eraseLeaf
   leaf-symbol h (token n) token-at = refl
   leaf-symbol h terminal terminal-at = refl
   leaf-symbol h (call c) (unknown-at u) =
@@ -54,13 +53,14 @@ module _ (d : ℕ) (rs : List (RuleOf (Block (suc d)))) (names : distinct (map (
       (λ f. let (r, m, e) = not-missing (c .name) (find G (c .name)) refl f in absurd (u r m e))
 
   symbol-leaf : {k : ℕ} (h : ElementHead) (l : Leaf) → isSymbol G (eraseLeaf (h .carried) l) ≡ true → SymbolAt d rs k (leaf h l)
-  unfolding isSymbol eraseLeaf
+  unfolding isSymbol isMark eraseLeaf
   symbol-leaf h epsilon t = absurd (false≢true t)
   symbol-leaf h (action a) t = absurd (false≢true t)
   symbol-leaf h (predicate p) t = absurd (false≢true t)
   symbol-leaf h (call c) t = unknown-at (missing (c .name) t)
   symbol-leaf h (token n) t = token-at
   symbol-leaf h terminal t = terminal-at
+  symbol-leaf h endOfInput t = absurd (false≢true t)
 
   block-no-symbol : (k : ℕ) (b : Block k) → isSymbol G (eraseBlock k b) ≡ false
   unfolding isSymbol eraseBlock
@@ -84,13 +84,13 @@ module _ (d : ℕ) (rs : List (RuleOf (Block (suc d)))) (names : distinct (map (
   skipped : (c : Corners) (k : ℕ) (e : Element (Block k)) → okElement (okBlock k) e ≡ true
       → Skippable c G (eraseElement (eraseBlock k) e) → Past d rs c k e
   unfolding stops
-  skipped textbook k e t o = from-element d rs names good k e t (o .empty)
-  skipped rust k e t o = (from-element d rs names good k e t (o .empty), λ s. true≢false (sym (at-symbol e s) ∙ o .goesOn))
+  skipped textbook k e t o = empties d rs names good k e t (o .empty)
+  skipped rust k e t o = (empties d rs names good k e t (o .empty), λ s. true≢false (sym (at-symbol e s) ∙ o .goesOn))
 
   skips : (c : Corners) (k : ℕ) (e : Element (Block k)) → Past d rs c k e → Skippable c G (eraseElement (eraseBlock k) e)
   unfolding stops
-  skips textbook k e p = record { empty = into d rs names p; goesOn = refl }
-  skips rust k e p = record { empty = into d rs names (p .0); goesOn = no-symbol e (p .1) }
+  skips textbook k e p = record { empty = can-be-empty d rs names k e p; goesOn = refl }
+  skips rust k e p = record { empty = can-be-empty d rs names k e (p .0); goesOn = no-symbol e (p .1) }
 
   module _ (c : Corners) where
     -- One more element in front.
@@ -124,6 +124,7 @@ module _ (d : ℕ) (rs : List (RuleOf (Block (suc d)))) (names : distinct (map (
         call-there [] es h s refl (λ f q. absurd (List·Memᴰ·not-nil q)) r m i refl
     at-leaf h (token n) es x = elim x [ ]
     at-leaf h terminal es x = elim x [ ]
+    at-leaf h endOfInput es x = elim x [ ]
 
     -- The alternative of a block with the left corner.
     alternative-of : {B : Type 0} (f : B → Shape) (bs : List B) {n : ℕ} → Corner c G (alts (map f bs)) n

@@ -9,8 +9,8 @@ use borrow.Author.Tests.{eq-eqb}
 use Rattle.grammar.specs.Tree.{bodyDepth, Rule}
 use Rattle.grammar.specs.Lists.{isEmpty}
 use Rattle.grammar.specs.Laws.Parse.{both-true}
-use Rattle.language.specs.Shape.{Symbol, tokenSymbol, unknownSymbol, otherSymbol, Word, Shape, eps, fail, symbol, callOf, seq, alt, opt}
-use Rattle.language.specs.Shape.{star, plus, Shapes, eraseBlock, bodiesBy, eraseRules, find}
+use Rattle.language.specs.Shape.{Symbol, tokenSymbol, unknownSymbol, otherSymbol, endSymbol, Word, Shape, eps, fail, symbol, callOf, seq}
+use Rattle.language.specs.Shape.{alt, opt, star, plus, Shapes, eraseBlock, bodiesBy, eraseRules, find}
 use Rattle.laws.specs.Demands.Strings.{Yes, No}
 use Rattle.language.specs.Derive.{Der, d-eps, d-symbol, d-call, d-unknown, d-seq, d-left, d-right, d-absent, d-present, d-none, d-more}
 use Rattle.language.specs.Derive.{d-some}
@@ -19,17 +19,25 @@ abbrev sameSymbol : Symbol → Symbol → Bool
 sameSymbol (tokenSymbol n) (tokenSymbol m) = eqb n m
 sameSymbol (tokenSymbol n) (unknownSymbol m) = false
 sameSymbol (tokenSymbol n) (otherSymbol m) = false
+sameSymbol (tokenSymbol n) endSymbol = false
 sameSymbol (unknownSymbol n) (tokenSymbol m) = false
 sameSymbol (unknownSymbol n) (unknownSymbol m) = eqb n m
 sameSymbol (unknownSymbol n) (otherSymbol m) = false
+sameSymbol (unknownSymbol n) endSymbol = false
 sameSymbol (otherSymbol n) (tokenSymbol m) = false
 sameSymbol (otherSymbol n) (unknownSymbol m) = false
 sameSymbol (otherSymbol n) (otherSymbol m) = eqb n m
+sameSymbol (otherSymbol n) endSymbol = false
+sameSymbol endSymbol (tokenSymbol m) = false
+sameSymbol endSymbol (unknownSymbol m) = false
+sameSymbol endSymbol (otherSymbol m) = false
+sameSymbol endSymbol endSymbol = true
 
 same-symbol : (a : Symbol) → sameSymbol a a ≡ true
 same-symbol (tokenSymbol n) = eq-eqb n n refl
 same-symbol (unknownSymbol n) = eq-eqb n n refl
 same-symbol (otherSymbol n) = eq-eqb n n refl
+same-symbol endSymbol = refl
 
 -- A string of this symbol alone.
 abbrev isOne : Symbol → Word → Bool

@@ -10,19 +10,20 @@ use lib.Dec.{leb}
 use borrow.Author.Tests.{leb-true}
 use Rattle.grammar.specs.Lists.{all, distinct}
 use Rattle.grammar.specs.Tree.{ElementHead, Action, Predicate, Call, Element, leaf, block, epsilon, action, predicate, call, token}
-use Rattle.grammar.specs.Tree.{terminal, AlternativeOf, Block, RuleOf, Leaf}
+use Rattle.grammar.specs.Tree.{terminal, endOfInput, AlternativeOf, Block, RuleOf, Leaf}
 use Rattle.grammar.specs.Numbers.{mostAlternativeFlag}
 use Rattle.grammar.specs.Valid.{okOption, okHead, okLeaf, okElement, okAlternative, okBlock}
 use Rattle.grammar.specs.Laws.Parse.{left-true, right-true}
-use Rattle.language.specs.Shape.{Symbol, tokenSymbol, otherSymbol, unknownSymbol, Word, Shape, eps, fail, symbol, callOf, seq, alt, opt}
-use Rattle.language.specs.Shape.{star, plus, alts, quantified, eraseLeaf, eraseElement, eraseElements, eraseBlock, find, eraseRules}
+use Rattle.language.specs.Shape.{Symbol, tokenSymbol, otherSymbol, unknownSymbol, endSymbol, Word, Shape, eps, fail, symbol, callOf, seq}
+use Rattle.language.specs.Shape.{alt, opt, star, plus, alts, quantified, eraseLeaf, eraseElement, eraseElements, eraseBlock, find}
+use Rattle.language.specs.Shape.{eraseRules}
 use Rattle.language.specs.Derive.{Der, d-eps, d-symbol, d-call, d-unknown, d-seq, d-left, d-right, d-absent, d-present, d-none, d-more}
 use Rattle.language.specs.Derive.{d-some}
 use Rattle.language.specs.Laws.Rules.{rule-found, found-rule}
 use Rattle.laws.specs.Demands.Derivation.{Often, exactly-once, at-most-once, any-number, at-least-once, quantifierOf, Part, choice}
 use Rattle.laws.specs.Demands.Derivation.{sequence, element, times, once, Derives, chosen, no-element, element-then, counted}
 use Rattle.laws.specs.Demands.Derivation.{not-once, once-more, of-epsilon, of-action, of-predicate, of-call, of-unknown, of-token}
-use Rattle.laws.specs.Demands.Derivation.{of-terminal, of-block}
+use Rattle.laws.specs.Demands.Derivation.{of-terminal, of-end, of-block}
 
 -- A part; or an element taken some number of times, whatever its quantifier.
 data Goal : Type 0 where
@@ -51,6 +52,7 @@ data Is : Shape → Goal → Type 0 where
   is-call : {k : ℕ} {h : ElementHead} {c : Call} {n : ℕ} → c .name ≡ n → Is (callOf n) (part (once k (leaf h (call c))))
   is-token : {k : ℕ} {h : ElementHead} {n : ℕ} {a : Symbol} → tokenSymbol n ≡ a → Is (symbol a) (part (once k (leaf h (token n))))
   is-terminal : {k : ℕ} {h : ElementHead} {a : Symbol} → otherSymbol (h .carried) ≡ a → Is (symbol a) (part (once k (leaf h terminal)))
+  is-end : {k : ℕ} {h : ElementHead} {a : Symbol} → endSymbol ≡ a → Is (symbol a) (part (once k (leaf h endOfInput)))
   is-block : {k : ℕ} {h : ElementHead} {b : Block (suc k)} {s : Shape} → Is s (part (choice k b)) → Is s (part (once (suc k) (block h b)))
 
 -- Each of the quantifiers.
@@ -89,6 +91,7 @@ module _ (k : ℕ) (blockIs : (h : ElementHead) (b : Block k) → okBlock k b �
   leaf-is h (call c) = is-call refl
   leaf-is h (token n) = is-token refl
   leaf-is h terminal = is-terminal refl
+  leaf-is h endOfInput = is-end refl
 
   head-six : (h : ElementHead) → okHead h ≡ true → h .quantifier ≤ 6
   unfolding okHead
@@ -155,6 +158,7 @@ module _ (d : ℕ) (rs : List (RuleOf (Block (suc d)))) (names : distinct (map (
   at-symbol (is-once q i) = plainly q (at-symbol i)
   at-symbol (is-token {k = k} {h = h} {n = n} e) = subst (λ a. Derives d rs (once k (leaf h (token n))) (a ∷ [])) e of-token
   at-symbol (is-terminal {k = k} {h = h} e) = subst (λ a. Derives d rs (once k (leaf h terminal)) (a ∷ [])) e of-terminal
+  at-symbol (is-end {k = k} {h = h} e) = subst (λ a. Derives d rs (once k (leaf h endOfInput)) (a ∷ [])) e of-end
   at-symbol (is-block i) = of-block (at-symbol i)
 
   at-call : {n : ℕ} {b : Shape} {w : Word} → find (eraseRules (suc d) rs) n ≡ some b → Means b w → {g : Goal}

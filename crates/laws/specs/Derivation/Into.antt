@@ -16,7 +16,7 @@ use Rattle.language.specs.Laws.Rules.{rule-found, found-rule}
 use Rattle.laws.specs.Demands.Derivation.{Often, exactly-once, at-most-once, any-number, at-least-once, quantifierOf, Part, choice}
 use Rattle.laws.specs.Demands.Derivation.{sequence, element, times, once, Derives, chosen, no-element, element-then, counted}
 use Rattle.laws.specs.Demands.Derivation.{not-once, once-more, of-epsilon, of-action, of-predicate, of-call, of-unknown, of-token}
-use Rattle.laws.specs.Demands.Derivation.{of-terminal, of-block}
+use Rattle.laws.specs.Demands.Derivation.{of-terminal, of-end, of-block}
 
 -- So often one after the other.
 abbrev pub power : ℕ → Shape → Shape
@@ -97,4 +97,5 @@ module _ (d : ℕ) (rs : List (RuleOf (Block (suc d)))) (names : distinct (map (
   into (of-unknown {c = c} h) = d-unknown (no-rule (c .name) h)
   into of-token = d-symbol
   into of-terminal = d-symbol
+  into of-end = d-symbol
   into (of-block x) = into x

@@ -12,7 +12,7 @@ use Rattle.grammar.specs.Tree.{Block, RuleOf, Rule, Sheet, innerDepth, bodyDept
 use Rattle.grammar.specs.Valid.{valid, okBlock, okRule}
 use Rattle.grammar.specs.Laws.Parse.{right-true}
 use Rattle.grammar.specs.Laws.Whole.{valid-parts}
-use Rattle.language.specs.Shape.{Symbol, tokenSymbol, unknownSymbol, otherSymbol, Word, eraseBlock, eraseRules}
+use Rattle.language.specs.Shape.{Symbol, tokenSymbol, unknownSymbol, otherSymbol, endSymbol, Word, eraseBlock, eraseRules}
 use Rattle.language.specs.Derive.{Der, RuleDerives}
 use Rattle.language.specs.Laws.Rules.{rule-found, found-rule}
 use Rattle.laws.specs.Demands.Derivation.{SymbolsTold, RuleTold, DerivesTold}
@@ -26,16 +26,25 @@ numberOf : Symbol → ℕ
 numberOf (tokenSymbol n) = n
 numberOf (unknownSymbol n) = n
 numberOf (otherSymbol n) = n
+numberOf endSymbol = 0
 
 abbrev IsToken : Symbol → Type 0
 IsToken (tokenSymbol n) = Unit {0}
 IsToken (unknownSymbol n) = ⊥
 IsToken (otherSymbol n) = ⊥
+IsToken endSymbol = ⊥
 
 abbrev IsUnknown : Symbol → Type 0
 IsUnknown (tokenSymbol n) = ⊥
 IsUnknown (unknownSymbol n) = Unit {0}
 IsUnknown (otherSymbol n) = ⊥
+IsUnknown endSymbol = ⊥
+
+abbrev IsOther : Symbol → Type 0
+IsOther (tokenSymbol n) = ⊥
+IsOther (unknownSymbol n) = ⊥
+IsOther (otherSymbol n) = Unit {0}
+IsOther endSymbol = ⊥
 
 pub symbols-told : SymbolsTold
 unfolding numberOf
@@ -43,9 +52,10 @@ symbols-told =
     record {
       sorts = λ a.
           elim a [
-            | tokenSymbol n ↦ (n, inl refl)
-            | unknownSymbol n ↦ (n, inr (inl refl))
-            | otherSymbol n ↦ (n, inr (inr refl))
+            | tokenSymbol n ↦ inr (n, inl refl)
+            | unknownSymbol n ↦ inr (n, inr (inl refl))
+            | otherSymbol n ↦ inr (n, inr (inr refl))
+            | endSymbol ↦ inl refl
           ];
       tokens = λ n m. (ap numberOf, ap tokenSymbol);
       unknowns = λ n m. (ap numberOf, ap unknownSymbol);
@@ -53,6 +63,9 @@ symbols-told =
       tokenIsNoUnknown = λ n m e. subst IsToken e tt;
       tokenIsNoOther = λ n m e. subst IsToken e tt;
       unknownIsNoOther = λ n m e. subst IsUnknown e tt;
+      tokenIsNoEnd = λ n e. subst IsToken e tt;
+      unknownIsNoEnd = λ n e. subst IsUnknown e tt;
+      otherIsNoEnd = λ n e. subst IsOther e tt;
     }
 
 module _ (d : ℕ) (rs : List (RuleOf (Block (suc d)))) (ids : distinct (map (λ r. r .id) rs) ≡ true)

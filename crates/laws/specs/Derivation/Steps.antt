@@ -5,12 +5,12 @@ use mathlib.Core.Logic.{_↔_, _⊎_, inl, inr, ⊎-elim}
 use mathlib.Core.List.{List, [], _∷_, _++_, append-nil, List·Memᴰ}
 use native.Mathlib.Omega.{arith}
 use Rattle.grammar.specs.Tree.{ElementHead, Action, Predicate, Call, Element, leaf, block, epsilon, action, predicate, call, token}
-use Rattle.grammar.specs.Tree.{terminal, AlternativeOf, Block, RuleOf}
-use Rattle.language.specs.Shape.{tokenSymbol, unknownSymbol, otherSymbol, Word}
+use Rattle.grammar.specs.Tree.{terminal, endOfInput, AlternativeOf, Block, RuleOf}
+use Rattle.language.specs.Shape.{tokenSymbol, unknownSymbol, otherSymbol, endSymbol, Word}
 use Rattle.laws.specs.Demands.Derivation.{Often, exactly-once, at-most-once, any-number, at-least-once, quantifierOf, choice}
 use Rattle.laws.specs.Demands.Derivation.{sequence, element, times, once, Derives, chosen, no-element, element-then, counted}
 use Rattle.laws.specs.Demands.Derivation.{not-once, once-more, of-epsilon, of-action, of-predicate, of-call, of-unknown, of-token}
-use Rattle.laws.specs.Demands.Derivation.{of-terminal, of-block, StepsTold}
+use Rattle.laws.specs.Demands.Derivation.{of-terminal, of-end, of-block, StepsTold}
 
 -- How often, by the quantifier: other quantifiers say nothing here.
 often-once : {q n : ℕ} → Often q n → q ≡ 0 → n ≡ 1
@@ -114,6 +114,9 @@ module _ (d : ℕ) (rs : List (RuleOf (Block (suc d)))) where
   to-terminal : {k : ℕ} {h : ElementHead} {w : Word} → Derives d rs (once k (leaf h terminal)) w → w ≡ otherSymbol (h .carried) ∷ []
   to-terminal of-terminal = refl
 
+  to-end : {k : ℕ} {h : ElementHead} {w : Word} → Derives d rs (once k (leaf h endOfInput)) w → w ≡ endSymbol ∷ []
+  to-end of-end = refl
+
   to-block : {k : ℕ} {h : ElementHead} {b : Block (suc k)} {w : Word} → Derives d rs (once (suc k) (block h b)) w
       → Derives d rs (choice k b) w
   to-block (of-block x) = x
@@ -144,5 +147,6 @@ module _ (d : ℕ) (rs : List (RuleOf (Block (suc d)))) where
         );
         ofToken = λ k h n w. (to-token, λ z. subst (Derives d rs (once k (leaf h (token n)))) (sym z) of-token);
         ofTerminal = λ k h w. (to-terminal, λ z. subst (Derives d rs (once k (leaf h terminal))) (sym z) of-terminal);
+        ofEnd = λ k h w. (to-end, λ z. subst (Derives d rs (once k (leaf h endOfInput))) (sym z) of-end);
         ofBlock = λ k h b w. (to-block, of-block);
       }

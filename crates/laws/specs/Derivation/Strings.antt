@@ -2,13 +2,14 @@
 use mathlib.Core.Path.{_≡_, refl, sym, subst}
 use mathlib.Core.List.{[], _∷_}
 use mathlib.Core.Option.{some, Option·some-injective, Option·none-ne-some}
+use Rattle.grammar.specs.Lists.{all}
 use Rattle.grammar.specs.Tree.{bodyDepth}
-use Rattle.language.specs.Shape.{tokenSymbol, unknownSymbol, otherSymbol, Word, Shape, fail, callOf, seq, alt, quantified, eraseLeaf}
-use Rattle.language.specs.Shape.{eraseElement, eraseBlock, eraseRules, find}
+use Rattle.language.specs.Shape.{isMark, tokenSymbol, unknownSymbol, otherSymbol, Word, Shape, fail, callOf, seq, alt, quantified}
+use Rattle.language.specs.Shape.{eraseLeaf, eraseElement, eraseBlock, eraseRules, find}
 use Rattle.language.specs.Derive.{Der, d-eps, d-symbol, d-call, d-unknown, d-seq, d-left, d-right, d-absent, d-present, d-none, d-more}
 use Rattle.language.specs.Derive.{d-some}
-use Rattle.laws.specs.Demands.Strings.{A, B, C, Yes, No, one, often, inOrder, twoSets, tokenOrCall, recursive, endless, twice}
-use Rattle.laws.specs.Demands.Strings.{inBlock, silent, StringsTold}
+use Rattle.laws.specs.Demands.Strings.{A, B, C, END, Yes, No, Empty, one, often, inOrder, twoSets, tokenOrCall, recursive, endless}
+use Rattle.laws.specs.Demands.Strings.{twice, inBlock, oftenEnd, twoEnds, silent, StringsTold}
 use Rattle.laws.specs.Derivation.Could.{could, bodyOf, tree-of, derived, failed}
 
 once : Yes (often 0) (A ∷ [])
@@ -85,6 +86,34 @@ nothing-there : Yes silent []
 unfolding find eraseBlock eraseElement eraseLeaf quantified
 nothing-there = derived silent refl (d-left (d-seq refl d-eps (d-seq refl d-eps (d-seq refl d-eps d-eps))))
 
+end-once : Yes (oftenEnd 0) (END ∷ [])
+unfolding find eraseBlock eraseElement eraseLeaf quantified
+end-once = derived (oftenEnd 0) refl (d-left (d-seq refl d-symbol d-eps))
+
+end-absent : Yes (oftenEnd 1) []
+unfolding find eraseBlock eraseElement eraseLeaf quantified
+end-absent = derived (oftenEnd 1) refl (d-left (d-seq refl d-absent d-eps))
+
+end-any : Yes (oftenEnd 3) (END ∷ END ∷ [])
+unfolding find eraseBlock eraseElement eraseLeaf quantified
+end-any = derived (oftenEnd 3) refl (d-left (d-seq refl (d-more refl d-symbol (d-more refl d-symbol d-none)) d-eps))
+
+end-some : Yes (oftenEnd 5) (END ∷ END ∷ [])
+unfolding find eraseBlock eraseElement eraseLeaf quantified
+end-some = derived (oftenEnd 5) refl (d-left (d-seq refl (d-some refl d-symbol (d-more refl d-symbol d-none)) d-eps))
+
+ends-alike : Yes twoEnds (END ∷ END ∷ [])
+unfolding find eraseBlock eraseElement eraseLeaf quantified
+ends-alike = derived twoEnds refl (d-left (d-seq refl d-symbol (d-seq refl d-symbol d-eps)))
+
+end-empty : Empty (oftenEnd 0)
+unfolding all isMark
+end-empty = record { word = END ∷ []; marks = refl; derives = end-once }
+
+end-some-empty : Empty (oftenEnd 5)
+unfolding all isMark
+end-some-empty = record { word = END ∷ END ∷ []; marks = refl; derives = end-some }
+
 not-twice : No (often 0) (A ∷ A ∷ [])
 unfolding find eraseBlock eraseElement eraseLeaf quantified could
 not-twice = failed (often 0) (A ∷ A ∷ []) refl refl
@@ -157,6 +186,26 @@ silent-nothing : No silent (A ∷ [])
 unfolding find eraseBlock eraseElement eraseLeaf quantified could
 silent-nothing = failed silent (A ∷ []) refl refl
 
+end-not-absent : No (oftenEnd 0) []
+unfolding find eraseBlock eraseElement eraseLeaf quantified could
+end-not-absent = failed (oftenEnd 0) [] refl refl
+
+end-not-twice : No (oftenEnd 0) (END ∷ END ∷ [])
+unfolding find eraseBlock eraseElement eraseLeaf quantified could
+end-not-twice = failed (oftenEnd 0) (END ∷ END ∷ []) refl refl
+
+end-some-not-absent : No (oftenEnd 5) []
+unfolding find eraseBlock eraseElement eraseLeaf quantified could
+end-some-not-absent = failed (oftenEnd 5) [] refl refl
+
+end-is-no-token : No (oftenEnd 0) (tokenSymbol 0 ∷ [])
+unfolding find eraseBlock eraseElement eraseLeaf quantified could
+end-is-no-token = failed (oftenEnd 0) (tokenSymbol 0 ∷ []) refl refl
+
+end-is-no-other : No (oftenEnd 0) (otherSymbol 0 ∷ [])
+unfolding find eraseBlock eraseElement eraseLeaf quantified could
+end-is-no-other = failed (oftenEnd 0) (otherSymbol 0 ∷ []) refl refl
+
 -- The shapes of `s: s`: a tree of one of them has another in it.
 data Endless : Shape → Type 0 where
   again : Endless (callOf 3)
@@ -208,6 +257,13 @@ strings-told =
       calledTwice = called-twice;
       blockRepeated = block-repeated;
       nothingThere = nothing-there;
+      endOnce = end-once;
+      endAbsent = end-absent;
+      endAny = end-any;
+      endSome = end-some;
+      endsAlike = ends-alike;
+      endEmpty = end-empty;
+      endSomeEmpty = end-some-empty;
       notTwice = not-twice;
       notAbsent = not-absent;
       optionalNotTwice = optional-not-twice;
@@ -226,6 +282,11 @@ strings-told =
       notCalledOnce = not-called-once;
       blockNotAbsent = block-not-absent;
       silentNothing = silent-nothing;
+      endNotAbsent = end-not-absent;
+      endNotTwice = end-not-twice;
+      endSomeNotAbsent = end-some-not-absent;
+      endIsNoToken = end-is-no-token;
+      endIsNoOther = end-is-no-other;
       endlessNothing = endless-nothing;
       noAlternative = no-alternative;
     }

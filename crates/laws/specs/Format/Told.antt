@@ -11,8 +11,8 @@ use borrow.Author.Tests.{leb-true, le-leb}
 use Rattle.grammar.specs.Lists.{each, only, all, AllOf, distinct, below}
 use Rattle.grammar.specs.Ids.{blockIds, bodyIds, isDistinct, isBelow}
 use Rattle.grammar.specs.Words.{words}
-use Rattle.grammar.specs.Tree.{Reference, Label, unlabelled, labelled, ElementHead, Leaf, epsilon, action, predicate, call, token}
-use Rattle.grammar.specs.Tree.{terminal, OptionDecl, Element, leaf, block, AlternativeOf, Block, Rule, Sheet, bodyDepth, Counters}
+use Rattle.grammar.specs.Tree.{Reference, Label, unlabelled, labelled, ElementHead, Leaf, epsilon, action, predicate, call, token, terminal}
+use Rattle.grammar.specs.Tree.{endOfInput, OptionDecl, Element, leaf, block, AlternativeOf, Block, Rule, Sheet, bodyDepth, Counters}
 use Rattle.grammar.specs.Encode.{encodeHead, leafKind, encodeLeaf, encodeElement, encodeAlternative, encodeRule, encodeBlock, encode}
 use Rattle.grammar.specs.Valid.{okOption, okReference, okLabel, okHead, okLeaf, okElement, okAlternative, okRule, okBlock, isKind, valid}
 use Rattle.grammar.specs.Read.{isName}
@@ -50,6 +50,7 @@ leaf-words h (predicate p) = ap (λ ws. ws ++ bodyWords (p .id) (p .references))
 leaf-words h (call c) = ap (λ ws. ws ++ (c .name ∷ c .arguments ∷ [])) (head-words h 3)
 leaf-words h (token n) = ap (λ ws. ws ++ (n ∷ [])) (head-words h 4)
 leaf-words h terminal = ap (λ ws. ws ++ []) (head-words h 5)
+leaf-words h endOfInput = ap (λ ws. ws ++ []) (head-words h 7)
 
 element-words : {B : Type 0} (f g : B → List ℕ) → ((b : B) → f b ≡ g b) → (e : Element B) → encodeElement f e ≡ elementWords g e
 unfolding encodeElement
@@ -138,6 +139,7 @@ leaf-says (predicate p) = all-say okReference GoodReference reference-says (p .r
 leaf-says (call c) = name-says (c .name)
 leaf-says (token n) = name-says n
 leaf-says terminal = always
+leaf-says endOfInput = always
 
 module _ {B : Type 0} (ok : B → Bool) (Good : B → Type 0) (says : (b : B) → Says (ok b) (Good b)) where
   element-says : (e : Element B) → Says (okElement ok e) (GoodElement Good e)

@@ -4,10 +4,10 @@ use mathlib.Core.Path.{_≡_, refl, ap, ap₂}
 use mathlib.Core.List.{List, [], _∷_, _++_}
 use mathlib.Core.Bool.{Bool, true, false, _&&_, _||_, not}
 use Rattle.grammar.specs.Lists.{all, any}
-use Rattle.grammar.specs.Tree.{Leaf, epsilon, action, predicate, call, token, terminal, Element, leaf, block, Block}
+use Rattle.grammar.specs.Tree.{Leaf, epsilon, action, predicate, call, token, terminal, endOfInput, Element, leaf, block, Block}
 use Rattle.grammar.specs.Corners.{Corners, rust, textbook}
 use Rattle.language.specs.Shape.{Shape, eraseLeaf, eraseElement, eraseElements, eraseBlock, EachCall}
-use Rattle.reference.specs.Walks.{silent, consuming, calling, sortOf, isOptional, elementGives, blockGives, elementsGive}
+use Rattle.reference.specs.Walks.{silent, consuming, calling, sortOf, isEnd, isOptional, elementGives, blockGives, elementsGive}
 use Rattle.reference.specs.Analysis.{Grammar, target, calls, collectCallsInElements, collectCallsInto, leafNullable, elementNullable}
 use Rattle.reference.specs.Analysis.{blockIsNullable, isStop, collectLeftCornerCalls, blockCorners, leftCorners}
 use Rattle.laws.specs.Analysis.Names.{isUnknown}
@@ -33,6 +33,7 @@ sort-same u v f k x (predicate a) p = refl
 sort-same u v f k x (call c) p = p
 sort-same u v f k x (token n) p = refl
 sort-same u v f k x terminal p = refl
+sort-same u v f k x endOfInput p = refl
 
 module _ (g h : Grammar) where
   abbrev pub Agreed : Shape → Type 0
@@ -46,14 +47,16 @@ module _ (g h : Grammar) where
 
   leaf-empty : (x : ℕ) (l : Leaf) → Agreed (eraseLeaf x l) → leafNullable g l ≡ leafNullable h l
   unfolding leafNullable named
-  leaf-empty x l p = sort-same true false (named g) (named h) x l (each-call-map (λ n a. a .empty) (eraseLeaf x l) p)
+  leaf-empty x l p =
+      ap (λ b. isEnd l || b) (sort-same true false (named g) (named h) x l (each-call-map (λ n a. a .empty) (eraseLeaf x l) p))
 
   leaf-stops : (c : Corners) (x : ℕ) (l : Leaf) → Agreed (eraseLeaf x l) → isStop c g l ≡ isStop c h l
   unfolding isStop
   leaf-stops textbook x l p = refl
   leaf-stops rust x l p =
-      sort-same false true (λ n. isUnknown (target g n)) (λ n. isUnknown (target h n)) x l
-      (each-call-map (λ n a. ap isUnknown (a .means)) (eraseLeaf x l) p)
+      ap (λ b. not (isEnd l) && b)
+      (sort-same false true (λ n. isUnknown (target g n)) (λ n. isUnknown (target h n)) x l
+      (each-call-map (λ n a. ap isUnknown (a .means)) (eraseLeaf x l) p))
 
   -- Of an alternative's elements.
   record ElementsAlike (d : ℕ) (es : List (Element (Block d))) : Type 0 where

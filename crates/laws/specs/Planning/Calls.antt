@@ -3,7 +3,7 @@ use Prim.Native.Nat.{ℕ, zero, suc}
 use mathlib.Core.Path.{_≡_, refl, sym, subst}
 use mathlib.Core.List.{List, [], _∷_, _++_, map, List·Memᴰ, List·Memᴰ·head, Memᴰ·append-left, Memᴰ·append-right}
 use mathlib.Core.Option.{some}
-use Rattle.grammar.specs.Tree.{ElementHead, Call, Leaf, epsilon, action, predicate, call, token, terminal, Element, leaf, block}
+use Rattle.grammar.specs.Tree.{ElementHead, Call, Leaf, epsilon, action, predicate, call, token, terminal, endOfInput, Element, leaf, block}
 use Rattle.grammar.specs.Tree.{AlternativeOf, Block, RuleOf}
 use Rattle.grammar.specs.Lists.{each, nothing}
 use Rattle.language.specs.Shape.{Shape, eps, fail, symbol, callOf, seq, alt, opt, star, plus, quantified, eraseLeaf, eraseElement}
@@ -40,6 +40,7 @@ module _ (g : Grammar) (xs : List ℕ) where
   leaf-calls k (call c) h = λ t e. h t (rw (e, calls) (List·Memᴰ·head refl))
   leaf-calls k (token n) h = tt
   leaf-calls k terminal h = tt
+  leaf-calls k endOfInput h = tt
 
   module _ (d : ℕ) (block-calls : (b : Block d) → ((t : ℕ) → List·Memᴰ t (collectCallsInto g d b) → List·Memᴰ t xs)
       → EachCall CallsIn (eraseBlock d b)) where

@@ -11,8 +11,8 @@ use borrow.Author.Tests.{leb-true, le-leb}
 use Rattle.grammar.specs.Lists.{each, nothing, any, member, meet, keep}
 use Rattle.grammar.specs.Laws.Lists.{member-in, in-member, in-map}
 use Rattle.grammar.specs.Laws.Parse.{either}
-use Rattle.grammar.specs.Tree.{Reference, Label, unlabelled, labelled, ElementHead, Leaf, epsilon, action, predicate, call, token}
-use Rattle.grammar.specs.Tree.{terminal, Element, leaf, block, Block}
+use Rattle.grammar.specs.Tree.{Reference, Label, unlabelled, labelled, ElementHead, Leaf, epsilon, action, predicate, call, token, terminal}
+use Rattle.grammar.specs.Tree.{endOfInput, Element, leaf, block, Block}
 use Rattle.grammar.specs.Numbers.{qualified}
 use Rattle.graph.specs.Members.{each-in, in-each, in-keep, keep-in}
 use Rattle.reference.specs.Walks.{elementGives, blockGives, elementsGive, labelNames, leafNames, references}
@@ -130,6 +130,7 @@ module _ (d : ℕ) (n : ℕ) (es : Items d) where
   leaf-binds (call c) i m = byCall i (sym (List·Memᴰ·eq-of-singleton m))
   leaf-binds (token k) i m = byToken (subst (λ k. LeafIn (token k) d es) (sym (List·Memᴰ·eq-of-singleton m)) i)
   leaf-binds terminal i m = absurd (List·Memᴰ·not-nil m)
+  leaf-binds endOfInput i m = absurd (List·Memᴰ·not-nil m)
 
   bindings-walked : List·Memᴰ n (bindableNames d es) ↔ Binds d n es
   unfolding bindableNames leafNames
@@ -172,6 +173,7 @@ module _ (d : ℕ) (n : ℕ) (es : Items d) where
     leaf-refers (call c) i m = found-in (call c) (λ r k. absurd (List·Memᴰ·not-nil k)) m
     leaf-refers (token k) i m = found-in (token k) (λ r k. absurd (List·Memᴰ·not-nil k)) m
     leaf-refers terminal i m = found-in terminal (λ r k. absurd (List·Memᴰ·not-nil k)) m
+    leaf-refers endOfInput i m = found-in endOfInput (λ r k. absurd (List·Memᴰ·not-nil k)) m
 
     found-name : (l : Leaf) {r : Reference} → List·Memᴰ r (references l) → r .name ≡ n → Sort r → List·Memᴰ n (names l)
     found-name l {r} k e t = subst (λ n. List·Memᴰ n (names l)) e (in-map (λ r. r .name) (same r (references l) .1 (k, t)))

@@ -10,7 +10,7 @@ use lib.Seq.{take-at, drop-at}
 use lib.Dec.{eqb}
 use borrow.Author.Tests.{eqb-true, eq-eqb}
 use Rattle.grammar.specs.Lists.{AllOf, member}
-use Rattle.grammar.specs.Tree.{ElementHead, Call, epsilon, action, predicate, call, token, terminal, Element, leaf, block}
+use Rattle.grammar.specs.Tree.{ElementHead, Call, epsilon, action, predicate, call, token, terminal, endOfInput, Element, leaf, block}
 use Rattle.grammar.specs.Laws.Parse.{both-true, left-true, right-true, either}
 use Rattle.grammar.specs.Numbers.{once, optionalGreedy}
 use Rattle.reference.specs.Walks.{Sort, silent, consuming, calling, sortOf, isEpsilonOnly, isOne, bareReference}
@@ -111,6 +111,7 @@ module _ (g : Grammar) (cycle : List ℕ) (hub : ℕ) where
     corner-means (leaf h (call c) ∷ es) = call-means es h c (target g (c .name)) refl
     corner-means (leaf h (token n) ∷ es) = tt
     corner-means (leaf h terminal ∷ es) = tt
+    corner-means (leaf h endOfInput ∷ es) = tt
     corner-means (block h b ∷ es) = tt
 
     settled-behind : (front es : List (Element B)) → AllOf (λ e. isEpsilonOnly e ≡ true) front

@@ -7,7 +7,7 @@ use mathlib.Core.List.{List·Memᴰ·eq-of-singleton}
 use mathlib.Core.Option.{Option, none, some}
 use mathlib.Core.Bool.{Bool, true, false, _&&_, true≢false}
 use Rattle.grammar.specs.Lists.{each, nothing, member, AllOf}
-use Rattle.grammar.specs.Tree.{ElementHead, Call, Leaf, epsilon, action, predicate, call, token, terminal, Element, leaf, block}
+use Rattle.grammar.specs.Tree.{ElementHead, Call, Leaf, epsilon, action, predicate, call, token, terminal, endOfInput, Element, leaf, block}
 use Rattle.grammar.specs.Tree.{AlternativeOf, Block}
 use Rattle.reference.specs.Walks.{silent, sortOf, isEpsilonOnly, isOne, bareReference, elementGives, blockGives}
 use Rattle.reference.specs.Analysis.{Grammar, target, calls, collectCallsInto}
@@ -28,6 +28,7 @@ module _ (g : Grammar) where
     leaf-called (predicate p) m = absurd (List·Memᴰ·not-nil m)
     leaf-called (token n) m = absurd (List·Memᴰ·not-nil m)
     leaf-called terminal m = absurd (List·Memᴰ·not-nil m)
+    leaf-called endOfInput m = absurd (List·Memᴰ·not-nil m)
     leaf-called (call k) m = go (target g (k .name)) refl m
       where
         go : (o : Option ℕ) → target g (k .name) ≡ o → List·Memᴰ i (elim o as (λ x. List ℕ) [ none ↦ [] | some t ↦ t ∷ [] ])
@@ -124,6 +125,7 @@ module _ (g : Grammar) where
       enters (leaf h (predicate p) ∷ es) e = enters-behind (leaf h (predicate p)) es refl (enters es e)
       enters (leaf h (token n) ∷ es) e = absurd (true≢false (sym e))
       enters (leaf h terminal ∷ es) e = absurd (true≢false (sym e))
+      enters (leaf h endOfInput ∷ es) e = absurd (true≢false (sym e))
       enters (leaf h (call k) ∷ es) e = go (target g (k .name)) refl e
         where
           go : (o : Option ℕ) → target g (k .name) ≡ o
@@ -158,6 +160,7 @@ module _ (g : Grammar) where
       entered-front h k rest t e w (leaf x (predicate p) ∷ front) s = entered-front h k rest t e w front (s .1)
       entered-front h k rest t e w (leaf x (token n) ∷ front) s = absurd (true≢false (sym (s .0)))
       entered-front h k rest t e w (leaf x terminal ∷ front) s = absurd (true≢false (sym (s .0)))
+      entered-front h k rest t e w (leaf x endOfInput ∷ front) s = absurd (true≢false (sym (s .0)))
       entered-front h k rest t e w (leaf x (call c) ∷ front) s = absurd (true≢false (sym (s .0)))
 
       pub entered : (es : List (Element B)) → Enters g cycle es → cornerEntersCycle g cycle es ≡ true

@@ -9,8 +9,8 @@ use native.Mathlib.Omega.{arith}
 use borrow.Author.Tests.{eqb-true, eq-eqb}
 use Rattle.grammar.specs.Lists.{all, each, isEmpty, AllOf}
 use Rattle.grammar.specs.Numbers.{actionSort, predicateSort}
-use Rattle.grammar.specs.Tree.{Label, unlabelled, labelled, Leaf, epsilon, action, predicate, call, token, terminal, Element, leaf, block}
-use Rattle.grammar.specs.Tree.{AlternativeOf, Block, RuleOf}
+use Rattle.grammar.specs.Tree.{Label, unlabelled, labelled, Leaf, epsilon, action, predicate, call, token, terminal, endOfInput, Element}
+use Rattle.grammar.specs.Tree.{leaf, block, AlternativeOf, Block, RuleOf}
 use Rattle.grammar.specs.Ids.{labelIds, headIds, leafIds, elementIds, alternativeIds, blockIds}
 use Rattle.grammar.specs.Laws.Parse.{both-true, left-true, right-true}
 use Rattle.language.specs.Shape.{OnElement, OnBlock}
@@ -43,6 +43,7 @@ leaf-none (predicate p) = (λ e. absurd e, λ n. let e = n .1 in let z : _≡_ {
 leaf-none (call c) = (λ _. (refl, refl), λ _. tt)
 leaf-none (token n) = (λ _. (refl, refl), λ _. tt)
 leaf-none terminal = (λ _. (refl, refl), λ _. tt)
+leaf-none endOfInput = (λ _. (refl, refl), λ _. tt)
 
 abbrev code : {B : Type 0} → (B → Type 0) → Element B → Type 0
 code = OnElement (λ h l. NoCode l)

@@ -5,7 +5,7 @@ use mathlib.Core.Logic.{⊎-elim}
 use mathlib.Core.List.{List, [], _∷_, List·Memᴰ, List·Memᴰ·not-nil, List·Memᴰ·append-cases, List·Memᴰ·eq-of-singleton}
 use mathlib.Core.Option.{Option, none, some}
 use Rattle.grammar.specs.Lists.{each, nothing}
-use Rattle.grammar.specs.Tree.{Leaf, epsilon, action, predicate, call, token, terminal, Element, leaf, block, Block}
+use Rattle.grammar.specs.Tree.{Leaf, epsilon, action, predicate, call, token, terminal, endOfInput, Element, leaf, block, Block}
 use Rattle.language.specs.Shape.{eraseLeaf, eraseElement, eraseBlock, EachCall}
 use Rattle.reference.specs.Walks.{sortOf, elementGives, blockGives, elementsGive}
 use Rattle.reference.specs.Analysis.{Grammar, target, calls, collectCallsInElements}
@@ -29,6 +29,7 @@ module _ (g : Grammar) (P : ℕ → Type 0) (t : ℕ) where
       go (some u) e n = (c .name, e ∙ ap some (sym (List·Memᴰ·eq-of-singleton n)), p)
   leaf-named k (token n) p m = absurd (List·Memᴰ·not-nil m)
   leaf-named k terminal p m = absurd (List·Memᴰ·not-nil m)
+  leaf-named k endOfInput p m = absurd (List·Memᴰ·not-nil m)
 
   module _ (d : ℕ) (inner : (b : Block d) → EachCall P (eraseBlock d b) → List·Memᴰ t (blockGives nothing (calls g) d b) → Named) where
     element-named : (e : Element (Block d)) → EachCall P (eraseElement (eraseBlock d) e)

@@ -2,8 +2,8 @@
 use Prim.Native.Nat.{ℕ, zero, suc}
 use mathlib.Core.Path.{_≡_, refl, sym, ap, ap₂, _∙_}
 use mathlib.Core.List.{List, [], _∷_, map, map-map}
-use Rattle.grammar.specs.Tree.{Label, unlabelled, labelled, Leaf, epsilon, action, predicate, call, token, terminal, Element, leaf, block}
-use Rattle.grammar.specs.Tree.{AlternativeOf, Block, Counters}
+use Rattle.grammar.specs.Tree.{Label, unlabelled, labelled, Leaf, epsilon, action, predicate, call, token, terminal, endOfInput, Element}
+use Rattle.grammar.specs.Tree.{leaf, block, AlternativeOf, Block, Counters}
 use Rattle.grammar.specs.Laws.Parse.{either}
 use Rattle.grammar.specs.Numbers.{alternativeSort, elementSort}
 use Rattle.language.specs.Shape.{alts, eraseBlock}
@@ -40,6 +40,7 @@ leaf-copy (predicate p) c = refl
 leaf-copy (call k) c = refl
 leaf-copy (token n) c = refl
 leaf-copy terminal c = refl
+leaf-copy endOfInput c = refl
 
 module _ {B : Type 0} (renumber : B → Counters → Fresh B) (drop : B → B)
     (h : (b : B) (c : Counters) → drop (renumber b c .node) ≡ drop b) where

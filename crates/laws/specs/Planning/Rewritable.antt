@@ -10,8 +10,8 @@ use borrow.Author.Tests.{eqb-true, eq-eqb, not-true, not-false}
 use Rattle.grammar.specs.Lists.{member, all, any, meet}
 use Rattle.grammar.specs.Laws.Lists.{in-member}
 use Rattle.grammar.specs.Laws.Parse.{both-true, left-true, right-true, either}
-use Rattle.grammar.specs.Tree.{ElementHead, Call, epsilon, action, predicate, call, token, terminal, Element, leaf, block, Block, RuleOf}
-use Rattle.grammar.specs.Tree.{Rule, bodyDepth}
+use Rattle.grammar.specs.Tree.{ElementHead, Call, epsilon, action, predicate, call, token, terminal, endOfInput, Element, leaf, block}
+use Rattle.grammar.specs.Tree.{Block, RuleOf, Rule, bodyDepth}
 use Rattle.grammar.specs.Corners.{Corners}
 use Rattle.reference.specs.Walks.{sortOf, isEpsilonOnly}
 use Rattle.reference.specs.Analysis.{Grammar, target, calls, grammarOf, elementNullable, blockIsNullable, leftCorners}
@@ -45,6 +45,7 @@ only-silent (leaf h (predicate p)) t = isPredicate
 only-silent (leaf h (call c)) t = absurd (false≢true t)
 only-silent (leaf h (token n)) t = absurd (false≢true t)
 only-silent (leaf h terminal) t = absurd (false≢true t)
+only-silent (leaf h endOfInput) t = absurd (false≢true t)
 only-silent (block h b) t = absurd (false≢true t)
 
 left-false : (a b : Bool) → (a || b) ≡ false → a ≡ false

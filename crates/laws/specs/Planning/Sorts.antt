@@ -8,7 +8,8 @@ use lib.ListN.{drop}
 use lib.Dec.{eqb}
 use borrow.Author.Tests.{eqb-true, not-true, not-false}
 use Rattle.grammar.specs.Laws.Lists.{member-in}
-use Rattle.grammar.specs.Tree.{ElementHead, Call, epsilon, action, predicate, call, token, terminal, Element, leaf, block, Block, RuleOf}
+use Rattle.grammar.specs.Tree.{ElementHead, Call, epsilon, action, predicate, call, token, terminal, endOfInput, Element, leaf, block}
+use Rattle.grammar.specs.Tree.{Block, RuleOf}
 use Rattle.grammar.specs.Lists.{member, all, any, meet}
 use Rattle.language.specs.Shape.{eraseRules}
 use Rattle.language.specs.Derive.{CanBeEmpty}
@@ -58,6 +59,7 @@ module _ (g : Grammar) (hub : ℕ) {B : Type 0} where
   hub-call (leaf h (call k)) e = hub-tested h k (target g (k .name)) refl e
   hub-call (leaf h (token n)) {c} e = absurd (Option·none-ne-some c e)
   hub-call (leaf h terminal) {c} e = absurd (Option·none-ne-some c e)
+  hub-call (leaf h endOfInput) {c} e = absurd (Option·none-ne-some c e)
   hub-call (block h b) {c} e = absurd (Option·none-ne-some c e)
 
   -- The first element is such a call, and no such call has arguments.

@@ -38,6 +38,10 @@ use Rattle.laws.specs.Provenance.Recording.{recorded-so}
 use Rattle.laws.specs.BothReadings.Readings.{demand3-textbook, demand3-rust}
 use Rattle.laws.specs.BothReadings.Later.{later-rust}
 use Rattle.laws.specs.BothReadings.SameRun.{outcome-same}
+use Rattle.laws.specs.Analysis.End.{empties, end-looked-past}
+use Rattle.laws.specs.Analysis.Without.{as-before}
+use Rattle.laws.specs.BothReadings.Ends.{end-of-inputs, empty-by-mark}
+use Rattle.laws.specs.BothReadings.Without.{outcome-before}
 use Rattle.laws.specs.BothReadings.Sheets.{no-more-of-rust, nullable-hub-returns}
 use Rattle.laws.specs.Proved.Analysis.{sheet-empty, sheet-corners, textbook-corners, sheet-cycles, origins-told, result-reads-back}
 use Rattle.laws.specs.Proved.Analysis.{stage-reads-back, other-units}
@@ -93,6 +97,7 @@ numbers-bought =
       kindToken = refl;
       kindTerminal = refl;
       kindBlock = refl;
+      kindEndOfInput = refl;
       kinds = refl;
       referenceAttribute = refl;
       referenceQualified = refl;
@@ -134,6 +139,12 @@ theorems =
       leftCornersTold = sheet-left-corners;
       textbookCorners = textbook-corners;
       cyclesListed = λ c s v. sheet-cycles s v c;
+      endSkipped = end-looked-past;
+      emptyIsEmpty = empties;
+      endOfInputs = end-of-inputs;
+      emptyByMark = empty-by-mark;
+      withoutEnd = as-before;
+      outcomeWithoutEnd = outcome-before;
       sheetLeft = λ s. record { none = sheet-none s; last = sheet-last s };
       demand3 = λ limits c s ts r. demand3 limits c s (valid-told s (r .0)) ts (r .1);
       treesTold = trees-told;

@@ -1,14 +1,14 @@
 -- The cases of Demands.Met: the sheet `returning` of Examples in both readings, a unit of a lexer without rules, and no bytes.
 use Prim.Native.Nat.{ℕ, zero, suc, _+_, _≤_}
 use mathlib.Core.Path.{_≡_, refl, sym, ap, ap₂, _∙_, subst}
-use mathlib.Core.List.{List, [], _∷_, append-nil, List·Memᴰ, List·Memᴰ·head, List·Memᴰ·not-nil}
+use mathlib.Core.List.{List, [], _∷_, append-nil, List·Memᴰ, List·Memᴰ·head, List·Memᴰ·tail, List·Memᴰ·not-nil}
 use mathlib.Core.Option.{some}
 use mathlib.Core.Bool.{true, false, _||_, true≢false}
 use native.Mathlib.Omega.{arith}
 use lib.ListN.{length, replicate, length-replicate}
 use lib.Dec.{eqb}
 use borrow.Author.Tests.{eqb-true}
-use Rattle.grammar.specs.Lists.{each, member}
+use Rattle.grammar.specs.Lists.{AllOf, each, member}
 use Rattle.grammar.specs.Numbers.{lexer, parser, once, resultBytes, trailBytes, workBytes}
 use Rattle.grammar.specs.Tree.{unlabelled, Rule, bodyDepth, Sheet}
 use Rattle.grammar.specs.Words.{bytes}
@@ -17,9 +17,11 @@ use Rattle.grammar.specs.Valid.{valid, fits}
 use Rattle.grammar.specs.Reading.{refused, sheet, isLength, read}
 use Rattle.grammar.specs.Read.{isName}
 use Rattle.grammar.specs.Laws.Parse.{either}
+use Rattle.language.specs.Shape.{OnBlock}
 use Rattle.grammar.specs.Corners.{Corners, rust, textbook}
 use Rattle.grammar.specs.Laws.Words.{AreBytes}
 use Rattle.grammar.specs.Laws.Codec.{reads-back}
+use Rattle.reference.specs.Walks.{isEnd}
 use Rattle.reference.specs.Substitute.{standard}
 use Rattle.reference.specs.Analysis.{grammarOf, target}
 use Rattle.reference.specs.Run.{Stage, eliminateMutualLeftRecursion, sheetAfter, stepsOf, encodeEntry, entriesOf}
@@ -27,6 +29,7 @@ use Rattle.reference.specs.Run.{answer, refusal, answerRun, answerReading, answ
 use Rattle.reference.specs.Computed.{computed}
 use Rattle.reference.specs.Written.{counted}
 use Rattle.laws.specs.Examples.{returning}
+use Rattle.laws.specs.Demands.End.{NotEnd, NoEnd}
 use Rattle.laws.specs.Demands.Shape.{NoOptionalSymbol}
 use Rattle.laws.specs.Demands.Run.{rulesOf}
 use Rattle.laws.specs.Demands.Table.{Lent}
@@ -74,6 +77,23 @@ returningBytes = bytes (encode returning)
 
 reads-returning : read returningBytes ≡ sheet returning
 reads-returning = reads-back returning valid-returning fits-returning
+
+-- No end of input stands in its rules, and no other sheet stands in its bytes.
+ends-nowhere : AllOf (λ r. OnBlock NotEnd bodyDepth (r .body)) (returning .rules)
+unfolding OnBlock isEnd
+ends-nowhere = (((refl, tt), ((refl, tt), tt)), (((refl, (refl, tt)), tt), tt))
+
+of-each : {A : Type 0} (P : A → Type 0) {xs : List A} {a : A} → List·Memᴰ a xs → AllOf P xs → P a
+of-each P (List·Memᴰ·head e) p = subst P (sym e) (p .0)
+of-each P (List·Memᴰ·tail m) p = of-each P m (p .1)
+
+no-end-returning : NoEnd bodyDepth (returning .rules)
+no-end-returning = record { everywhere = λ r m. of-each (λ r. OnBlock NotEnd bodyDepth (r .body)) m ends-nowhere }
+
+no-end-read : (s : Sheet) → read returningBytes ≡ sheet s → NoEnd bodyDepth (s .rules)
+no-end-read s e =
+    let k : returning ≡ s = let z = sym reads-returning ∙ e in cc in
+    subst (λ x. NoEnd bodyDepth (x .rules)) k no-end-returning
 
 -- A lexer's unit without rules.
 abbrev bare : Sheet
@@ -240,6 +260,8 @@ met =
         not-parser,
         number-0,
       );
+      noEnd = (bodyDepth, returning .rules, no-end-returning);
+      bytesNoEnd = (returningBytes, bytes-are (encode returning), returning, reads-returning, no-end-read);
       aMember = (returning, valid-returning, _, List·Memᴰ·head refl, 1 ∷ 2 ∷ [], first-member);
       aRenaming = (returningBytes, bytes-are (encode returning), returning, tree-returning, λ n. n + 7, renames-returning);
       otherCarried = (

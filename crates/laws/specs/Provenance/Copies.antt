@@ -5,8 +5,8 @@ use mathlib.Core.Logic.{⊎-elim}
 use mathlib.Core.List.{List, [], _∷_, _++_, append-nil, List·Memᴰ, List·Memᴰ·not-nil, List·Memᴰ·append-cases}
 use mathlib.Core.List.{List·Memᴰ·eq-of-singleton}
 use lib.Dec.{eqb}
-use Rattle.grammar.specs.Tree.{Label, unlabelled, labelled, ElementHead, Leaf, epsilon, action, predicate, call, token, terminal, Element}
-use Rattle.grammar.specs.Tree.{leaf, block, AlternativeOf, Block, Counters}
+use Rattle.grammar.specs.Tree.{Label, unlabelled, labelled, ElementHead, Leaf, epsilon, action, predicate, call, token, terminal}
+use Rattle.grammar.specs.Tree.{endOfInput, Element, leaf, block, AlternativeOf, Block, Counters}
 use Rattle.grammar.specs.Lists.{each, only}
 use Rattle.grammar.specs.Laws.Lists.{each-append}
 use Rattle.grammar.specs.Numbers.{alternativeSort}
@@ -82,6 +82,7 @@ copy-leaf (predicate p) c = copy-as (copy-one predicateSort (c .predicate) (p .i
 copy-leaf (call x) c = copy-nothing (λ k. refl) (λ k. refl)
 copy-leaf (token n) c = copy-nothing (λ k. refl) (λ k. refl)
 copy-leaf terminal c = copy-nothing (λ k. refl) (λ k. refl)
+copy-leaf endOfInput c = copy-nothing (λ k. refl) (λ k. refl)
 
 copy-head : (h : ElementHead) (c : Counters) → Copies headNodes h (renumberHead h c)
 unfolding renumberHead headNodes
@@ -141,6 +142,7 @@ module _ (k : ℕ) where
   leaf-ids (call c) = refl
   leaf-ids (token n) = refl
   leaf-ids terminal = refl
+  leaf-ids endOfInput = refl
 
   each-same : {A : Type 0} (f g : A → List ℕ) → ((a : A) → f a ≡ g a) → (as′ : List A) → each f as′ ≡ each g as′
   each-same f g h [] = refl

@@ -8,8 +8,8 @@ use mathlib.Core.Bool.{Bool, true, false}
 use native.Mathlib.Omega.{arith}
 use lib.Dec.{eqb}
 use borrow.Author.Tests.{eqb-true, eqb-false, eq-eqb, ne-eqb}
-use Rattle.grammar.specs.Tree.{Label, unlabelled, labelled, ElementHead, Leaf, epsilon, action, predicate, call, token, terminal, Element}
-use Rattle.grammar.specs.Tree.{leaf, block, AlternativeOf, Block, Counters}
+use Rattle.grammar.specs.Tree.{Label, unlabelled, labelled, ElementHead, Leaf, epsilon, action, predicate, call, token, terminal}
+use Rattle.grammar.specs.Tree.{endOfInput, Element, leaf, block, AlternativeOf, Block, Counters}
 use Rattle.grammar.specs.Lists.{each, only}
 use Rattle.grammar.specs.Ids.{labelIds, headIds, leafIds, elementIds, alternativeIds, blockIds}
 use Rattle.grammar.specs.Laws.Parse.{either}
@@ -176,6 +176,7 @@ copied-leaf (predicate p) c h = t-fresh ofPredicate true (p .id) (h ofPredicate 
 copied-leaf (call k) c h = t-end
 copied-leaf (token n) c h = t-end
 copied-leaf terminal c h = t-end
+copied-leaf endOfInput c h = t-end
 
 copied-head : (h : ElementHead) (c : Counters) → Copied headIds h c (renumberHead h c)
 unfolding renumberHead headIds

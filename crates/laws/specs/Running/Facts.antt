@@ -13,7 +13,7 @@ use Rattle.grammar.specs.Laws.Lists.{in-member, member-in, in-map}
 use Rattle.grammar.specs.Laws.Parse.{both-true, left-true, right-true, either}
 use Rattle.language.specs.Shape.{eraseBlock, EachCall}
 use Rattle.language.specs.Laws.Removal.{each-any}
-use Rattle.language.specs.Laws.Rules.{found-rule}
+use Rattle.language.specs.Laws.Rules.{found-rule, same-can-be-empty}
 use Rattle.reference.specs.Analysis.{Grammar, idsOf, target, collectCallsInto, nullableRules, grammarOf}
 use Rattle.reference.specs.Substitute.{Limits, decided}
 use Rattle.reference.specs.Plan.{CyclePlan, planCycle}
@@ -60,12 +60,14 @@ module _ (d : ℕ) {rs ks : Rules d} (told : Told rs) (x : Leaves d rs ks) where
       same-test (member i (nullableRules d ks)) (member i (idsOf ks) && member i (nullableRules d rs))
       (λ y.
       let s = is .0 y in
-      let (q, m, e, b) = found-rule d (λ r. r .id) ks i (s .found) in
+      let (q, m, e, b) = found-rule d (λ r. r .id) ks i (s .derives .found) in
       let u = in-member (subst (λ j. List·Memᴰ j (idsOf ks)) e (in-map (λ r. r .id) m)) in
-      both-true (member i (idsOf ks)) (member i (nullableRules d rs)) u (was .1 (leaves-derives d told x i u [] .1 s)))
+      both-true (member i (idsOf ks)) (member i (nullableRules d rs)) u
+      (was .1 (same-can-be-empty (λ w. leaves-derives d told x i u w .1) s)))
       (λ y.
       let u = left-true (member i (idsOf ks)) (member i (nullableRules d rs)) y in
-      is .1 (leaves-derives d told x i u [] .0 (was .0 (right-true (member i (idsOf ks)) (member i (nullableRules d rs)) y))))
+      is .1 (same-can-be-empty (λ w. leaves-derives d told x i u w .0)
+      (was .0 (right-true (member i (idsOf ks)) (member i (nullableRules d rs)) y))))
 
   -- What a rule left calls, if the grammar before knows it, is left.
   calls-left : (q : RuleOf (Block d)) → List·Memᴰ q ks → EachCall (CallsIn g (idsOf ks)) (eraseBlock d (q .body))

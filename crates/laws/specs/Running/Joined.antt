@@ -7,11 +7,12 @@ use mathlib.Core.Bool.{Bool, true, false, _||_, not}
 use native.Mathlib.Omega.{arith}
 use borrow.Author.Tests.{not-true}
 use Rattle.grammar.specs.Laws.Lists.{in-map}
-use Rattle.grammar.specs.Tree.{ElementHead, Call, epsilon, action, predicate, call, token, terminal, leaf, block, AlternativeOf, Block}
-use Rattle.grammar.specs.Tree.{RuleOf, Counters}
+use Rattle.grammar.specs.Tree.{ElementHead, Call, epsilon, action, predicate, call, token, terminal, endOfInput, leaf, block, AlternativeOf}
+use Rattle.grammar.specs.Tree.{Block, RuleOf, Counters}
 use Rattle.grammar.specs.Lists.{member, all, any}
 use Rattle.language.specs.Shape.{eraseBlock, eraseRules, EachCall}
 use Rattle.language.specs.Derive.{CanBeEmpty}
+use Rattle.language.specs.Laws.Empty.{by-same}
 use Rattle.grammar.specs.Corners.{Corners}
 use Rattle.language.specs.LeftCorners.{Corner}
 use Rattle.grammar.specs.Laws.Parse.{left-true, right-true, either}
@@ -43,6 +44,7 @@ copy-starts d (leaf h′ (action a) ∷ es) h c rest e = absurd (let z : _≡_ {
 copy-starts d (leaf h′ (predicate p) ∷ es) h c rest e = absurd (let z : _≡_ {A = ℕ} 0 1 = cc in omega arith)
 copy-starts d (leaf h′ (token m) ∷ es) h c rest e = absurd (let z : _≡_ {A = ℕ} 0 1 = cc in omega arith)
 copy-starts d (leaf h′ terminal ∷ es) h c rest e = absurd (let z : _≡_ {A = ℕ} 0 1 = cc in omega arith)
+copy-starts d (leaf h′ endOfInput ∷ es) h c rest e = absurd (let z : _≡_ {A = ℕ} 0 1 = cc in omega arith)
 copy-starts d (block h′ b ∷ es) h c rest e = absurd (let z : _≡_ {A = ℕ} 0 1 = cc in omega arith)
 
 -- What each alternative of a body calls has a property.
@@ -150,7 +152,7 @@ module _ {c : Corners} {d : ℕ} {rs : List (RuleOf (Block (suc d)))} (k : Known
           bare = h .bare;
           goesOn =
               λ o. h .goesOn (subst (CanBeEmpty (eraseRules (suc d) rs)) (copies-shape d rest (h .rest) r)
-              (left-same k x counters (shapeOf d rest) (u .1) .back [] o));
+              (by-same (left-same k x counters (shapeOf d rest) (u .1) .back) o));
         }
 
   pub sorts-after : (a : AlternativeOf (Block d)) → List·Memᴰ a (newBody k x counters)

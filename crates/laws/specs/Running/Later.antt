@@ -13,13 +13,13 @@ use Rattle.grammar.specs.Laws.Lists.{in-member}
 use Rattle.grammar.specs.Tree.{ElementHead, Call, call, leaf, AlternativeOf, Block, Rule, bodyDepth}
 use Rattle.grammar.specs.Lists.{member, rising}
 use Rattle.language.specs.Shape.{callOf, eraseBlock, Shapes, eraseRules}
-use Rattle.language.specs.Derive.{CanBeEmpty, RuleDerives}
+use Rattle.language.specs.Derive.{CanBeEmpty, RuleCanBeEmpty}
 use Rattle.grammar.specs.Corners.{Corners}
 use Rattle.language.specs.LeftCorners.{Corner, c-call, c-first, c-later, Leads, Reaches, r-last, r-more}
 use Rattle.grammar.specs.Laws.Parse.{left-true, either}
 use Rattle.grammar.specs.Numbers.{once}
 use Rattle.language.specs.Laws.Corner.{reaches-trans}
-use Rattle.language.specs.Laws.Rules.{found-rule, rule-derives}
+use Rattle.language.specs.Laws.Rules.{found-rule, rule-can-be-empty}
 use Rattle.reference.specs.Analysis.{grammarOf, leftCornerCycles}
 use Rattle.reference.specs.Substitute.{Limits}
 use Rattle.reference.specs.Run.{innerDepth, Stage}
@@ -92,12 +92,12 @@ module _ (limits : Limits) (corners : Corners) (preserved : List ℕ) {t : Stage
       (record { source = u; source-there = i; source-id = sym e ∙ shape .isHub; goal = v; goal-there = j; goal-id = refl; path = there })
       (record { source = v; source-there = j; source-id = refl; goal = u; goal-there = i; goal-id = sym e ∙ shape .isHub; path = back }))
 
-  module _ (full : RuleDerives bodyDepth after (t .plan .hub) [] → ⊥) where
+  module _ (full : RuleCanBeEmpty bodyDepth after (t .plan .hub) → ⊥) where
     not-empty : CanBeEmpty K (callOf H) → ⊥
     not-empty o =
         full
-        (subst (λ i. RuleDerives bodyDepth after i []) (shape .isHub)
-        (rule-derives bodyDepth after (leaves .told .ids) (leaves .told .names) (shape .isLeft) [] .1 o))
+        (subst (RuleCanBeEmpty bodyDepth after) (shape .isHub)
+        (rule-can-be-empty bodyDepth after (leaves .told .ids) (leaves .told .names) (shape .isLeft) .1 o))
 
     first-step : {m : ℕ} → Leads corners K H m → Reaches corners K m H → m ≡ H
     first-step {m} l b =
@@ -168,7 +168,7 @@ module _ (limits : Limits) (corners : Corners) (preserved : List ℕ) where
         n ∙ ap (λ r. r .name) (one-with (λ r. r .id) (t .after .node) (here .ids) i (joined .isLeft) (sym f ∙ e ∙ sym (joined .isHub)))
 
     -- In no later grammar does it stand in a circle with another.
-    pub no-circle : (RuleDerives bodyDepth (t .after .node) (t .plan .hub) [] → ⊥) → {m : ℕ}
+    pub no-circle : (RuleCanBeEmpty bodyDepth (t .after .node) (t .plan .hub) → ⊥) → {m : ℕ}
         → Reaches corners (eraseRules bodyDepth later) (joined .rule .name) m
         → Reaches corners (eraseRules bodyDepth later) m (joined .rule .name) → m ≡ joined .rule .name
     no-circle full r b = alone limits corners preserved told h full (chain-reaches corners here c r) refl (chain-reaches corners here c b)
@@ -179,7 +179,7 @@ module _ (limits : Limits) (corners : Corners) (preserved : List ℕ) where
           free = λ full cycle m. either (member (t .plan .hub) cycle) (λ y. absurd (none full cycle m y)) (λ n. n);
         }
       where
-        none : (RuleDerives bodyDepth (t .after .node) (t .plan .hub) [] → ⊥) → (cycle : List ℕ)
+        none : (RuleCanBeEmpty bodyDepth (t .after .node) (t .plan .hub) → ⊥) → (cycle : List ℕ)
             → List·Memᴰ cycle (leftCornerCycles corners (grammarOf bodyDepth later) bodyDepth later) → member (t .plan .hub) cycle ≡ true
             → ⊥
         none full cycle m y =

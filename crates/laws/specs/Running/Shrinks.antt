@@ -7,12 +7,12 @@ use mathlib.Core.Option.{some}
 use Rattle.grammar.specs.Tree.{call, Element, leaf, AlternativeOf}
 use Rattle.grammar.specs.Tree.{Block, RuleOf, Counters}
 use Rattle.language.specs.Shape.{Shape, seqs, alts, eraseElement, eraseBlock, Shapes, find, eraseRules}
-use Rattle.language.specs.Derive.{CanBeEmpty, d-left, d-right}
+use Rattle.language.specs.Derive.{CanBeEmpty}
 use Rattle.grammar.specs.Corners.{Corners}
 use Rattle.grammar.specs.Numbers.{optionalGreedy}
 use Rattle.language.specs.LeftCorners.{Corner, c-first, c-later, c-left, c-right, Leads}
 use Rattle.language.specs.LeftCorners.{Reaches, r-last, r-more}
-use Rattle.language.specs.Laws.Empty.{seqs-empty}
+use Rattle.language.specs.Laws.Empty.{alt-empty, seqs-empty}
 use Rattle.language.specs.Laws.Corner.{reaches-trans}
 use Rattle.language.specs.Laws.Elements.{corner-append}
 use Rattle.language.specs.Laws.Rules.{found-rule, rule-found}
@@ -96,8 +96,8 @@ module _ (o : Corners) {d : ℕ} {rs : List (RuleOf (Block (suc d)))} {g : Gramm
         one-empty : {as′ : List (AlternativeOf (Block d))} {s : AlternativeOf (Block d)} → List·Memᴰ s as′
             → CanBeEmpty before (shapeOf d (s .elements))
             → CanBeEmpty before (alts (map (λ a. shapeOf d (a .elements)) as′))
-        one-empty (List·Memᴰ·head e) w = d-left (subst (λ a. CanBeEmpty before (shapeOf d (a .elements))) e w)
-        one-empty (List·Memᴰ·tail n) w = d-right (one-empty n w)
+        one-empty (List·Memᴰ·head e) w = alt-empty _ _ .1 (inl (subst (λ a. CanBeEmpty before (shapeOf d (a .elements))) e w))
+        one-empty (List·Memᴰ·tail n) w = alt-empty _ _ .1 (inr (one-empty n w))
 
   turn-corner : {es : Items d} {news : List (Items d)} → Turn d rs g cycle hub es news → {m : ℕ} → Corner o before (bodyOf d news) m
       → Beyond o before (shapeOf d es) m

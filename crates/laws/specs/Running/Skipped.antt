@@ -6,14 +6,14 @@ use mathlib.Core.List.{List, [], _∷_, _++_, map, List·Memᴰ, List·Memᴰ·h
 use mathlib.Core.Option.{some}
 use mathlib.Core.Bool.{true, false, false≢true}
 use Rattle.grammar.specs.Lists.{AllOf}
-use Rattle.grammar.specs.Tree.{ElementHead, Call, epsilon, action, predicate, call, token, terminal, Element, leaf, block}
+use Rattle.grammar.specs.Tree.{ElementHead, Call, epsilon, action, predicate, call, token, terminal, endOfInput, Element, leaf, block}
 use Rattle.language.specs.Shape.{Shape, eps, callOf, alts, quantified, eraseLeaf, eraseElement, eraseBlock, Shapes, find}
-use Rattle.language.specs.Derive.{CanBeEmpty, d-eps, d-call}
+use Rattle.language.specs.Derive.{CanBeEmpty, d-eps}
 use Rattle.grammar.specs.Corners.{Corners, rust, textbook}
 use Rattle.grammar.specs.Numbers.{optionalGreedy}
 use Rattle.language.specs.LeftCorners.{isMissing, isSymbol, stops, Skippable, Corner, c-call, c-first, c-later, c-left, c-right}
 use Rattle.language.specs.LeftCorners.{Reaches}
-use Rattle.language.specs.Laws.Empty.{quantified-empty}
+use Rattle.language.specs.Laws.Empty.{nothing, call-empty, quantified-empty}
 use Rattle.language.specs.Laws.Corner.{corner-quantified, symbol-quantified}
 use Rattle.reference.specs.Walks.{sortOf, isEpsilonOnly}
 use Rattle.reference.specs.Analysis.{Grammar}
@@ -41,6 +41,7 @@ module _ (c : Corners) (G : Shapes) where
     silent-erased (leaf h (call c)) t = absurd (false≢true t)
     silent-erased (leaf h (token n)) t = absurd (false≢true t)
     silent-erased (leaf h terminal) t = absurd (false≢true t)
+    silent-erased (leaf h endOfInput) t = absurd (false≢true t)
     silent-erased (block h b) t = absurd (false≢true t)
 
     eps-stops : (o : Corners) → stops o G eps ≡ false
@@ -52,7 +53,7 @@ module _ (c : Corners) (G : Shapes) where
     silent-skips e t =
         let (q, p) = silent-erased e t in
         subst (Skippable c G) (sym p) (record {
-          empty = quantified-empty q eps .1 (inr d-eps);
+          empty = quantified-empty q eps .1 (inr (nothing d-eps));
           goesOn = stops-quantified c q eps (eps-stops c);
         })
 
@@ -131,7 +132,7 @@ module _ (c : Corners) (G : Shapes) where
     call-skips h f o =
         subst (Skippable c G) (sym (call-erased h))
         (record {
-          empty = quantified-empty (h .quantifier) (callOf (k .name)) .1 (inr (d-call f o));
+          empty = quantified-empty (h .quantifier) (callOf (k .name)) .1 (inr (call-empty (k .name) .1 (_, f, o)));
           goesOn = stops-quantified c (h .quantifier) (callOf (k .name)) (found-stops c (k .name) f);
         })
 

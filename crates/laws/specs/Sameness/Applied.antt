@@ -7,8 +7,9 @@ use lib.Dec.{eqb}
 use Rattle.grammar.specs.Laws.Parse.{either}
 use Rattle.grammar.specs.Lists.{member, keep}
 use Rattle.grammar.specs.Numbers.{ruleSort, alternativeSort, elementSort}
-use Rattle.grammar.specs.Tree.{Label, unlabelled, labelled, ElementHead, Leaf, epsilon, action, predicate, call, token, terminal, Element}
-use Rattle.grammar.specs.Tree.{leaf, block, AlternativeOf, Block, RuleOf, Counters, withHeadId, withLabel, withAlternativeId, withElements}
+use Rattle.grammar.specs.Tree.{Label, unlabelled, labelled, ElementHead, Leaf, epsilon, action, predicate, call, token, terminal}
+use Rattle.grammar.specs.Tree.{endOfInput, Element, leaf, block, AlternativeOf, Block, RuleOf, Counters, withHeadId, withLabel}
+use Rattle.grammar.specs.Tree.{withAlternativeId, withElements}
 use Rattle.reference.specs.Substitute.{Planned}
 use Rattle.reference.specs.Plan.{CyclePlan}
 use Rattle.reference.specs.Apply.{clone, boundary, Fresh, withEntries, unchanged, recording, _followedBy_, freshEach, past, renumberLabel}
@@ -63,6 +64,7 @@ module _ (f r : ℕ → ℕ) where
   leaf-fresh (call k) c = refl
   leaf-fresh (token n) c = refl
   leaf-fresh terminal c = refl
+  leaf-fresh endOfInput c = refl
 
   module _ {B : Type 0} (onB : B → B) (renumber : B → Counters → Fresh B)
       (e : (b : B) (c : Counters) → renumber (onB b) c ≡ onFresh onB (renumber b c)) where

@@ -14,7 +14,7 @@ use Rattle.grammar.specs.Numbers.{wordEnd, mostName, blockKind}
 use Rattle.grammar.specs.Encode.{encodeOption, encodeReference, labelId, labelName, encodeHead, leafKind, encodeLeaf, encodeElement}
 use Rattle.grammar.specs.Encode.{encodeAlternative, encodeRule, encodeBlock}
 use Rattle.grammar.specs.Tree.{OptionDecl, Reference, Label, unlabelled, labelled, ElementHead, Leaf, epsilon, action, predicate, call}
-use Rattle.grammar.specs.Tree.{token, terminal, Element, leaf, block, AlternativeOf, Block, Rule, bodyDepth}
+use Rattle.grammar.specs.Tree.{token, terminal, endOfInput, Element, leaf, block, AlternativeOf, Block, Rule, bodyDepth}
 use Rattle.reference.specs.Walks.{labelNames}
 use Rattle.laws.specs.Lists.Every.{left-of, right-of}
 use Rattle.laws.specs.Demands.Marks.{onOption, onReference, onLabel, onHead, onLeaf, onElement, onAlternative, onRule, onBlock}
@@ -101,6 +101,7 @@ module _ (f r : ℕ → ℕ) (words : (n : ℕ) → W n ≡ true → W (r n) ≡
   kind-same (call c) = refl
   kind-same (token n) = refl
   kind-same terminal = refl
+  kind-same endOfInput = refl
 
   leaf-words : (l : Leaf) → AllOf (Good f r) (namesOfLeaf l) → Wordy (encodeLeaf l) → Wordy (encodeLeaf (onLeaf f r l))
   unfolding encodeLeaf onLeaf namesOfLeaf
@@ -114,6 +115,7 @@ module _ (f r : ℕ → ℕ) (words : (n : ℕ) → W n ≡ true → W (r n) ≡
   leaf-words (call c) h = more (c .name) (f (c .name)) _ _ (λ _. name-word (f (c .name)) (h .0)) (λ t. t)
   leaf-words (token n) h = more n (f n) _ _ (λ _. name-word (f n) (h .0)) (λ t. t)
   leaf-words terminal h = λ t. t
+  leaf-words endOfInput h = λ t. t
 
   each-words : {A B : Type 0} (names : A → List ℕ) (on : A → B) (enc : A → List ℕ) (enc′ : B → List ℕ)
       → ((a : A) → AllOf (Good f r) (names a) → Wordy (enc a) → Wordy (enc′ (on a))) → (as′ : List A) → AllOf (Good f r) (each names as′)

@@ -9,8 +9,8 @@ use borrow.Author.Tests.{eqb-true}
 use Rattle.grammar.specs.Laws.Parse.{either}
 use Rattle.grammar.specs.Lists.{each, member}
 use Rattle.grammar.specs.Corners.{Corners}
-use Rattle.grammar.specs.Tree.{OptionDecl, ElementHead, Leaf, epsilon, action, predicate, call, token, terminal, Element, leaf, block}
-use Rattle.grammar.specs.Tree.{AlternativeOf, Block, Rule, Sheet, bodyDepth}
+use Rattle.grammar.specs.Tree.{OptionDecl, ElementHead, Leaf, epsilon, action, predicate, call, token, terminal, endOfInput, Element, leaf}
+use Rattle.grammar.specs.Tree.{block, AlternativeOf, Block, Rule, Sheet, bodyDepth}
 use Rattle.reference.specs.Walks.{labelNames}
 use Rattle.reference.specs.Substitute.{Limits}
 use Rattle.reference.specs.Run.{Stage, ended, eliminateMutualLeftRecursion, sheetAfter}
@@ -42,6 +42,7 @@ module _ (f r : ℕ → ℕ) where
   leaf-names (call c) = refl
   leaf-names (token n) = refl
   leaf-names terminal = refl
+  leaf-names endOfInput = refl
 
   module _ {B : Type 0} (ofB : B → List ℕ) (onB : B → B) (e : (b : B) → ofB (onB b) ≡ map f (ofB b)) where
     element-names : (x : Element B) → elementNames ofB (onElement f r onB x) ≡ map f (elementNames ofB x)

@@ -10,7 +10,7 @@ use Rattle.grammar.specs.Read.{isName}
 use Rattle.grammar.specs.Numbers.{nonLocal, oneOrMoreNongreedy, mostAlternativeFlag, mostRuleFlags}
 use Rattle.grammar.specs.Valid.{okOption, okReference, okLabel, okHead, okLeaf, okElement, okAlternative, okRule, okBlock}
 use Rattle.grammar.specs.Tree.{OptionDecl, Reference, Label, unlabelled, labelled, ElementHead, Leaf, epsilon, action, predicate, call}
-use Rattle.grammar.specs.Tree.{token, terminal, Element, leaf, block, AlternativeOf, Block, Rule, bodyDepth}
+use Rattle.grammar.specs.Tree.{token, terminal, endOfInput, Element, leaf, block, AlternativeOf, Block, Rule, bodyDepth}
 use Rattle.reference.specs.Walks.{labelNames}
 use Rattle.laws.specs.Lists.Every.{left-of, right-of}
 use Rattle.laws.specs.Demands.Marks.{onOption, onReference, onLabel, onHead, onLeaf, onElement, onAlternative, onRule, onBlock}
@@ -57,6 +57,7 @@ module _ (f r : ℕ → ℕ) where
   leaf-good (call c) h t = h .0
   leaf-good (token n) h t = h .0
   leaf-good terminal h t = refl
+  leaf-good endOfInput h t = refl
 
   each-good : {A B : Type 0} (names : A → List ℕ) (on : A → B) (ok : A → Bool) (ok′ : B → Bool)
       → ((a : A) → AllOf Good (names a) → ok a ≡ true → ok′ (on a) ≡ true) → (as′ : List A) → AllOf Good (each names as′)

@@ -8,7 +8,8 @@ use mathlib.Core.Bool.{Bool, true, false, _&&_, not}
 use lib.Dec.{eqb}
 use Rattle.grammar.specs.Lists.{member, any, isEmpty, keep, first}
 use Rattle.grammar.specs.Numbers.{actionSort, predicateSort}
-use Rattle.grammar.specs.Tree.{ElementHead, Call, epsilon, action, predicate, call, token, terminal, Element, leaf, block, Block, RuleOf}
+use Rattle.grammar.specs.Tree.{ElementHead, Call, epsilon, action, predicate, call, token, terminal, endOfInput, Element, leaf, block}
+use Rattle.grammar.specs.Tree.{Block, RuleOf}
 use Rattle.reference.specs.Walks.{sortOf, isOne}
 use Rattle.reference.specs.Analysis.{Grammar, target, ruleWithId}
 use Rattle.reference.specs.Plan.{Corner, bare, outsideCycle, unusable, calledCorner, classifyCorner, cornerEntersCycle}
@@ -48,6 +49,7 @@ module _ (f r : ℕ → ℕ) (one : (a b : ℕ) → f a ≡ f b → a ≡ b) (d 
         (fun-ext (called-on h c)))
     classify-on onB (leaf h (token n) ∷ es) = refl
     classify-on onB (leaf h terminal ∷ es) = refl
+    classify-on onB (leaf h endOfInput ∷ es) = refl
     classify-on onB (block h b ∷ es) = refl
 
     enters-on : {B : Type 0} (onB : B → B) (es : List (Element B))

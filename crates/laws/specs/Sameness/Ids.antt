@@ -6,8 +6,8 @@ use lib.Dec.{eqb}
 use Rattle.grammar.specs.Lists.{only}
 use Rattle.grammar.specs.Numbers.{alternativeSort, elementSort}
 use Rattle.grammar.specs.Ids.{labelIds, headIds, leafIds, elementIds, alternativeIds, blockIds}
-use Rattle.grammar.specs.Tree.{Label, unlabelled, labelled, ElementHead, Leaf, epsilon, action, predicate, call, token, terminal, Element}
-use Rattle.grammar.specs.Tree.{leaf, block, Block}
+use Rattle.grammar.specs.Tree.{Label, unlabelled, labelled, ElementHead, Leaf, epsilon, action, predicate, call, token, terminal}
+use Rattle.grammar.specs.Tree.{endOfInput, Element, leaf, block, Block}
 use Rattle.laws.specs.Lists.Mapped.{each-same}
 use Rattle.laws.specs.Demands.Marks.{onLabel, onHead, onLeaf, onElement, onAlternative, onBlock}
 
@@ -25,6 +25,7 @@ module _ (f r : ℕ → ℕ) (sort : ℕ) where
   leaf-ids (call c) = refl
   leaf-ids (token n) = refl
   leaf-ids terminal = refl
+  leaf-ids endOfInput = refl
 
   head-ids : (h : ElementHead) → headIds sort (onHead f r h) ≡ headIds sort h
   unfolding headIds

@@ -6,8 +6,8 @@ use lib.ListN.{length}
 use Rattle.grammar.specs.Lists.{each}
 use Rattle.grammar.specs.Encode.{encodeOption, encodeReference, encodeHead, leafKind, encodeLeaf, encodeElement, encodeAlternative}
 use Rattle.grammar.specs.Encode.{encodeRule, encodeBlock, encodeRules, encode}
-use Rattle.grammar.specs.Tree.{ElementHead, Leaf, epsilon, action, predicate, call, token, terminal, Element, leaf, block, AlternativeOf}
-use Rattle.grammar.specs.Tree.{Block, Rule, Sheet, bodyDepth}
+use Rattle.grammar.specs.Tree.{ElementHead, Leaf, epsilon, action, predicate, call, token, terminal, endOfInput, Element, leaf, block}
+use Rattle.grammar.specs.Tree.{AlternativeOf, Block, Rule, Sheet, bodyDepth}
 use Rattle.laws.specs.Lists.Mapped.{both-length, each-length}
 use Rattle.laws.specs.Demands.Marks.{onOption, onReference, onHead, onLeaf, onElement, onAlternative, onRule, onBlock, onSheet}
 
@@ -27,6 +27,7 @@ module _ (f r : ℕ → ℕ) where
   leaf-length (call c) = refl
   leaf-length (token n) = refl
   leaf-length terminal = refl
+  leaf-length endOfInput = refl
 
   module _ {B : Type 0} (onB : B → B) (enc : B → List ℕ) (e : (b : B) → length (enc (onB b)) ≡ length (enc b)) where
     element-length : (x : Element B) → length (encodeElement enc (onElement f r onB x)) ≡ length (encodeElement enc x)

@@ -11,9 +11,9 @@ use Rattle.grammar.specs.Laws.Parse.{either}
 use Rattle.grammar.specs.Numbers.{optionalGreedy}
 use Rattle.grammar.specs.Corners.{Corners, rust, textbook}
 use Rattle.grammar.specs.Lists.{member, all, keep, first, rounds, sorted}
-use Rattle.grammar.specs.Tree.{Label, unlabelled, labelled, ElementHead, Call, withLabel}
-use Rattle.grammar.specs.Tree.{Leaf, epsilon, action, predicate, call, token, terminal, Element, leaf, block, Block, RuleOf}
-use Rattle.reference.specs.Walks.{sortOf, isOptional, isOne, bareReference}
+use Rattle.grammar.specs.Tree.{Label, unlabelled, labelled, ElementHead, Call, withLabel, Leaf, epsilon, action, predicate, call, token}
+use Rattle.grammar.specs.Tree.{terminal, endOfInput, Element, leaf, block, Block, RuleOf}
+use Rattle.reference.specs.Walks.{sortOf, isEnd, isOptional, isOne, bareReference}
 use Rattle.reference.specs.Analysis.{Name, Grammar, nameOf, namesOf, target, leafNullable, elementNullable, blockIsNullable, nullableRound}
 use Rattle.reference.specs.Analysis.{idsOf, nullableRules, grammarOf, calls, isStop, collectLeftCornerCalls, blockCorners, rowOf}
 use Rattle.reference.specs.Analysis.{cyclesFrom, reach, leftCornerCycles}
@@ -63,13 +63,14 @@ module _ (f r : ℕ → ℕ) (one : (a b : ℕ) → f a ≡ f b → a ≡ b) whe
   -- What can be empty is the same.
   module _ (g : Grammar) where
     leaf-on : (l : Leaf) → leafNullable (onGrammar g) (onLeaf f r l) ≡ leafNullable g l
-    unfolding leafNullable sortOf onLeaf
+    unfolding leafNullable sortOf isEnd onLeaf
     leaf-on epsilon = refl
     leaf-on (action a) = refl
     leaf-on (predicate p) = refl
     leaf-on (call c) = rw (target-on g (c .name), leafNullable) refl
     leaf-on (token n) = refl
     leaf-on terminal = refl
+    leaf-on endOfInput = refl
 
     module _ {B : Type 0} (onB : B → B) (test test′ : B → Bool) (h : (b : B) → test′ (onB b) ≡ test b) where
       pub element-on : (e : Element B) → elementNullable (onGrammar g) test′ (onElement f r onB e) ≡ elementNullable g test e
@@ -97,9 +98,10 @@ module _ (f r : ℕ → ℕ) (one : (a b : ℕ) → f a ≡ f b → a ≡ b) whe
     calls-on (call c) = rw (target-on g (c .name), calls) refl
     calls-on (token n) = refl
     calls-on terminal = refl
+    calls-on endOfInput = refl
 
     stop-on : (c : Corners) (l : Leaf) → isStop c (onGrammar g) (onLeaf f r l) ≡ isStop c g l
-    unfolding isStop sortOf onLeaf
+    unfolding isStop sortOf isEnd onLeaf
     stop-on textbook l = refl
     stop-on rust epsilon = refl
     stop-on rust (action a) = refl
@@ -107,6 +109,7 @@ module _ (f r : ℕ → ℕ) (one : (a b : ℕ) → f a ≡ f b → a ≡ b) whe
     stop-on rust (call c) = rw (target-on g (c .name), isStop) refl
     stop-on rust (token n) = refl
     stop-on rust terminal = refl
+    stop-on rust endOfInput = refl
 
     module _ (c : Corners) {B : Type 0} (onB : B → B) (corners : B → List ℕ) (corners′ : B → List ℕ) (test test′ : B → Bool)
         (h : (b : B) → corners′ (onB b) ≡ corners b) (k : (b : B) → test′ (onB b) ≡ test b) where
@@ -199,4 +202,5 @@ module _ (f r : ℕ → ℕ) (one : (a b : ℕ) → f a ≡ f b → a ≡ b) whe
       ]) (fun-ext (member-on hub h c)))
   corner-on g cycle hub onB (leaf h (token n) ∷ es) = refl
   corner-on g cycle hub onB (leaf h terminal ∷ es) = refl
+  corner-on g cycle hub onB (leaf h endOfInput ∷ es) = refl
   corner-on g cycle hub onB (block h b ∷ es) = refl

@@ -5,7 +5,7 @@ use mathlib.Core.List.{List, [], _∷_, _++_, map}
 use mathlib.Core.Bool.{true}
 use Rattle.grammar.specs.Lists.{AllOf, each, member}
 use Rattle.grammar.specs.Tree.{OptionDecl, Reference, Label, unlabelled, labelled, ElementHead, Leaf, epsilon, action, predicate, call}
-use Rattle.grammar.specs.Tree.{token, terminal, Element, leaf, block, AlternativeOf, Block, Rule, Sheet, bodyDepth}
+use Rattle.grammar.specs.Tree.{token, terminal, endOfInput, Element, leaf, block, AlternativeOf, Block, Rule, Sheet, bodyDepth}
 use Rattle.reference.specs.Walks.{labelNames}
 use Rattle.laws.specs.Demands.Marks.{optionNames, headNames, namesOfLeaf, elementNames, alternativeNames, blockNames, namesIn}
 use Rattle.laws.specs.Lists.Every.{left-of, right-of, all-members}
@@ -46,6 +46,7 @@ module _ (f g r : ℕ → ℕ) where
   leaf-agrees (call c) h = ap (λ n. call (record { name = n; arguments = c .arguments })) (h .0)
   leaf-agrees (token n) h = ap token (h .0)
   leaf-agrees terminal h = refl
+  leaf-agrees endOfInput h = refl
 
   each-agrees : {A B : Type 0} (names : A → List ℕ) (h k : A → B) → ((a : A) → Agree (names a) → h a ≡ k a) → (as′ : List A)
       → Agree (each names as′) → map h as′ ≡ map k as′

@@ -9,7 +9,7 @@ use lib.Dec.{eqb}
 use Rattle.grammar.specs.Laws.Parse.{either}
 use Rattle.grammar.specs.Lists.{all, meet}
 use Rattle.grammar.specs.Corners.{Corners}
-use Rattle.grammar.specs.Tree.{Call, epsilon, action, predicate, call, token, terminal, Element, leaf, block, Block}
+use Rattle.grammar.specs.Tree.{Call, epsilon, action, predicate, call, token, terminal, endOfInput, Element, leaf, block, Block}
 use Rattle.reference.specs.Walks.{sortOf, isEpsilonOnly, isOne}
 use Rattle.reference.specs.Analysis.{Grammar, target, elementNullable, blockIsNullable, blockCorners, leftCorners}
 use Rattle.reference.specs.Substitute.{Elements, Planned}
@@ -45,6 +45,7 @@ module _ (f r : ℕ → ℕ) (one : (a b : ℕ) → f a ≡ f b → a ≡ b) (d 
       go (some t) = either (isOne h && eqb t hub) (λ y. rw (y, hubs) refl) (λ n. rw (n, hubs) refl)
   hub-call-on (leaf h (token n)) = refl
   hub-call-on (leaf h terminal) = refl
+  hub-call-on (leaf h endOfInput) = refl
   hub-call-on (block h b) = refl
 
   -- A question to the call that is found, which does not ask for its name.
@@ -86,6 +87,7 @@ module _ (f r : ℕ → ℕ) (one : (a b : ℕ) → f a ≡ f b → a ≡ b) (d 
   silent-on (leaf h (call c)) = refl
   silent-on (leaf h (token n)) = refl
   silent-on (leaf h terminal) = refl
+  silent-on (leaf h endOfInput) = refl
   silent-on (block h b) = refl
 
   module _ (c : Corners) (cycle : List ℕ) where

@@ -7,7 +7,7 @@ use Rattle.grammar.specs.Lists.{each}
 use Rattle.grammar.specs.Encode.{encodeOption, encodeReference, labelId, labelName, encodeHead, leafKind, encodeLeaf, encodeElement}
 use Rattle.grammar.specs.Encode.{encodeAlternative, encodeRule, encodeBlock, encodeCounters, encode}
 use Rattle.grammar.specs.Tree.{OptionDecl, Reference, Label, unlabelled, labelled, ElementHead, Leaf, epsilon, action, predicate, call}
-use Rattle.grammar.specs.Tree.{token, terminal, Element, leaf, block, AlternativeOf, Block, Rule, Sheet, bodyDepth}
+use Rattle.grammar.specs.Tree.{token, terminal, endOfInput, Element, leaf, block, AlternativeOf, Block, Rule, Sheet, bodyDepth}
 use Rattle.reference.specs.Walks.{labelNames}
 use Rattle.reference.specs.Computed.{computed}
 use Rattle.laws.specs.Demands.Marks.{onOption, onReference, onLabel, onHead, onLeaf, onElement, onAlternative, onRule, onBlock}
@@ -107,6 +107,7 @@ module _ (f r : ℕ → ℕ) where
   leaf-told h (call c) = both (head-told h _) (more-name (more-kept refl none))
   leaf-told h (token n) = both (head-told h _) (more-name none)
   leaf-told h terminal = both (head-told h _) none
+  leaf-told h endOfInput = both (head-told h _) none
 
   module _ {B : Type 0} (sorts : B → List Sort) (onB : B → B) (enc names : B → List ℕ)
       (e : (b : B) → Told (sorts b) (enc b) (enc (onB b)) (names b)) where

@@ -7,8 +7,8 @@ use lib.ListN.{take, drop}
 use lib.Dec.{leb}
 use Rattle.grammar.specs.Lists.{each, member, nothing, keep, meet}
 use Rattle.grammar.specs.Numbers.{qualified}
-use Rattle.grammar.specs.Tree.{Reference, Label, unlabelled, labelled, Leaf, epsilon, action, predicate, call, token, terminal, Element}
-use Rattle.grammar.specs.Tree.{leaf, block, Block}
+use Rattle.grammar.specs.Tree.{Reference, Label, unlabelled, labelled, Leaf, epsilon, action, predicate, call, token, terminal, endOfInput}
+use Rattle.grammar.specs.Tree.{Element, leaf, block, Block}
 use Rattle.reference.specs.Walks.{elementGives, blockGives, elementsGive, labelNames, leafNames, references}
 use Rattle.reference.specs.Substitute.{without, remainingActionsReference, collectLabels, actionReferenceNames, bindableNames}
 use Rattle.reference.specs.Substitute.{labelsCollide, implicitBindingsCollide}
@@ -67,6 +67,7 @@ module _ (f r : ℕ → ℕ) where
   leaf-names (call c) = refl
   leaf-names (token n) = refl
   leaf-names terminal = refl
+  leaf-names endOfInput = refl
 
   pub reference-names : (os : List Reference) → map (λ o. o .name) (map (onReference f r) os) ≡ map f (map (λ o. o .name) os)
   reference-names os = map-map (λ o. o .name) (onReference f r) os ∙ sym (map-map f (λ o. o .name) os)
@@ -79,6 +80,7 @@ module _ (f r : ℕ → ℕ) where
   references-on (call c) = refl
   references-on (token n) = refl
   references-on terminal = refl
+  references-on endOfInput = refl
 
 module _ (f r : ℕ → ℕ) (one : (a b : ℕ) → f a ≡ f b → a ≡ b) (d : ℕ) where
   -- An element, changed.

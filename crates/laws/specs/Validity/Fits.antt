@@ -9,8 +9,8 @@ use native.Mathlib.Omega.{arith}
 use lib.ListN.{length, length-append}
 use lib.Dec.{leb, ltb, eqb}
 use borrow.Author.Tests.{leb-true, ltb-true, le-leb, lt-ltb}
-use Rattle.grammar.specs.Tree.{Leaf, epsilon, action, predicate, call, token, terminal, Element, leaf, block, AlternativeOf, Block, Rule}
-use Rattle.grammar.specs.Tree.{Counters, Sheet, bodyDepth}
+use Rattle.grammar.specs.Tree.{Leaf, epsilon, action, predicate, call, token, terminal, endOfInput, Element, leaf, block, AlternativeOf}
+use Rattle.grammar.specs.Tree.{Block, Rule, Counters, Sheet, bodyDepth}
 use Rattle.grammar.specs.Encode.{encodeOption, encodeHead, leafKind, encodeLeaf, encodeElement, encodeAlternative, encodeRule, encodeBlock}
 use Rattle.grammar.specs.Encode.{encodeRules, encodeCounters, encode}
 use Rattle.grammar.specs.Lists.{each, only, below, all}
@@ -19,8 +19,8 @@ use Rattle.grammar.specs.Ids.{headIds, leafIds, elementIds, alternativeIds, blo
 use Rattle.grammar.specs.Valid.{okOption, okHead, okElement, okAlternative, okRule, okBlock, fits}
 use Rattle.grammar.specs.Laws.Parse.{both-true, left-true, right-true}
 use Rattle.grammar.specs.Laws.Whole.{Parts}
-use Rattle.grammar.specs.Numbers.{mostWords, mostName}
-use Rattle.grammar.specs.Numbers.{wordEnd, lexer, combined, mostRuleFlags, mostAlternativeFlag, alternativeSort}
+use Rattle.grammar.specs.Numbers.{mostWords, mostName, kindEnd, wordEnd, lexer, combined, mostRuleFlags, mostAlternativeFlag}
+use Rattle.grammar.specs.Numbers.{alternativeSort}
 use Rattle.reference.specs.Run.{areWords}
 use Rattle.laws.specs.Lists.Lookup.{all-in}
 use Rattle.graph.specs.Members.{in-each, each-in}
@@ -32,7 +32,7 @@ use Rattle.laws.specs.Validity.Wordy.{optionWords, headWords, leafWords,
 use Rattle.laws.specs.Validity.Wordy.{small, copied, isId, told-in, name-small, each-count, each-part, option-told, leaf-told}
 use Rattle.laws.specs.Validity.Wordy.{head-told}
 
-kind-small : (l : Leaf) → leafKind l ≤ 6
+kind-small : (l : Leaf) → leafKind l < kindEnd
 unfolding leafKind
 kind-small epsilon = omega arith
 kind-small (action a) = omega arith
@@ -40,6 +40,7 @@ kind-small (predicate p) = omega arith
 kind-small (call c) = omega arith
 kind-small (token n) = omega arith
 kind-small terminal = omega arith
+kind-small endOfInput = omega arith
 
 module _ {B : Type 0} (ofBlock enc : B → List ℕ) (ids : ℕ → B → List ℕ) (ok : B → Bool)
     (inside : (b : B) → ok b ≡ true → length (enc b) ≤ mostName → (w : ℕ) → List·Memᴰ w (enc b) → Told (ofBlock b) (λ k. ids k b) w) where

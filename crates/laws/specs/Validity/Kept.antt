@@ -3,8 +3,8 @@ use Prim.Native.Nat.{ℕ, zero, suc}
 use mathlib.Core.Path.{_≡_, refl, ap, ap₂}
 use mathlib.Core.List.{List, [], _∷_, _++_}
 use mathlib.Core.Bool.{Bool, _&&_}
-use Rattle.grammar.specs.Tree.{Label, unlabelled, labelled, ElementHead, Leaf, epsilon, action, predicate, call, token, terminal, Element}
-use Rattle.grammar.specs.Tree.{leaf, block, AlternativeOf, Block, Counters}
+use Rattle.grammar.specs.Tree.{Label, unlabelled, labelled, ElementHead, Leaf, epsilon, action, predicate, call, token, terminal}
+use Rattle.grammar.specs.Tree.{endOfInput, Element, leaf, block, AlternativeOf, Block, Counters}
 use Rattle.grammar.specs.Lists.{each, all}
 use Rattle.grammar.specs.Valid.{okLabel, okHead, okLeaf, okElement, okAlternative, okBlock}
 use Rattle.grammar.specs.Numbers.{alternativeSort, elementSort}
@@ -43,6 +43,7 @@ ok-leaf (predicate p) c = refl
 ok-leaf (call k) c = refl
 ok-leaf (token n) c = refl
 ok-leaf terminal c = refl
+ok-leaf endOfInput c = refl
 
 words-leaf : (l : Leaf) (c : Counters) → leafWords (renumberLeaf l c .node) ≡ leafWords l
 unfolding renumberLeaf
@@ -52,6 +53,7 @@ words-leaf (predicate p) c = refl
 words-leaf (call k) c = refl
 words-leaf (token n) c = refl
 words-leaf terminal c = refl
+words-leaf endOfInput c = refl
 
 module _ {B : Type 0} (renumber : B → Counters → Fresh B) (ok : B → Bool)
     (h : (b : B) (c : Counters) → ok (renumber b c .node) ≡ ok b) where

@@ -9,8 +9,8 @@ use lib.Dec.{leb}
 use borrow.Author.Tests.{leb-true, le-leb}
 use Rattle.grammar.specs.Numbers.{ruleLimit, mostName, oneOrMoreNongreedy, nonLocal, mostRuleFlags, mostAlternativeFlag}
 use Rattle.grammar.specs.Lists.{each, all, rising}
-use Rattle.grammar.specs.Tree.{OptionDecl, Reference, Label, unlabelled, labelled, ElementHead, Leaf, epsilon, action, predicate}
-use Rattle.grammar.specs.Tree.{call, token, terminal, Element, leaf, block, AlternativeOf, Block, RuleOf, Rule, bodyDepth, Sheet}
+use Rattle.grammar.specs.Tree.{OptionDecl, Reference, Label, unlabelled, labelled, ElementHead, Leaf, epsilon, action, predicate, call}
+use Rattle.grammar.specs.Tree.{token, terminal, endOfInput, Element, leaf, block, AlternativeOf, Block, RuleOf, Rule, bodyDepth, Sheet}
 use Rattle.grammar.specs.Read.{isName}
 use Rattle.grammar.specs.Valid.{isKind, okOption, okReference, okLabel, okHead, okLeaf, okElement, okAlternative, okRule, okBlock}
 use Rattle.grammar.specs.Valid.{okRules, valid}
@@ -105,6 +105,7 @@ module _ (m : ℕ) (low : m ≤ mostName) where
   leaf-told (call c) = name-told (c .name)
   leaf-told (token n) = name-told n
   leaf-told terminal = refl
+  leaf-told endOfInput = refl
 
   module _ {B : Type 0} (f g : B → Bool) (inside : B → List ℕ) (h : (b : B) → f b ≡ (g b && fine (inside b))) where
     element-told : (e : Element B) → okElementBy (upTo m) f e ≡ (okElement g e && fine (elementNames inside e))

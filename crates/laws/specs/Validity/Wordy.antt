@@ -1,6 +1,6 @@
 -- When the words of a sheet are 32-bit words: ids are below counters, names and counts are small, and the other numbers
 -- are copied from the sheet handed in.
-use Prim.Native.Nat.{ℕ, zero, suc, _+_, _*_, _≤_}
+use Prim.Native.Nat.{ℕ, zero, suc, _+_, _*_, _≤_, _<_}
 use mathlib.Core.Path.{_≡_, sym, ap, subst}
 use mathlib.Core.Logic.{_⊎_, inl, inr, ⊎-elim}
 use mathlib.Core.List.{List, [], _∷_, _++_, map, List·Memᴰ, List·Memᴰ·head, List·Memᴰ·tail, List·Memᴰ·not-nil, List·Memᴰ·cases-cons}
@@ -12,7 +12,7 @@ use lib.Dec.{leb}
 use borrow.Author.Tests.{leb-true}
 use Rattle.grammar.specs.Laws.Lists.{in-map}
 use Rattle.grammar.specs.Tree.{OptionDecl, Reference, Label, unlabelled, labelled, ElementHead, Leaf, epsilon, action, predicate, call}
-use Rattle.grammar.specs.Tree.{token, terminal, Element, leaf, block, AlternativeOf, Block}
+use Rattle.grammar.specs.Tree.{token, terminal, endOfInput, Element, leaf, block, AlternativeOf, Block}
 use Rattle.grammar.specs.Encode.{encodeOption, encodeReference, labelId, labelName, encodeHead, leafKind, encodeLeaf, encodeElement}
 use Rattle.grammar.specs.Encode.{encodeAlternative, encodeBlock}
 use Rattle.grammar.specs.Lists.{each, all}
@@ -20,8 +20,7 @@ use Rattle.grammar.specs.Read.{isName}
 use Rattle.grammar.specs.Ids.{labelIds, headIds, leafIds}
 use Rattle.grammar.specs.Valid.{okOption, okReference, okLabel, okHead, okLeaf}
 use Rattle.grammar.specs.Laws.Parse.{left-true, right-true}
-use Rattle.grammar.specs.Numbers.{mostName}
-use Rattle.grammar.specs.Numbers.{oneOrMoreNongreedy, blockKind, nonLocal}
+use Rattle.grammar.specs.Numbers.{mostName, oneOrMoreNongreedy, kindEnd, nonLocal}
 use Rattle.laws.specs.Lists.Lookup.{all-in}
 use Rattle.graph.specs.Members.{in-each, each-in}
 use Rattle.laws.specs.Demands.Applied.{Sort, ofElement, ofLabel, ofAction, ofPredicate, number}
@@ -37,6 +36,7 @@ leafWords (predicate p) = []
 leafWords (call c) = c .arguments ∷ []
 leafWords (token n) = []
 leafWords terminal = []
+leafWords endOfInput = []
 
 abbrev pub headWords : ElementHead → List ℕ
 headWords h = h .carried ∷ optionWords (h .options)
@@ -71,6 +71,7 @@ leaf-in (predicate p) m = absurd (List·Memᴰ·not-nil m)
 leaf-in (call c) m = List·Memᴰ·tail m
 leaf-in (token n) m = absurd (List·Memᴰ·not-nil m)
 leaf-in terminal m = absurd (List·Memᴰ·not-nil m)
+leaf-in endOfInput m = absurd (List·Memᴰ·not-nil m)
 
 module _ {B : Type 0} (ofBlock enc : B → List ℕ) (inside : (b : B) (w : ℕ) → List·Memᴰ w (ofBlock b) → List·Memᴰ w (enc b)) where
   element-in : (e : Element B) {w : ℕ} → List·Memᴰ w (elementWords ofBlock e) → List·Memᴰ w (encodeElement enc e)
@@ -158,6 +159,7 @@ leaf-told (call c) t h (List·Memᴰ·head e) = small (let g = name-small (c .na
 leaf-told (call c) t h (List·Memᴰ·tail m) = copied m
 leaf-told (token n) t h m = let e = List·Memᴰ·eq-of-singleton m in small (let g = name-small n t in omega arith)
 leaf-told terminal t h m = absurd (List·Memᴰ·not-nil m)
+leaf-told endOfInput t h m = absurd (List·Memᴰ·not-nil m)
 
 label-told : (l : Label) → okLabel l ≡ true → {us : List ℕ} {is : ℕ → List ℕ} {w : ℕ} → (w ≡ labelId l) ⊎ (w ≡ labelName l)
     → ((x : ℕ) → List·Memᴰ x (labelIds 4 l) → List·Memᴰ x (is 4))
@@ -168,7 +170,7 @@ label-told unlabelled t (inr e) h = small (omega arith)
 label-told (labelled i n) t {w = w} (inl e) h = isId ofLabel (h w (List·Memᴰ·head e))
 label-told (labelled i n) t (inr e) h = small (let g = name-small n t in omega arith)
 
-pub head-told : (x : ElementHead) (kind : ℕ) → kind ≤ blockKind → okHead x ≡ true → length (encodeHead x kind) ≤ mostName → {w : ℕ}
+pub head-told : (x : ElementHead) (kind : ℕ) → kind < kindEnd → okHead x ≡ true → length (encodeHead x kind) ≤ mostName → {w : ℕ}
     → List·Memᴰ w (encodeHead x kind) → Told (headWords x) (λ k. headIds k x) w
 unfolding okHead encodeHead headIds
 head-told x kind b t h {w} m =

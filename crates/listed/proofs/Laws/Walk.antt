@@ -8,7 +8,7 @@ use lib.ListN.{getD}
 use borrow.Author.Tests.{ne-eqb}
 use Rattle.grammar.specs.Numbers.{kindEnd, callKind, tokenKind, blockKind}
 use Rattle.grammar.specs.Stands.{Spans}
-use Rattle.grammar.specs.Tree.{ElementHead, Leaf, epsilon, action, predicate, call, token, terminal}
+use Rattle.grammar.specs.Tree.{ElementHead, Leaf, epsilon, action, predicate, call, token, terminal, endOfInput}
 use Rattle.grammar.specs.Encode.{leafKind, encodeLeaf}
 use Rattle.grammar.specs.Valid.{okLeaf}
 use Rattle.grammar.specs.Found.{FoundElement, HeadAt, AlternativeAt, LeafEnd}
@@ -37,6 +37,7 @@ name-is (predicate a) s = refl
 name-is (call c) s = stands-head (s .stands)
 name-is (token n) s = stands-head (s .stands)
 name-is terminal s = refl
+name-is endOfInput s = refl
 
 name-block : (w : ℕ) → nameOf blockKind w ≡ 0
 unfolding nameOf

@@ -7,7 +7,7 @@ use native.Mathlib.Omega.{arith}
 use lib.ListN.{getD}
 use lib.Dec.{leb, eqb}
 use borrow.Author.Tests.{le-leb, lt-leb, eq-eqb, ne-eqb}
-use Rattle.grammar.specs.Numbers.{mostName, nonLocal, epsilonKind, actionKind, predicateKind, callKind, tokenKind, terminalKind}
+use Rattle.grammar.specs.Numbers.{mostName, nonLocal, epsilonKind, actionKind, predicateKind, callKind, tokenKind, terminalKind, endKind}
 use Rattle.grammar.specs.Parse.{many}
 use Rattle.grammar.specs.Read.{isName, isLabel, actionOf, predicateOf, optionAt, referenceAt, bodyAt, callAt, tokenAt, leafAt}
 use Rattle.records.specs.declared.records.Step.{Step}
@@ -133,6 +133,10 @@ module _ (ws : List ℕ) (end : ℕ) (k : ℕ) (at : ℕ) where
   unfolding leafAt
   leaf-terminal e = rw e
 
+  pub leaf-end : k ≡ endKind → Next at ≡ stepOf (leafAt ws end k at)
+  unfolding leafAt
+  leaf-end e = rw e
+
   pub leaf-call : {r : Step} → k ≡ callKind → r ≡ stepOf (callAt ws end at) → r ≡ stepOf (leafAt ws end k at)
   unfolding leafAt
   leaf-call e f = rw e f
@@ -149,15 +153,17 @@ module _ (ws : List ℕ) (end : ℕ) (k : ℕ) (at : ℕ) where
   unfolding leafAt
   leaf-predicate e f = rw e (f ∙ body-any ws end at)
 
-pub leaf-other : (ws : List ℕ) (end k at : ℕ) → (k ≡ epsilonKind → ⊥) → (k ≡ terminalKind → ⊥) → (k ≡ callKind → ⊥)
+pub leaf-other : (ws : List ℕ) (end k at : ℕ) → (k ≡ epsilonKind → ⊥) → (k ≡ terminalKind → ⊥) → (k ≡ endKind → ⊥) → (k ≡ callKind → ⊥)
     → (k ≡ tokenKind → ⊥) → (k ≡ actionKind → ⊥) → (k ≡ predicateKind → ⊥) → Bad ≡ stepOf (leafAt ws end k at)
 unfolding leafAt
-leaf-other ws end zero at a f c d b g = absurd (a refl)
-leaf-other ws end (suc zero) at a f c d b g = absurd (b refl)
-leaf-other ws end (suc (suc zero)) at a f c d b g = absurd (g refl)
-leaf-other ws end (suc (suc (suc zero))) at a f c d b g = absurd (c refl)
-leaf-other ws end (suc (suc (suc (suc zero)))) at a f c d b g = absurd (d refl)
-leaf-other ws end (suc (suc (suc (suc (suc zero))))) at a f c d b g = absurd (f refl)
-leaf-other ws end (suc (suc (suc (suc (suc (suc k)))))) at a f c d b g = refl
+leaf-other ws end zero at a f e c d b g = absurd (a refl)
+leaf-other ws end (suc zero) at a f e c d b g = absurd (b refl)
+leaf-other ws end (suc (suc zero)) at a f e c d b g = absurd (g refl)
+leaf-other ws end (suc (suc (suc zero))) at a f e c d b g = absurd (c refl)
+leaf-other ws end (suc (suc (suc (suc zero)))) at a f e c d b g = absurd (d refl)
+leaf-other ws end (suc (suc (suc (suc (suc zero))))) at a f e c d b g = absurd (f refl)
+leaf-other ws end (suc (suc (suc (suc (suc (suc zero)))))) at a f e c d b g = refl
+leaf-other ws end (suc (suc (suc (suc (suc (suc (suc zero))))))) at a f e c d b g = absurd (e refl)
+leaf-other ws end (suc (suc (suc (suc (suc (suc (suc (suc k)))))))) at a f e c d b g = refl
 
-pub ruleset leaves = (leaf-epsilon, leaf-terminal, leaf-call, leaf-token, leaf-action, leaf-predicate, leaf-other)
+pub ruleset leaves = (leaf-epsilon, leaf-terminal, leaf-end, leaf-call, leaf-token, leaf-action, leaf-predicate, leaf-other)

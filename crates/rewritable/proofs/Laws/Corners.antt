@@ -9,7 +9,7 @@ use mathlib.Core.Bool.{Bool, true, false, _&&_, _||_, not, or-false, or-true, tr
 use lib.ListN.{getD}
 use lib.Dec.{eqb, ltb}
 use borrow.Author.Tests.{eqb-true, ltb-true, lt-ltb}
-use Rattle.grammar.specs.Tree.{Leaf, epsilon, action, predicate, call, token, terminal, Element, leaf, block, Block}
+use Rattle.grammar.specs.Tree.{Leaf, epsilon, action, predicate, call, token, terminal, endOfInput, Element, leaf, block, Block}
 use Rattle.grammar.specs.Lists.{each, any, member, meet}
 use Rattle.grammar.specs.Corners.{Corners}
 use Rattle.grammar.specs.Laws.Lists.{in-member, member-in}
@@ -89,6 +89,7 @@ module _ {g : Grammar} {ids : List ℕ} {v : View} (w : Agrees g ids v) where
   placed-leaf (call c) = placed-target (c .name) (target g (c .name)) refl
   placed-leaf (token a) = placed-none
   placed-leaf terminal = placed-none
+  placed-leaf endOfInput = placed-none
 
   module _ (c : Corners) where
     placed-elements : {B : Type 0} (ks : B → List ℕ) (nu : B → Bool) → ((b : B) → AllPlaced ids (v .n) (ks b)) → (es : List (Element B))

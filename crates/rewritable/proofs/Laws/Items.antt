@@ -8,8 +8,9 @@ use native.Mathlib.Omega.{arith}
 use lib.ListN.{getD}
 use lib.Dec.{eqb, ltb}
 use borrow.Author.Tests.{lt-ltb, le-ltb}
-use Rattle.grammar.specs.Numbers.{once, callKind, blockKind, kindEnd}
-use Rattle.grammar.specs.Tree.{ElementHead, Call, Leaf, epsilon, action, predicate, call, token, terminal, Element, leaf, block, Block}
+use Rattle.grammar.specs.Numbers.{once, callKind, kindEnd}
+use Rattle.grammar.specs.Tree.{ElementHead, Call, Leaf, epsilon, action, predicate, call, token, terminal, endOfInput, Element, leaf, block}
+use Rattle.grammar.specs.Tree.{Block}
 use Rattle.grammar.specs.Encode.{leafKind, encodeLeaf}
 use Rattle.grammar.specs.Valid.{okLeaf}
 use Rattle.grammar.specs.Stands.{Spans}
@@ -97,6 +98,7 @@ module _ (d m : ℕ) (made : Bool) where
             (made-call h c)
         one h (token a) w u = no-call (λ z. let y = w .packed in omega arith) (made-other (leaf h (token a)) refl refl)
         one h terminal w u = no-call (λ z. let y = w .packed in omega arith) (made-other (leaf h terminal) refl refl)
+        one h endOfInput w u = no-call (λ z. let y = w .packed in omega arith) (made-other (leaf h endOfInput) refl refl)
 
         go : {e : Element (Block d)} {q : ℕ} → Opened ws end d at q e → Sorted ws at p e
         go (opened-leaf {h = h} {l = l} o w u) = one h l w u
@@ -178,7 +180,7 @@ kind-silent d {made} {ws} {end} {at} {k} head = record { is = λ e q s. go made 
     low : {h : ElementHead} {j o : ℕ} → HeadWords ws end at h j o → j < callKind → ltb k callKind ≡ true
     low w l = lt-ltb k callKind (let z = w .packed in let y = head .kindIs in omega arith)
 
-    high : {h : ElementHead} {j o : ℕ} → HeadWords ws end at h j o → callKind ≤ j → j ≤ blockKind → ltb k callKind ≡ false
+    high : {h : ElementHead} {j o : ℕ} → HeadWords ws end at h j o → callKind ≤ j → j < kindEnd → ltb k callKind ≡ false
     high w l m = le-ltb k callKind (let z = w .packed in let y = head .kindIs in omega arith)
 
     of : (made : Bool) (h : ElementHead) (l : Leaf) → isEpsilonOnly (madeIf made (leafAt d h l)) ≡ isEpsilonOnly (leafAt d h l)
@@ -192,6 +194,7 @@ kind-silent d {made} {ws} {end} {at} {k} head = record { is = λ e q s. go made 
     one h (call c) w = high w (omega arith) (omega arith)
     one h (token a) w = high w (omega arith) (omega arith)
     one h terminal w = high w (omega arith) (omega arith)
+    one h endOfInput w = high w (omega arith) (omega arith)
 
     go : (made : Bool) {e : Element (Block d)} {q : ℕ} → Opened ws end d at q e → ltb k callKind ≡ isEpsilonOnly (madeIf made e)
     go made (opened-leaf {h = h} {l = l} o w u) = one h l w ∙ sym (of made h l)

@@ -7,7 +7,7 @@ use mathlib.Core.Bool.{Bool, true, false, _&&_, _||_, not, and-false, or-false, 
 use lib.ListN.{getD, drop, replicate}
 use lib.Dec.{eqb}
 use borrow.Author.Tests.{eqb-true, eq-eqb, ne-eqb, lt-ltb, not-true, not-false}
-use Rattle.grammar.specs.Tree.{Call, epsilon, action, predicate, call, token, terminal, Element, leaf, block, Block}
+use Rattle.grammar.specs.Tree.{Call, epsilon, action, predicate, call, token, terminal, endOfInput, Element, leaf, block, Block}
 use Rattle.grammar.specs.Lists.{all, any, member, meet}
 use Rattle.grammar.specs.Laws.Parse.{either}
 use Rattle.reference.specs.Walks.{sortOf, isEpsilonOnly, isOne}
@@ -69,6 +69,7 @@ module _ {g : Grammar} {ids : List ℕ} {v : View} (w : Agrees g ids v) {hub : �
     same-call (leaf h (predicate a)) = refl
     same-call (leaf h (token a)) = refl
     same-call (leaf h terminal) = refl
+    same-call (leaf h endOfInput) = refl
     same-call (block h b) = refl
 
     same-starts : (es : List (Element B)) → startsWithCall m es ≡ startsWithHubCall g id es

@@ -6,8 +6,8 @@ use mathlib.Core.Bool.{Bool, true, false}
 use native.Mathlib.Omega.{arith}
 use lib.ListN.{length, length-append}
 use Rattle.grammar.specs.Numbers.{alternativeSort, blockKind}
-use Rattle.grammar.specs.Tree.{ElementHead, Leaf, epsilon, action, predicate, call, token, terminal}
-use Rattle.grammar.specs.Tree.{Element, leaf, block, AlternativeOf, Block, Counters}
+use Rattle.grammar.specs.Tree.{ElementHead, Leaf, epsilon, action, predicate, call, token, terminal, endOfInput, Element, leaf, block}
+use Rattle.grammar.specs.Tree.{AlternativeOf, Block, Counters}
 use Rattle.grammar.specs.Encode.{encodeOption, encodeHead, leafKind, encodeLeaf, encodeElement, encodeAlternative, encodeBlock}
 use Rattle.grammar.specs.Lists.{each}
 use Rattle.grammar.specs.Fold.{elementFold}
@@ -49,6 +49,7 @@ leaf-length (predicate p) c = refl
 leaf-length (call k) c = refl
 leaf-length (token n) c = refl
 leaf-length terminal c = refl
+leaf-length endOfInput c = refl
 
 head-length : (h : ElementHead) (c : Counters) (k m : ℕ) → length (encodeHead (renumberHead h c .node) k) ≡ length (encodeHead h m)
 unfolding encodeHead renumberHead

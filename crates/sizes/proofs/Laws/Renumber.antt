@@ -7,7 +7,7 @@ use native.Mathlib.Omega.{arith}
 use lib.ListN.{length, length-append}
 use Rattle.grammar.specs.Numbers.{alternativeSort, blockKind}
 use Rattle.grammar.specs.Tree.{Label, unlabelled, labelled, ElementHead, Leaf, epsilon, action, predicate, call, token, terminal}
-use Rattle.grammar.specs.Tree.{Element, leaf, block, AlternativeOf, Block, Counters}
+use Rattle.grammar.specs.Tree.{endOfInput, Element, leaf, block, AlternativeOf, Block, Counters}
 use Rattle.grammar.specs.Encode.{leafKind}
 use Rattle.grammar.specs.Fold.{folded, elementFold, alternativeFold, blockFold}
 use Rattle.reference.specs.Apply.{Fresh, unchanged, _followedBy_, freshEach, past, renumberLabel, renumberHead, renumberLeaf}
@@ -75,6 +75,7 @@ takes-leaf (predicate p) label c t =
 takes-leaf (call k) label c t = takes-none (call k) c (withOwn t label blockKind)
 takes-leaf (token n) label c t = takes-none (token n) c (withOwn t label blockKind)
 takes-leaf terminal label c t = takes-none terminal c (withOwn t label blockKind)
+takes-leaf endOfInput label c t = takes-none endOfInput c (withOwn t label blockKind)
 
 module _ {B : Type 0} (renumber : B → Counters → Fresh B) (step : Tally → B → Tally) (c : Counters)
     (inner : (b : B) (t : Tally) → Takes (renumber b (behind c t)) c t (step t b)) where

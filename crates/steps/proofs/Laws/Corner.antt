@@ -10,7 +10,7 @@ use lib.Dec.{eqb, leb, eqb·suc-zero}
 use borrow.Author.Tests.{eqb-true, eqb-false, eq-eqb, ne-eqb, leb-true}
 use Rattle.grammar.specs.Numbers.{ruleLimit, once, optionalGreedy, callKind, kindEnd}
 use Rattle.grammar.specs.Tree.{Label, unlabelled, labelled, OptionDecl, ElementHead, Call, Leaf, epsilon, action, predicate, call, token}
-use Rattle.grammar.specs.Tree.{terminal, Element, leaf, block, Block}
+use Rattle.grammar.specs.Tree.{terminal, endOfInput, Element, leaf, block, Block}
 use Rattle.grammar.specs.Stands.{Spans}
 use Rattle.grammar.specs.Encode.{encodeLeaf, leafKind, labelName}
 use Rattle.grammar.specs.Valid.{okLeaf, okHead, okLabel}
@@ -22,13 +22,15 @@ use Rattle.grammar.specs.Laws.Complete.{leaf-kind}
 use Rattle.grammar.specs.Laws.Opened.{HeadWords, Opened, opened-leaf, opened-block, opened}
 use Rattle.reference.specs.Analysis.{Grammar, target}
 use Rattle.reference.specs.Walks.{sortOf, isOne, bareReference}
-use Rattle.reference.specs.Substitute.{PlannedCorner, optional, satellite, blocked, settled, further, memberCorner, plannedCorner, plain, plainHead}
+use Rattle.reference.specs.Substitute.{PlannedCorner, optional, satellite, blocked, settled, further, memberCorner, plannedCorner, plain}
+use Rattle.reference.specs.Substitute.{plainHead}
 use Rattle.reach.specs.Rows.{bit}
 use Rattle.analysis.specs.Names.{IsTarget, At}
 use Rattle.analysis.specs.declared.names.Target.{Target}
 use Rattle.analysis.specs.declared.names.Target.the-variants.{Unknown, Rule}
 use Rattle.planned.specs.Layout.{madeIf}
-use Rattle.steps.specs.Corner.{CycleBy, bareAt, quantifierAt, metCorner, MetIn, metBy, metMember, CallMet, ItemMet, CornerAt, cornerBy}
+use Rattle.steps.specs.Corner.{CycleBy, bareAt, quantifierAt, metCorner, MetIn, metBy, metMember, CallMet, ItemMet, CornerAt}
+use Rattle.steps.specs.Corner.{cornerBy}
 use Rattle.steps.specs.declared.corner.Cycle.{Cycle}
 use Rattle.steps.specs.declared.corner.Met.{Met}
 use Rattle.steps.specs.declared.corner.Met.the-variants.{Silent, Settled, Blocked, Optional, Satellite}
@@ -199,6 +201,7 @@ module _ {names : List ℕ} {c : Cycle} {ws : List ℕ} {end at k p : ℕ} (d : 
       symbol g cycle ids es h (call a) m = absurd (omega arith)
       symbol g cycle ids es h (token a) m = refl
       symbol g cycle ids es h terminal m = refl
+      symbol g cycle ids es h endOfInput m = refl
 
       go : (g : Grammar) (cycle ids : List ℕ) (es : List (Element (Block d))) (b : Bool) {e : Element (Block d)} {q : ℕ} → Opened ws end d at q e
           → plannedCorner g cycle (getD ids (c .hub) 0) (madeIf b e ∷ es) ≡ settled
@@ -220,6 +223,7 @@ module _ {names : List ℕ} {c : Cycle} {ws : List ℕ} {end at k p : ℕ} (d : 
       silent g cycle ids es h (call a) m = absurd (omega arith)
       silent g cycle ids es h (token a) m = absurd (omega arith)
       silent g cycle ids es h terminal m = absurd (omega arith)
+      silent g cycle ids es h endOfInput m = absurd (omega arith)
 
       go : (g : Grammar) (cycle ids : List ℕ) (es : List (Element (Block d))) (b : Bool) {e : Element (Block d)} {q : ℕ} → Opened ws end d at q e
           → plannedCorner g cycle (getD ids (c .hub) 0) (madeIf b e ∷ es) ≡ further (plannedCorner g cycle (getD ids (c .hub) 0) es)
@@ -255,6 +259,7 @@ module _ {names : List ℕ} {c : Cycle} {ws : List ℕ} {end at k p : ℕ} (d : 
       leafy g cycle ids by es h (call a) w z m u = named g cycle ids by es h a w z u made refl
       leafy g cycle ids by es h (token a) w z m u = absurd (omega arith)
       leafy g cycle ids by es h terminal w z m u = absurd (omega arith)
+      leafy g cycle ids by es h endOfInput w z m u = absurd (omega arith)
 
       go : (g : Grammar) (cycle ids : List ℕ) → CycleBy g cycle ids names c → (es : List (Element (Block d))) {t : Element (Block d)} {q : ℕ}
           → Opened ws end d at q t

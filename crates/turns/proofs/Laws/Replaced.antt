@@ -8,8 +8,8 @@ use native.Mathlib.Omega.{arith}
 use lib.ListN.{length, getD, drop, length-append, length-replicate}
 use lib.Dec.{eqb}
 use Rattle.grammar.specs.Numbers.{optionalGreedy, ruleLimit}
-use Rattle.grammar.specs.Tree.{ElementHead, Call, epsilon, action, predicate, call, token, terminal, Element, leaf, block, Block, RuleOf}
-use Rattle.grammar.specs.Tree.{innerDepth, bodyDepth}
+use Rattle.grammar.specs.Tree.{ElementHead, Call, epsilon, action, predicate, call, token, terminal, endOfInput, Element, leaf, block}
+use Rattle.grammar.specs.Tree.{Block, RuleOf, innerDepth, bodyDepth}
 use Rattle.grammar.specs.Lists.{member, AllOf}
 use Rattle.grammar.specs.Parse.{got}
 use Rattle.grammar.specs.Read.{blockAt}
@@ -128,6 +128,7 @@ module _ (g : Grammar) (cycle : List ℕ) (hub : ℕ) where
       (record { head = h; called = c; rest = es; is = refl })
   corner-call (leaf h (token n) ∷ es) e = absurd (let z : _≡_ {A = ℕ} 0 1 = cc in omega arith)
   corner-call (leaf h terminal ∷ es) e = absurd (let z : _≡_ {A = ℕ} 0 1 = cc in omega arith)
+  corner-call (leaf h endOfInput ∷ es) e = absurd (let z : _≡_ {A = ℕ} 0 1 = cc in omega arith)
 
 -- By places.
 module _ {ws : List ℕ} {end : ℕ} {names places : List ℕ} {c : Cycle} (b : Ground ws end names places c) (limits : Limits)

@@ -28,7 +28,10 @@ fn main() -> ExitCode {
 fn write(folder: &Path) -> Result<(), String> {
     for file in &FILES {
         let path = folder.join(file.name);
-        fs::write(&path, file.text()).map_err(|fault| format!("{}: {fault}", path.display()))?;
+        let folder = path.parent().unwrap_or(folder);
+        fs::create_dir_all(folder)
+            .and_then(|()| fs::write(&path, file.text()))
+            .map_err(|fault| format!("{}: {fault}", path.display()))?;
     }
     Ok(())
 }

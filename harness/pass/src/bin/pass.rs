@@ -39,6 +39,7 @@ fn show(tally: &Tally) {
         "with a symbol that may be absent {}, answered otherwise by the textbook's reading {}",
         tally.folded, tally.parted
     );
+    println!("with the end of input: {}", tally.ends);
     println!(
         "accepted, with two names of one remainder modulo 65,536 {}, joined {}",
         tally.alike, tally.alike_joined

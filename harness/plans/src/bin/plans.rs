@@ -61,6 +61,7 @@ fn show(tally: &Tally) {
         "sheets with a cycle and a preserved rule {}, and a label or reference in a block {}",
         tally.preserved, tally.nested
     );
+    println!("cycles of sheets with the end of input: {}", tally.ends);
     println!("cycles by the textbook's reading: {textbook}");
     println!(
         "agreed on {} sheets in both readings; cycles: {original}",

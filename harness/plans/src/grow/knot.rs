@@ -25,6 +25,8 @@ struct Mood {
     silent: usize,
     nested: usize,
     veiled: usize,
+    /// The end of input: in front of a corner, as a base, in a tail.
+    ends: usize,
     blocks: usize,
     calls: usize,
     labels: usize,
@@ -51,6 +53,7 @@ impl Mood {
             silent: one_in([4, 20, 1_000, 1_000]),
             nested: one_in([4, 30, 1_000, 1_000]),
             veiled: one_in([6, 30, 1_000, 1_000]),
+            ends: one_in([5, 20, 1_000, 1_000]),
             blocks: one_in([3, 6, 20, 1_000]),
             calls: one_in([3, 6, 20, 1_000]),
             labels: one_in([2, 6, 20, 1_000]),
@@ -176,6 +179,9 @@ impl Grower<'_> {
                 ..call(name)
             });
         }
+        if self.one_in(self.mood.ends) {
+            elements.push(self.end_of_input());
+        }
         elements.push(corner);
         // Another corner that may be left out, in front of the first.
         if self.one_in(self.mood.optional) {
@@ -221,6 +227,7 @@ impl Grower<'_> {
             1 => vec![call(self.outside + self.random.below(2) as u32)],
             2 => vec![call(UNKNOWN)],
             3 => vec![element(Payload::Other)],
+            _ if self.one_in(self.mood.ends) => vec![self.end_of_input()],
             _ => vec![token(TOKENS + self.random.below(3) as u32)],
         };
         for element in &mut elements {
@@ -256,6 +263,11 @@ impl Grower<'_> {
     fn tail(&mut self, place: u32, most: usize) -> Vec<Element> {
         let count = self.random.within(0, most);
         let mut made: Vec<Element> = (0..count).map(|_| self.tail_element(place, 0)).collect();
+        // Then all that is behind a corner may be what can be empty.
+        if self.one_in(self.mood.ends) {
+            made.push(self.end_of_input());
+            return made;
+        }
         // A satellite's alternative mostly consumes something.
         if place != 0 && !self.random.once_in(6) {
             made.push(token(TOKENS + self.random.below(4) as u32));
@@ -296,11 +308,22 @@ impl Grower<'_> {
         if (place == 0 || self.random.once_in(60)) && self.one_in(self.mood.actions) {
             return self.silent(place);
         }
+        if self.one_in(self.mood.ends) {
+            return self.end_of_input();
+        }
         // A token may have the name of a rule.
         match self.random.below(20) {
             0 => token(self.first),
             1 => element(Payload::Other),
             _ => token(TOKENS + self.random.below(4) as u32),
+        }
+    }
+
+    fn end_of_input(&mut self) -> Element {
+        Element {
+            carried: self.random.below(3) as u32,
+            quantifier: [0, self.random.below(7) as u32][self.random.below(2)],
+            ..element(Payload::EndOfInput)
         }
     }
 

@@ -3,6 +3,7 @@
 mod binding;
 mod damage;
 mod draft;
+mod ends;
 mod far;
 mod fold;
 mod limits;
@@ -31,6 +32,8 @@ pub struct Profile {
     pub name: &'static str,
     /// Whether its sheets are about refusals 7 to 9, or about large names, splices and lists; some are large.
     pub about_limits: bool,
+    /// Whether its sheets have the end of input.
+    pub has_ends: bool,
     make: Make,
 }
 
@@ -38,7 +41,17 @@ const fn cycle(name: &'static str, twist: Twist) -> Profile {
     Profile {
         name,
         about_limits: false,
+        has_ends: false,
         make: Make::Cycle(twist),
+    }
+}
+
+const fn end(name: &'static str, make: Make) -> Profile {
+    Profile {
+        name,
+        about_limits: false,
+        has_ends: true,
+        make,
     }
 }
 
@@ -46,6 +59,7 @@ const fn whole(name: &'static str, make: fn(&mut Rng) -> Sheet) -> Profile {
     Profile {
         name,
         about_limits: false,
+        has_ends: false,
         make: Make::Sheet(make),
     }
 }
@@ -54,11 +68,12 @@ const fn limit(name: &'static str, make: fn(&mut Rng) -> Sheet) -> Profile {
     Profile {
         name,
         about_limits: true,
+        has_ends: false,
         make: Make::Sheet(make),
     }
 }
 
-pub const PROFILES: [Profile; 36] = [
+pub const PROFILES: [Profile; 42] = [
     cycle("plain", |_, _| {}),
     cycle("several", twist::several),
     cycle("nullable-front", twist::nullable_front),
@@ -95,7 +110,22 @@ pub const PROFILES: [Profile; 36] = [
     limit("wide-names", far::wide_names),
     limit("long-splice", far::long_splice),
     limit("long-list", far::long_list),
+    end("end-front", Make::Cycle(ends::front)),
+    end("end-alone", Make::Cycle(ends::alone)),
+    end("end-tail", Make::Cycle(ends::tail)),
+    end("end-block", Make::Cycle(ends::in_block)),
+    end("end-satellite", Make::Cycle(ends::satellite)),
+    end("end-anywhere", Make::Sheet(end_anywhere)),
 ];
+
+fn end_anywhere(rng: &mut Rng) -> Sheet {
+    let mut draft = match rng.one_in(2) {
+        true => wild::tiny(rng),
+        false => wild::wild(rng),
+    };
+    ends::anywhere(&mut draft, rng);
+    number(draft, rng)
+}
 
 /// The name of faulty bytes, which are no profile: they are no sheets.
 pub const DAMAGED: &str = "damaged";
@@ -133,12 +163,12 @@ pub fn bytes(name: &str, seed: u64) -> Option<Vec<u8>> {
     Some(bytes_of(&encode(&sheet)))
 }
 
-/// A sheet of some profile with one fault.
+/// A sheet of some profile with one fault. The end of input has faults enough in sheets of the reader's own generator.
 pub fn damaged(seed: u64) -> Vec<u8> {
     let mut rng = Rng::new(stream(DAMAGED), seed);
     let small: Vec<_> = PROFILES
         .iter()
-        .filter(|profile| !profile.about_limits)
+        .filter(|profile| !profile.about_limits && !profile.has_ends)
         .collect();
     let sheet = rng.pick(&small).sheet(seed);
     damage::damage(&sheet, &mut rng)

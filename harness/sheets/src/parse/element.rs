@@ -1,7 +1,7 @@
 //! Elements of the notation.
 
 use super::Parser;
-use crate::names::is_token;
+use crate::names::{END_OF_INPUT, is_token};
 use crate::scan::Token;
 use crate::tree::{Element, Kind, Label, OptionDecl, Reference, Semantics};
 use crate::walk::Sort;
@@ -65,6 +65,9 @@ impl Parser<'_> {
         let text = self.name()?;
         if text == "_" {
             return Ok(Kind::Epsilon);
+        }
+        if text == END_OF_INPUT {
+            return Ok(Kind::EndOfInput);
         }
         let name = self.names.number(&text);
         if is_token(&text) {

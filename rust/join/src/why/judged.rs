@@ -43,14 +43,13 @@ impl Cycle<'_> {
         let (first, behind) = own.elements.split_first()?;
         if is_call(first, hub) {
             let is_empty = behind.iter().all(|element| self.ends.can_be_empty(element));
-            let how = format!(
-                "all that would stand behind the call of `{name}` in front can be left out"
-            );
+            let how =
+                format!("all that would stand behind the call of `{name}` in front can be empty");
             return is_empty.then(|| own.found(11, how).at_element(first.id));
         }
         let (corner, element) = self.corner_within(&own.elements)?;
         let how = format!(
-            "the alternative would begin with `{}` of the cycle, behind something that can be left out or in a block",
+            "the alternative would begin with `{}` of the cycle, behind something that can be empty or in a block",
             (self.name)(corner)
         );
         Some(own.found(11, how).at_element(element))

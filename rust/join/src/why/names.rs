@@ -32,7 +32,7 @@ impl Named {
                 Kind::Call { name, .. } | Kind::Token(name) => drop(self.bound.insert(*name)),
                 Kind::Action(body) | Kind::Predicate(body) => self.refer(own.id, body),
                 Kind::Block(inner) => inner.iter().for_each(|own| self.see(&own.elements)),
-                Kind::Epsilon | Kind::Other => {}
+                Kind::Epsilon | Kind::Other | Kind::EndOfInput => {}
             }
         }
     }

@@ -3,6 +3,7 @@
 use super::Parser;
 use crate::MOST_DEPTH;
 use crate::fault::Fault;
+use crate::names::END_OF_INPUT;
 use crate::scan::What;
 use crate::tree::{Element, Kind, Label, OptionDecl, Reference, Semantics};
 use crate::walk::Sort;
@@ -73,6 +74,10 @@ impl Parser<'_> {
         if self.ahead().what == What::Name("_") {
             self.skip();
             return Ok(Kind::Epsilon);
+        }
+        if self.ahead().what == What::Name(END_OF_INPUT) {
+            self.skip();
+            return Ok(Kind::EndOfInput);
         }
         let token = self.ahead();
         let name = self.named("an element")?;

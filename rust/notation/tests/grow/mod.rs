@@ -133,7 +133,7 @@ fn element(random: &mut Random, next: &mut Next, depth: u32) -> Element {
 }
 
 fn kind(random: &mut Random, next: &mut Next, depth: u32) -> Kind {
-    match random.below(7) {
+    match random.below(8) {
         0 => Kind::Epsilon,
         1 => Kind::Action(semantics(random, next)),
         2 => Kind::Predicate(semantics(random, next)),
@@ -145,6 +145,7 @@ fn kind(random: &mut Random, next: &mut Next, depth: u32) -> Kind {
         6 if depth < 8 => {
             Kind::Block(random.some(2, |random| alternative(random, next, depth + 1)))
         }
+        7 => Kind::EndOfInput,
         _ => Kind::Other,
     }
 }

@@ -12,6 +12,7 @@ see-leaf-spec =
     (λ c κs. search (needs, leaves))
     (λ c. search needs)
     (λ c. search (needs, leaves))
+    (λ c. search (needs, leaves))
     (λ c κs. search needs)
     (λ c. search (needs, leaves))
     (λ c. search (needs, leaves))

@@ -10,6 +10,7 @@ leaf-at-spec =
     (tie.spec
     (λ c. search (needs, leaves))
     (λ c. search (needs, leaves))
+    (λ c. search (needs, leaves))
     (λ c κs. search (needs, leaves))
     (λ c. search (needs, leaves))
     (λ c κs. search (needs, leaves))

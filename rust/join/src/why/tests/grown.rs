@@ -40,7 +40,10 @@ impl Random {
             }
             3 => format!("( {} | {} )", self.call(), self.one(&["X", "", "a"])),
             4 if bodies => self.one(&["{}", "&{$x}", "&{$c}"]).to_owned(),
-            5 => self.one(&["X?", "_", "n", "none"]).to_owned(),
+            5 => {
+                let others = ["X?", "_", "n", "none", "EOF", "x=EOF+"];
+                self.one(&others).to_owned()
+            }
             _ => self.one(&["X", "Y", "x=X", "y=Z"]).to_owned(),
         }
     }
@@ -48,7 +51,8 @@ impl Random {
     fn alternative(&mut self, bodies: bool) -> String {
         let front = self.seldom(7, &["#", "<o=1>", "<o=2>"]);
         let silent = if bodies { "{}" } else { "_" };
-        let mut out = format!("{front} {}", self.seldom(6, &["_", silent, "X?", "n"]));
+        let before = ["_", silent, "X?", "n", "EOF", "EOF*"];
+        let mut out = format!("{front} {}", self.seldom(6, &before));
         if self.below(3) > 0 {
             out += &format!(" {}", self.call());
         }

@@ -1,7 +1,7 @@
--- `records::records::rule_at` meets its contract.
+-- `records::rules::rule_at` meets its contract.
 use borrow.Author.Needs.{needs}
-use Rattle.records.proofs.records.rule_at.Statement.{statement}
-use Rattle.records.proofs.records.rule_at.Tie as tie
+use Rattle.records.proofs.rules.rule_at.Statement.{statement}
+use Rattle.records.proofs.rules.rule_at.Tie as tie
 use Rattle.records.proofs.Laws.Trees.{rules}
 
 pub rule-at-spec : {M : Type 1} → statement M
