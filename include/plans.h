@@ -88,13 +88,13 @@ static inline const char *plans_clause_text(uint32_t clause) {
 /* The decision for the nth cycle, from 0 on; 0 is the one with the least id. The sheet is read and not changed. None of the
  * pointers is null, and no two of the pieces of memory overlap. The work area has at least PASS_WORK_BYTES. The reading of left
  * corners is the original's where `textbook` is 0, else the textbook's (docs/SPECIFICATION.md, section 14). Where there is a
- * plan, `removable` has the rules that would go; else it has zeros. A refusal is followed by zeros everywhere. What is left in the
- * work area is of no meaning. */
+ * plan, `removable` has the rules that would go, and the work area the planned list, in a form of its own; else both have zeros. A
+ * refusal is followed by zeros everywhere, but refusals 1 and 2 leave the work area as it was. */
 void plan_nth(const uint8_t *sheet, size_t sheet_length, uint8_t *work, size_t work_length, uint32_t textbook, uint32_t nth,
               uint32_t numbers[8], uint64_t removable[2]);
 
 /* The first cycle that has a plan, as the pass looks for it: cycles in front of it are declined, and `clauses` has why. `cycle`
- * has its members. */
+ * has its members. The work area ends as that of plan_nth does. */
 void first_plan(const uint8_t *sheet, size_t sheet_length, uint8_t *work, size_t work_length, uint32_t textbook,
                 uint32_t numbers[8], uint64_t cycle[2], uint64_t removable[2], uint32_t clauses[128]);
 

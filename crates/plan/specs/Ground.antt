@@ -1,4 +1,4 @@
--- What the decisions rest on: the limits, and the preserved ids behind the rules.
+-- What the decisions rest on: the preserved ids behind the rules.
 use Prim.Native.Nat.{ℕ, _*_, _≤_}
 use mathlib.Core.Path.{_≡_}
 use mathlib.Core.List.{List}
@@ -6,17 +6,9 @@ use mathlib.Core.Bool.{true}
 use lib.ListN.{length}
 use Rattle.grammar.specs.Words.{words}
 use Rattle.grammar.specs.Lists.{rising}
-use Rattle.reference.specs.Substitute.{standard}
 use Rattle.records.specs.declared.rules.Rules.{Rules}
 use Rattle.reach.specs.Rows.{RowOf}
 use Rattle.hub.specs.Preserved.{between}
-use Rattle.turns.specs.Midway.{limitsOf, LimitsFit}
-use Rattle.turns.specs.declared.state.Limits.{Limits}
-
--- The limits are the definition's, and the work area has room for them.
-pub record IsStandard (r : Limits) : Type 0 where
-  pub is : limitsOf r ≡ standard
-  pub fits : LimitsFit r
 
 -- Ids that rise stand from a place up to a place of a sheet's words.
 pub record KeptAt (bs : List ℕ) (from to : ℕ) : Type 0 where

@@ -1,11 +1,9 @@
-// What the decisions rest on: the limits, and what is found out about the rules of a sheet.
+// What the decisions rest on: what is found out about the rules of a sheet.
 use analysis::rounds::Marks;
 use analysis::rounds::find_rows;
 use hub::preserved::preserved_rows;
-use planned::list::Sizes;
 use reach::rows::Row;
 use records::rules::Rules;
-use turns::state::Limits;
 ghost use mathlib.Core.Path.{_≡_};
 ghost use Prim.Native.Nat.{_≤_};
 ghost use lib.ListN.{length};
@@ -14,25 +12,7 @@ ghost use Rattle.grammar.specs.Words.{words};
 ghost use Rattle.words.specs.Room.{Room};
 ghost use Rattle.analysis.specs.Names.{tableWith};
 ghost use Rattle.analysis.specs.Facts.{Standing, FactsFound};
-ghost use Rattle.plan.specs.Ground.{IsStandard, KeptAt, KeptOf};
-
-// The least number of steps that a substitution may take (SPECIFICATION 8.10).
-pub struct Budget;
-
-impl Budget {
-    pub const LEAST: usize = 64;
-}
-
-pub fn standard_limits() -> Limits
-    ensures { λ r. ⌜ IsStandard r ⌝ }
-{
-    Limits {
-        floor: Budget::LEAST,
-        alternatives: Sizes::ALTERNATIVES,
-        elements: Sizes::ELEMENTS,
-        options: Sizes::OPTIONS,
-    }
-}
+ghost use Rattle.plan.specs.Ground.{KeptAt, KeptOf};
 
 // The marks of the rules, and the row of the preserved ones.
 pub struct Ground {

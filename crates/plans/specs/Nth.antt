@@ -2,8 +2,9 @@
 use Prim.Native.Nat.{ℕ, _<_, _≤_, _-_, min}
 use mathlib.Core.Path.{_≡_}
 use mathlib.Core.List.{List, [], _∷_}
-use mathlib.Core.Bool.{Bool}
-use lib.ListN.{length, getD}
+use mathlib.Core.Bool.{Bool, true, false}
+use lib.ListN.{length, getD, replicate}
+use lib.Dec.{eqb}
 use Rattle.grammar.specs.Numbers.{wordEnd}
 use Rattle.grammar.specs.Tree.{Rule, bodyDepth, innerDepth}
 use Rattle.grammar.specs.Corners.{Corners}
@@ -75,3 +76,7 @@ nthNumbers r = choiceNumbers (r .cycles) (r .choice)
 
 abbrev pub nthRow : Nth → List ℕ
 nthRow r = choiceRow (r .choice)
+
+-- What is left in the work area, by what the numbers say was decided: the list of a plan; else zeros.
+unfoldable pub leftBy : (numbers list : List ℕ) → List ℕ
+leftBy numbers list = elim (eqb (getD numbers 2 0) 0) [ true ↦ list | false ↦ replicate (length list) 0 ]

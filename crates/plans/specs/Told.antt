@@ -2,7 +2,7 @@
 use Prim.Native.Nat.{ℕ}
 use mathlib.Core.Path.{_≡_}
 use mathlib.Core.List.{List, [], _∷_}
-use lib.ListN.{length, replicate}
+use lib.ListN.{length, getD, replicate}
 use Rattle.grammar.specs.Tree.{Sheet}
 use Rattle.grammar.specs.Ids.{ruleIds}
 use Rattle.grammar.specs.Words.{words}
@@ -23,11 +23,16 @@ pub record RefusalTold (number : ℕ) (left after numbers removable : List ℕ) 
   pub none : removable ≡ replicate 2 0
   pub work : after ≡ left
 
+-- Without a plan the work area is zeros.
+pub record Cleared (after numbers : List ℕ) : Type 0 where
+  pub is : (getD numbers 2 0 ≡ 0 → ⊥) → after ≡ replicate (length after) 0
+
 -- Of a sheet: the decision for the nth cycle.
 pub record NthToldOf (c : Corners) (nth : ℕ) (bs : List ℕ) (s : Sheet) (after numbers removable : List ℕ) : Type 0 where
   pub answer : Nth
   pub numbersAre : numbers ≡ nthNumbers answer
   pub removableIs : removable ≡ nthRow answer
+  pub cleared : Cleared after numbers
   pub is : NthAs (words bs) (length (encodeRules (s .rules))) (row (ruleIds (s .rules))) (length (s .rules)) after c (s .rules)
       (s .preserved) nth answer
 
@@ -48,6 +53,7 @@ pub record FirstToldOf (c : Corners) (bs : List ℕ) (s : Sheet) (after numbers 
   pub cycleIs : cycle ≡ searchCycle (found .answer)
   pub removableIs : removable ≡ searchRow (found .answer)
   pub clausesAre : clauses ≡ found .clauses
+  pub cleared : Cleared after numbers
   pub is : FirstAs standard (words bs) (length (encodeRules (s .rules))) (row (ruleIds (s .rules))) (length (s .rules)) after c (s .rules)
       (s .preserved) found
 

@@ -1,13 +1,13 @@
 // The first cycle with a plan, and how it is told in numbers.
 use crate::nth::capped;
 use plan::ground::find_out;
-use plan::ground::standard_limits;
 use plan::plan::Plan;
 use plan::search::Found;
 use plan::search::Search;
 use plan::search::find_plan;
 use reach::rows::Row;
 use records::rules::Rules;
+use turns::state::Limits;
 ghost use mathlib.Core.Path.{_≡_};
 ghost use Prim.Native.Nat.{_≤_};
 ghost use lib.ListN.{length};
@@ -43,7 +43,7 @@ pub fn decide_first(
     let ground = find_out(s, end, to, rules, past, &mut calls, &mut corners, work);
     let marks = ground.marks;
     let kept = ground.kept;
-    let limits = standard_limits();
+    let limits = Limits::standard();
     find_plan(
         s,
         end,

@@ -6,6 +6,7 @@ mod nth;
 use crate::first::decide_first;
 use crate::first::tell_search;
 use crate::nth::decide_nth;
+use crate::nth::leave;
 use crate::nth::tell_nth;
 use sheet::Answer;
 use sheet::read;
@@ -16,7 +17,7 @@ ghost use Rattle.facts.specs.Told.{readingOf};
 ghost use Rattle.plans.specs.Told.{NthTold, FirstTold};
 
 // The decision for the nth cycle of a sheet, in numbers; 0 is the cycle with the least id. The reading of left corners is the
-// original's where `textbook` is 0. Where there is a plan, its list is left in the work area.
+// original's where `textbook` is 0. Where there is a plan, its list is left in the work area; else that ends as after `read`.
 #[no_mangle]
 pub extern "C" fn plan_nth(
     sheet: &[u8],
@@ -44,6 +45,7 @@ pub extern "C" fn plan_nth(
             let t = tell_nth(decide_nth(sheet, end, to, rules, textbook != 0, nth, work));
             let told = t.numbers;
             let row = t.row;
+            leave(told, work);
             *numbers = told;
             *removable = row;
         }
@@ -87,6 +89,7 @@ pub extern "C" fn first_plan(
             let told = t.numbers;
             let members = t.cycle;
             let row = t.row;
+            leave(told, work);
             *numbers = told;
             *cycle = members;
             *removable = row;

@@ -1,12 +1,13 @@
 // The decision for one of the cycles, and how it is told in numbers.
 use plan::ground::find_out;
-use plan::ground::standard_limits;
 use plan::plan::Decision;
 use plan::plan::Plan;
 use plan::plan::plan_cycle;
 use reach::cycles::list_cycles;
 use reach::rows::Row;
 use records::rules::Rules;
+use turns::state::Limits;
+use words::words::clear;
 ghost use mathlib.Core.Path.{_≡_};
 ghost use Prim.Native.Nat.{_≤_};
 ghost use lib.ListN.{length};
@@ -15,7 +16,7 @@ ghost use Rattle.grammar.specs.Words.{words};
 ghost use Rattle.words.specs.Room.{Room};
 ghost use Rattle.analysis.specs.Facts.{Standing};
 ghost use Rattle.plan.specs.Ground.{KeptAt};
-ghost use Rattle.plans.specs.Nth.{NthOf, nthNumbers, nthRow, capped, decisionNumbers, decisionRow};
+ghost use Rattle.plans.specs.Nth.{NthOf, nthNumbers, nthRow, capped, decisionNumbers, decisionRow, leftBy};
 
 // The decision for a cycle, or none where there is no such cycle.
 pub enum Choice {
@@ -37,6 +38,11 @@ pub struct Told {
 
 impl Told {
     pub const MOST: usize = 4294967295;
+
+    // Where among the numbers it stands what is decided.
+    pub const DECISION: usize = 2;
+
+    pub const PLANNED: u32 = 0;
 }
 
 // The decision for the nth cycle of rules that stand in a sheet, with their preserved ids behind them up to `to`.
@@ -68,7 +74,7 @@ pub fn decide_nth(
         };
     }
     let members = cycles[nth as usize];
-    let limits = standard_limits();
+    let limits = Limits::standard();
     let decision = plan_cycle(
         s,
         end,
@@ -140,5 +146,14 @@ pub fn tell_nth(r: Nth) -> Told
             row: [0; Row::WORDS],
         },
         Choice::Some(d) => tell_decision(cycles, d),
+    }
+}
+
+// The list of a plan stays in the work area; without a plan nothing does.
+pub fn leave(numbers: [u32; 8], work: &mut [u8])
+    ensures { λ _. ⌜ now (work .exit) ≡ leftBy numbers (now (work .entry)) ⌝ }
+{
+    if numbers[Told::DECISION] != Told::PLANNED {
+        clear(work);
     }
 }

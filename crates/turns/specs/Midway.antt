@@ -35,6 +35,11 @@ pub record LimitsFit (x : Limits) : Type 0 where
   pub options : x .options ≤ mostOptions
   pub sheet : mostWords ≤ x .elements
 
+-- They are the definition's.
+pub record IsStandard (x : Limits) : Type 0 where
+  pub is : limitsOf x ≡ R.standard
+  pub fits : LimitsFit x
+
 -- A size is within them.
 abbrev pub withinLimits : Limits → Size → Bool
 withinLimits x z = leb (z .a) (x .alternatives) && (leb (z .e) (x .elements) && leb (z .o) (x .options))

@@ -16,7 +16,7 @@ ghost use Rattle.grammar.specs.Words.{words};
 ghost use Rattle.words.specs.Room.{Room};
 ghost use Rattle.planned.specs.List.{Laid, HasTop, HasRoom, Located, Movable};
 ghost use Rattle.planned.specs.Moves.{IsDrained};
-ghost use Rattle.turns.specs.Midway.{Shut, Ready, HasNext, StackTaken, TakenFrom, PutSettled};
+ghost use Rattle.turns.specs.Midway.{IsStandard, Shut, Ready, HasNext, StackTaken, TakenFrom, PutSettled};
 
 // The least budget, and how large a planned list may be after a step.
 pub struct Limits {
@@ -24,6 +24,23 @@ pub struct Limits {
     pub alternatives: usize,
     pub elements: usize,
     pub options: usize,
+}
+
+impl Limits {
+    // The least number of steps that a substitution may take (SPECIFICATION 8.10).
+    pub const LEAST_BUDGET: usize = 64;
+
+    // The limits of the pass.
+    pub fn standard() -> Limits
+        ensures { λ r. ⌜ IsStandard r ⌝ }
+    {
+        Limits {
+            floor: Limits::LEAST_BUDGET,
+            alternatives: Sizes::ALTERNATIVES,
+            elements: Sizes::ELEMENTS,
+            options: Sizes::OPTIONS,
+        }
+    }
 }
 
 // The list, how many of the hub's alternatives are still in the sheet and where the first stands, how large all of it is, and

@@ -86,9 +86,11 @@ impl Lent {
             Question::First => asked_first(planner.first, sheet, work, call, &expected)?,
         }
         self.left_alone(expected.numbers[0], call)?;
-        let work = &self.work[call.start..];
-        if let (Some(list), Ok(judged)) = (&expected.list, judged) {
-            list.stands(work, &judged.words, &judged.places)?;
+        let work = &self.work[call.start..][..call.work];
+        match (&expected.list, judged) {
+            (Some(list), Ok(judged)) => list.stands(work, &judged.words, &judged.places)?,
+            _ if matches!(expected.numbers[0], 1 | 2) => {}
+            _ => all_zeros(work)?,
         }
         Ok(expected)
     }
@@ -176,6 +178,14 @@ fn asked_first(
     cycle.same("cycle", &expected.cycle, hex)?;
     removable.same("removable", &expected.removable, hex)?;
     clauses.same("clauses", &expected.clauses, u32::to_string)
+}
+
+/// Without a plan nothing of the work area stays.
+fn all_zeros(work: &[u8]) -> Result<(), String> {
+    match work.iter().position(|byte| *byte != 0) {
+        None => Ok(()),
+        Some(at) => Err(format!("byte {at} of the work area is not cleared")),
+    }
 }
 
 fn hex(word: &u64) -> String {

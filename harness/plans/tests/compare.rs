@@ -150,6 +150,27 @@ fn a_work_area_is_left_alone_where_it_is_too_short_or_the_sheet_is() {
 }
 
 #[test]
+fn a_work_area_is_cleared_where_there_is_no_plan() {
+    let declined = bytes_of(&encode(&sheet("e: a; a: e PLUS;")));
+    let (mut refused, none) = (declined.clone(), Question::Nth(1));
+    let kind = refused.len() - 32;
+    refused[kind] = 9;
+    for (question, sheet) in [
+        (CALL.question, &declined),
+        (none, &declined),
+        (CALL.question, &refused),
+    ] {
+        let call = Call { question, ..CALL };
+        let given = called(call, sheet, |_| ()).expect("agreement");
+        assert_ne!(given.numbers[0] + given.numbers[2], 0);
+        for place in [0, 40_000, WORK - 1] {
+            let told = called(call, sheet, |work| work[place] = 7).expect_err("a wrong planner");
+            assert_eq!(told, format!("byte {place} of the work area is not cleared"));
+        }
+    }
+}
+
+#[test]
 fn bytes_beside_the_work_area_are_looked_at() {
     let sheet = bytes_of(&encode(&sheet("e: a | INT; a: e PLUS;")));
     for place in [-1, WORK as isize] {

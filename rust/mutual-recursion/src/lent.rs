@@ -69,7 +69,8 @@ pub fn pass_textbook(
 ///
 /// The numbers are the refusal or 0; how many cycles there are; 0 where there is a plan, 1 where the cycle is declined, 2 where
 /// a planned list is too large, 3 where there is no such cycle; the hub's place among the rules; the clause of the decline; the
-/// plan's steps and alternatives; 0. The row has the rules that may go. The list of a plan is left in the work area.
+/// plan's steps and alternatives; 0. The row has the rules that may go. The list of a plan is left in the work area; without a
+/// plan this ends as that of [`pass`].
 pub fn plan_nth(
     sheet: &[u8],
     work: &mut [u8],

@@ -110,7 +110,12 @@ fn row(members: &[u32], ids: &[u32; RULES]) -> [u64; 2] {
     })
 }
 
-/// The numbers of `plan_nth` and `first_plan`, and the rows, are those that `cycles` puts into types.
+fn is_cleared(work: &[u8]) -> bool {
+    work.iter().all(|byte| *byte == 0)
+}
+
+/// The numbers of `plan_nth` and `first_plan`, and the rows, are those that `cycles` puts into types; without a plan the work area
+/// is cleared.
 #[test]
 fn plans_and_cycles() {
     let mut work = vec![JUNK; WORK_BYTES];
@@ -156,6 +161,7 @@ fn plans_and_cycles() {
                 Decision::Planned(plan) => &plan.removed[..],
                 _ => &[],
             };
+            assert_eq!(is_cleared(&work), numbers[2] != 0, "{}", record.name);
             assert_eq!(removable, row(gone, &ids), "{}", record.name);
         }
         let mut numbers = [99; 8];
@@ -168,6 +174,7 @@ fn plans_and_cycles() {
             &mut removable,
         );
         assert_eq!(numbers, [0, count, 3, 0, 0, 0, 0, 0]);
+        assert!(is_cleared(&work), "{}", record.name);
 
         let (mut numbers, mut cycle, mut clauses) = ([99; 8], [7; 2], [7; RULES]);
         lent::first_plan(
@@ -199,6 +206,7 @@ fn plans_and_cycles() {
                 assert_eq!(cycle, row(members, &ids), "{}", record.name);
             }
         }
+        assert_eq!(is_cleared(&work), numbers[2] != 0, "{}", record.name);
         declined.resize(RULES, 0);
         assert_eq!(clauses[..], declined, "{}", record.name);
     }

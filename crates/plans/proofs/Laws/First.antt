@@ -9,13 +9,13 @@ use Rattle.analysis.specs.Survey.{reading}
 use Rattle.analysis.specs.Facts.{Standing, FactsFound}
 use Rattle.analysis.specs.declared.rounds.Marks.{Marks}
 use Rattle.hub.specs.Preserved.{between}
-use Rattle.turns.specs.Midway.{limitsOf}
+use Rattle.turns.specs.Midway.{limitsOf, IsStandard}
 use Rattle.turns.specs.declared.state.Limits.{Limits}
 use Rattle.plan.specs.declared.search.Search.{Search}
 use Rattle.plan.specs.declared.search.Search.the-variants.{NoPlan, Planned, TooLarge}
 use Rattle.plan.specs.declared.search.Found.{Found}
 use Rattle.plan.specs.Search.{RulesKnown, AnswerIs, FoundOf}
-use Rattle.plan.specs.Ground.{IsStandard, KeptOf}
+use Rattle.plan.specs.Ground.{KeptOf}
 use Rattle.plan.proofs.Laws.Ground.{ground-known}
 use Rattle.plans.specs.First.{SearchAs, FirstAs, FirstOf}
 

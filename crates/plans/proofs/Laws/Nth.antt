@@ -17,7 +17,7 @@ use Rattle.analysis.specs.Survey.{reading}
 use Rattle.analysis.specs.Facts.{Standing, FactsFound}
 use Rattle.analysis.specs.declared.rounds.Marks.{Marks}
 use Rattle.hub.specs.Preserved.{between}
-use Rattle.turns.specs.Midway.{LimitsFit}
+use Rattle.turns.specs.Midway.{LimitsFit, IsStandard}
 use Rattle.turns.specs.declared.state.Limits.{Limits}
 use Rattle.plan.specs.declared.plan.Decision.{Decision}
 use Rattle.plan.specs.Known.{CycleKnown}
@@ -25,7 +25,7 @@ use Rattle.plan.specs.Decision.{DecidedAs, PlanOf}
 use Rattle.hub.proofs.Laws.Cycle.{listed-cycle}
 use Rattle.facts.proofs.Laws.Told.{are-ids, are-edges}
 use Rattle.plans.specs.declared.nth.Choice.the-variants.{None, Some}
-use Rattle.plan.specs.Ground.{IsStandard, KeptOf}
+use Rattle.plan.specs.Ground.{KeptOf}
 use Rattle.plans.specs.Nth.{capped, cyclesOf, NthOf}
 
 pub capped-low : (n : ℕ) → n < wordEnd - 1 → n ≡ capped n

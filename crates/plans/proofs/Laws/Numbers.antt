@@ -1,7 +1,10 @@
 -- A decision in numbers, case by case.
 use Prim.Native.Nat.{ℕ}
-use mathlib.Core.Path.{_≡_, sym, ap, _∙_}
+use mathlib.Core.Path.{_≡_, sym, ap, _∙_, subst}
 use mathlib.Core.List.{List, [], _∷_}
+use mathlib.Core.Bool.{true, false}
+use lib.ListN.{length, getD, replicate}
+use borrow.Author.Tests.{eq-eqb, ne-eqb}
 use Rattle.plan.specs.declared.plan.Plan.{Plan}
 use Rattle.plan.specs.declared.plan.Decision.{Decision}
 use Rattle.plan.specs.declared.plan.Decision.the-variants.{Planned, Declined, Overfull}
@@ -11,7 +14,7 @@ use Rattle.plan.specs.declared.search.Search.the-variants as S
 use Rattle.plans.specs.First.{searchNumbers, searchCycle, searchRow}
 use Rattle.plans.specs.declared.nth.Choice.{Choice}
 use Rattle.plans.specs.declared.nth.Choice.the-variants.{None, Some}
-use Rattle.plans.specs.Nth.{capped, decisionNumbers, decisionRow, choiceNumbers, choiceRow}
+use Rattle.plans.specs.Nth.{capped, decisionNumbers, decisionRow, choiceNumbers, choiceRow, leftBy}
 
 module _ {d : Decision} where
   module _ {p : Plan} (z : d ≡ Planned p) where
@@ -94,3 +97,17 @@ module _ {a : Search} where
 
 pub ruleset searches =
     (first-numbers, first-row, first-cycle, full-numbers, full-cycle, full-row, nothing-numbers, nothing-cycle, nothing-row)
+
+-- The work area is left with the list of a plan, and else cleared.
+pub left-zeros : (numbers list : List ℕ) {cs : List ℕ} → (getD numbers 2 0 ≡ 0 → ⊥) → cs ≡ replicate (length list) 0
+    → cs ≡ leftBy numbers list
+unfolding leftBy
+left-zeros numbers list {cs} z e =
+    subst (λ b. cs ≡ elim b [ true ↦ list | false ↦ replicate (length list) 0 ]) (sym (ne-eqb (getD numbers 2 0) 0 z)) e
+
+pub left-list : (numbers list : List ℕ) {cs : List ℕ} → getD numbers 2 0 ≡ 0 → cs ≡ list → cs ≡ leftBy numbers list
+unfolding leftBy
+left-list numbers list {cs} z e =
+    subst (λ b. cs ≡ elim b [ true ↦ list | false ↦ replicate (length list) 0 ]) (sym (eq-eqb (getD numbers 2 0) 0 z)) e
+
+pub ruleset lefts = (left-zeros, left-list)

@@ -6,12 +6,22 @@ use Rattle.plans.proofs.Laws.Told.{first-tellings}
 use Rattle.plans.proofs.first_plan.Statement.{statement}
 use Rattle.plans.proofs.first_plan.Tie as tie
 
--- Places whose facts lie too far back for the search: the plan, and the sheet that was read.
-abbrev decided : tie.After-row → tie.After-decide-first
-decided c = c .before .before .before .before .before .before .before
+-- Places whose facts lie too far back for the search: the work area that is left, what is told, the plan, the sheet, and where it
+-- was read.
+abbrev left : tie.After-slice-known4 → tie.After-leave
+left c = c .before .before
 
-abbrev reading : tie.After-decide-first → tie.After-read
-reading c = c .before .before .before .before .before .before .before .before .before .before
+abbrev told : tie.After-leave → tie.After-tell-search
+told c = c .before .before .before .before .before
+
+abbrev decided : tie.After-tell-search → tie.After-decide-first
+decided c = c .before .before .before .before
+
+abbrev matched : tie.After-decide-first → tie.After-answer2
+matched c = c .before .before .before .before .before
+
+abbrev reading : tie.After-answer2 → tie.After-read
+reading c = c .before .before .before .before .before
 
 pub first-plan-spec : {M : Type 1} → statement M
 first-plan-spec =
@@ -28,10 +38,17 @@ first-plan-spec =
       search facts.tellings,
     ))
     (λ c κs. search needs)
+    (λ c κs. search needs)
     (λ c. search needs)
     (λ c. (search (needs, first-tellings), search needs))
     (λ c. search needs)
     (λ c.
-    let first = decided c .decide-first .ensures in
-    let sheet = reading (decided c) .read .ensures .0 in
+    let work = left c .leave .ensures in
+    let numbers = told (left c) .tell-search .ensures in
+    let first = decided (told (left c)) .decide-first .ensures in
+    let parts = matched (decided (told (left c))) .answer2 .given in
+    let sheet = reading (matched (decided (told (left c)))) .read .ensures .0 in
+    let left-long = left c .leave .kept .1 .0 in
+    let decided-long = decided (told (left c)) .decide-first .kept .1 .1 .1 .1 .1 .0 in
+    let read-long = reading (matched (decided (told (left c)))) .read .kept .1 .0 in
     (search first-tellings, search needs)))

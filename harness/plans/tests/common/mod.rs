@@ -25,8 +25,10 @@ pub fn answer(
         (Ok(both), Question::First) => Answer::first(&both[usize::from(textbook != 0)]),
     };
     change(&mut answer);
-    if let (Some(list), Ok(both)) = (&answer.list, &judged) {
-        list.write(work, |option| place(&both[0], option));
+    match (&answer.list, &judged) {
+        (Some(list), Ok(both)) => list.write(work, |option| place(&both[0], option)),
+        _ if matches!(judged, Err(1)) || work.len() < WORK => {}
+        _ => work.fill(0),
     }
     answer
 }
