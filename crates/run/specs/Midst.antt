@@ -25,9 +25,9 @@ use Rattle.apply.specs.Held.{Held}
 use Rattle.run.specs.declared.state.State.{State}
 use Rattle.run.specs.Ended.{Front}
 
--- Before the first plan.
-abbrev pub atStart : Rules → Marks → List ℕ → Counters → (end to : ℕ) → State
-atStart rules marks kept counters end to =
+-- Before the first plan, with so many entries in the trail.
+abbrev pub atStart : Rules → Marks → List ℕ → Counters → (end to entries : ℕ) → State
+atStart rules marks kept counters end to entries =
     record {
       rules = rules;
       marks = marks;
@@ -35,7 +35,7 @@ atStart rules marks kept counters end to =
       counters = counters;
       end = end;
       to = to;
-      entries = 0;
+      entries = entries;
       plans = 0;
       steps = 0;
     }

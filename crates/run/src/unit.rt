@@ -1,6 +1,7 @@
 // The run of one unit: plans until no cycle has one (SPECIFICATION 5.2, 5.4).
 use crate::state::Ended;
 use crate::state::State;
+use crate::state::Trail;
 use crate::turn::Turn;
 use crate::turn::take_turn;
 use plan::ground::find_out;
@@ -17,8 +18,8 @@ ghost use Rattle.apply.specs.Applied.{Buffers};
 ghost use Rattle.run.specs.Midst.{Begun};
 ghost use Rattle.run.specs.Turn.{Small, RunOf};
 
-// The sheet stands in the result, where the new one stands then; `room` are the words that it may have, and `recorded` the entries
-// that the trail has already. A rule is the hub of at most one plan, so that plans never outnumber rules.
+// The sheet stands in the result, where the new one stands then; `room` are the words that it may have, and `recorded` what the trail
+// has already. A rule is the hub of at most one plan, so that plans never outnumber rules.
 pub fn run_unit(
     result: &mut [u8],
     trail: &mut [u8],
@@ -30,9 +31,10 @@ pub fn run_unit(
     limits: Limits,
     past: bool,
     room: usize,
-    recorded: usize,
+    recorded: Trail,
 ) -> Ended
-    requires { ⌜ Buffers (now result) (now trail) (now work) × LimitsFit limits × Small limits × (room ≡ mostWords) × (recorded ≡ 0) ⌝ }
+    requires { ⌜ Buffers (now result) (now trail) (now work) × LimitsFit limits × Small limits × (room ≡ mostWords)
+        × (recorded .entries ≡ 0) ⌝ }
     requires { ⌜ Begun (now result) end to rules counters ⌝ }
     ensures { λ r. ⌜ RunOf (limitsOf limits) past (now (result .entry)) end to rules counters (now (result .exit)) (now (trail .exit)) r ⌝ }
     ensures { λ _. ⌜ (length (now (result .exit)) ≡ length (now (result .entry)))
@@ -43,17 +45,7 @@ pub fn run_unit(
     let ground = find_out(result, end, to, rules, past, &mut calls, &mut corners, work);
     let marks = ground.marks;
     let kept = ground.kept;
-    let mut st = State {
-        rules,
-        marks,
-        kept,
-        counters,
-        end,
-        to,
-        entries: recorded,
-        plans: 0,
-        steps: 0,
-    };
+    let mut st = State::begin(rules, marks, kept, counters, end, to, recorded);
     loop {
         let t = take_turn(
             result,

@@ -1,6 +1,6 @@
 -- The loop over plans: what holds at each turn, and what the turns make of it.
 use Prim.Native.Nat.{ℕ, suc, _+_, _-_, _<_}
-use mathlib.Core.Path.{_≡_, refl}
+use mathlib.Core.Path.{_≡_, refl, sym, subst}
 use mathlib.Core.List.{List}
 use mathlib.Core.Bool.{Bool, true, false, not}
 use native.Mathlib.Omega.{arith}
@@ -14,13 +14,15 @@ use Rattle.writing.specs.declared.counters.Counters.{Counters}
 use Rattle.records.specs.declared.rules.Rules.{Rules}
 use Rattle.analysis.specs.Facts.{FactsFound}
 use Rattle.analysis.specs.declared.rounds.Marks.{Marks}
+use Rattle.reference.specs.Substitute as R
 use Rattle.turns.specs.Midway.{LimitsFit, limitsOf}
 use Rattle.turns.specs.declared.state.Limits.{Limits}
 use Rattle.plan.specs.Ground.{KeptOf}
 use Rattle.apply.specs.Applied.{Buffers}
 use Rattle.run.specs.declared.state.State.{State}
+use Rattle.run.specs.declared.state.Ended.{Ended}
 use Rattle.run.specs.declared.turn.Turn.{Turn}
-use Rattle.run.specs.Midst.{Begun, Going}
+use Rattle.run.specs.Midst.{atStart, Begun, Going}
 use Rattle.run.specs.Turn.{Small, endedWith, TurnedOf, RunOf, Onward}
 use Rattle.run.proofs.Laws.Start.{onward-begin, onward-going, onward-more, onward-falls, onward-short, onward-over}
 
@@ -48,25 +50,16 @@ module _ (lim : Limits) (past : Bool) (room : ℕ) (result₀ : List ℕ) (end t
 
 module _ {lim : Limits} {past : Bool} {room : ℕ} {result₀ : List ℕ} {end to : ℕ} {rules : Rules} {counters : Counters} where
   -- The trail has no entries yet, and the work area is as long as it was lent.
-  pub looping-start : {trail work work₀ : List ℕ} {calls corners : List (List ℕ)} {marks : Marks} {kept : List ℕ} {recorded : ℕ}
+  pub looping-start : {trail work work₀ : List ℕ} {calls corners : List (List ℕ)} {marks : Marks} {kept : List ℕ} {recorded : ℕ} {st : State}
       → Buffers result₀ trail work₀ → LimitsFit lim → Small lim → room ≡ mostWords → recorded ≡ 0 → Begun result₀ end to rules counters
       → FactsFound (words result₀) end rules past calls corners marks → KeptOf (words result₀) end to rules kept
       → length calls ≡ ruleLimit → length corners ≡ ruleLimit → length work ≡ length work₀
-      → Looping lim past room result₀ end to rules counters result₀ trail work calls corners
-      (record {
-        rules = rules;
-        marks = marks;
-        kept = kept;
-        counters = counters;
-        end = end;
-        to = to;
-        entries = recorded;
-        plans = 0;
-        steps = 0;
-      })
-  looping-start {trail} b f s m z x g k lc lo w =
+      → st ≡ atStart rules marks kept counters end to recorded
+      → Looping lim past room result₀ end to (st .rules) (st .counters) result₀ trail work calls corners st
+  looping-start {trail} {work} {work₀} {calls} {corners} b f s m z x g k lc lo w e =
       let o = onward-begin trail z g k in
-      record {
+      subst (λ y. Looping lim past room result₀ end to (y .rules) (y .counters) result₀ trail work calls corners y) (sym e)
+      (record {
         lent = buffers-same b refl refl w;
         fit = f;
         small = s;
@@ -76,7 +69,7 @@ module _ {lim : Limits} {past : Bool} {room : ℕ} {result₀ : List ℕ} {end t
         begun = x;
         going = onward-going o x;
         onward = o;
-      }
+      })
 
   module _ {result trail work : List ℕ} {calls corners : List (List ℕ)} {st : State}
       (l : Looping lim past room result₀ end to rules counters result trail work calls corners st) where
@@ -111,4 +104,11 @@ module _ {lim : Limits} {past : Bool} {room : ℕ} {result₀ : List ℕ} {end t
           → RunOf (limitsOf lim) past result₀ end to rules counters result′ trail′ (endedWith (r .number) (r .st))
       looping-over e = onward-over (l .onward) t (l .begun) (not-true _ e)
 
-pub ruleset loops = (looping-start, looping-more, looping-falls, looping-fits, looping-over)
+-- What is known of the run from its first state on is known of the rules and counters with which it began.
+pub looping-whole : {limits : R.Limits} {past : Bool} {result₀ : List ℕ} {end to : ℕ} {rules : Rules} {counters : Counters} {marks : Marks}
+    {kept : List ℕ} {recorded : ℕ} {st : State} → st ≡ atStart rules marks kept counters end to recorded → {result trail : List ℕ} {r : Ended}
+    → RunOf limits past result₀ end to (st .rules) (st .counters) result trail r → RunOf limits past result₀ end to rules counters result trail r
+looping-whole {limits} {past} {result₀} {end} {to} e {result} {trail} {r} o =
+    subst (λ y. RunOf limits past result₀ end to (y .rules) (y .counters) result trail r) e o
+
+pub ruleset loops = (looping-more, looping-falls, looping-fits, looping-over)

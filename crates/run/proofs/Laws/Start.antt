@@ -51,7 +51,7 @@ module _ {result : List ℕ} {end to : ℕ} {rules : Rules} {counters : Counters
   module _ (limits : R.Limits) {past : Bool} {calls corners : List (List ℕ)} {marks : Marks} {kept : List ℕ}
       (f : FactsFound (words result) end rules past calls corners marks) (k : KeptOf (words result) end to rules kept)
       (trail : List ℕ) where
-    started : Midst limits past (x .sheet) result trail calls corners (atStart rules marks kept counters end to)
+    started : Midst limits past (x .sheet) result trail calls corners (atStart rules marks kept counters end to 0)
     unfolding begun-standing held-standing entriesOf stepsOf total
     started =
         record {
@@ -74,27 +74,15 @@ pub ruleset begins = (begun-room, begun-kept, begun-standing)
 module _ {limits : R.Limits} {past : Bool} {result : List ℕ} {end to : ℕ} {rules : Rules} {counters : Counters} where
   pub onward-start : {calls corners : List (List ℕ)} {marks : Marks} {kept : List ℕ} (trail : List ℕ)
       → FactsFound (words result) end rules past calls corners marks → KeptOf (words result) end to rules kept
-      → Onward limits past result end to rules counters result trail calls corners (atStart rules marks kept counters end to)
+      → Onward limits past result end to rules counters result trail calls corners (atStart rules marks kept counters end to 0)
   onward-start trail f k = record { is = λ x. started x limits f k trail }
 
   -- The trail has no entries yet.
   pub onward-begin : {calls corners : List (List ℕ)} {marks : Marks} {kept : List ℕ} {recorded : ℕ} (trail : List ℕ) → recorded ≡ 0
       → FactsFound (words result) end rules past calls corners marks → KeptOf (words result) end to rules kept
-      → Onward limits past result end to rules counters result trail calls corners
-      (record {
-        rules = rules;
-        marks = marks;
-        kept = kept;
-        counters = counters;
-        end = end;
-        to = to;
-        entries = recorded;
-        plans = 0;
-        steps = 0;
-      })
+      → Onward limits past result end to rules counters result trail calls corners (atStart rules marks kept counters end to recorded)
   onward-begin {calls} {corners} {marks} {kept} trail e f k =
-      subst (λ n. Onward limits past result end to rules counters result trail calls corners
-      (record { rules = rules; marks = marks; kept = kept; counters = counters; end = end; to = to; entries = n; plans = 0; steps = 0 }))
+      subst (λ n. Onward limits past result end to rules counters result trail calls corners (atStart rules marks kept counters end to n))
       (sym e) (onward-start trail f k)
 
   module _ {result₁ trail₁ : List ℕ} {calls corners : List (List ℕ)} {st : State}
