@@ -1,11 +1,12 @@
 // The answer to a sheet of good length with buffers that are long enough, before the buffers are cleared.
-use plan::ground::standard_limits;
 use records::rules::Rules;
 use run::state::Ended;
+use run::state::Trail;
 use run::unit::run_unit;
 use sheet::Answer;
 use sheet::Parts;
 use sheet::answer::examine;
+use turns::state::Limits;
 use words::numbers::Sheet;
 use words::numbers::UnitKind;
 use writing::copy::copy_words;
@@ -43,7 +44,8 @@ fn deliver_sheet(
     let end = parts.preserved as usize;
     let to = end + parts.count as usize;
     let counters = parts.counters;
-    let limits = standard_limits();
+    let limits = Limits::standard();
+    let recorded = Trail::empty();
     run_unit(
         result,
         trail,
@@ -55,7 +57,7 @@ fn deliver_sheet(
         limits,
         past,
         Sheet::MOST_BYTES / 4,
-        0,
+        recorded,
     )
 }
 

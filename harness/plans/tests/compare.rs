@@ -165,7 +165,10 @@ fn a_work_area_is_cleared_where_there_is_no_plan() {
         assert_ne!(given.numbers[0] + given.numbers[2], 0);
         for place in [0, 40_000, WORK - 1] {
             let told = called(call, sheet, |work| work[place] = 7).expect_err("a wrong planner");
-            assert_eq!(told, format!("byte {place} of the work area is not cleared"));
+            assert_eq!(
+                told,
+                format!("byte {place} of the work area is not cleared")
+            );
         }
     }
 }

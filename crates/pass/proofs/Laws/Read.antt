@@ -43,9 +43,8 @@ use Rattle.run.specs.Ended.{Front, AnswerIs, Short}
 use Rattle.run.specs.Midst.{Begun}
 use Rattle.run.specs.Turn.{Small, RunOf}
 use Rattle.run.specs.declared.state.Ended.{Ended}
-use Rattle.turns.specs.Midway.{limitsOf}
+use Rattle.turns.specs.Midway.{limitsOf, IsStandard}
 use Rattle.turns.specs.declared.state.Limits.{Limits}
-use Rattle.plan.specs.Ground.{IsStandard}
 use Rattle.pass.specs.Handed.{Answered, Lent, WasSheet}
 
 was-sheet : (g : reading.Reading) {r : Reading} {p : Parts} → ReadAs g r → r .answer ≡ Sheet p

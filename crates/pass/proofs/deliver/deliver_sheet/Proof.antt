@@ -4,9 +4,12 @@ use Rattle.pass.proofs.Laws.Read.{readings}
 use Rattle.pass.proofs.deliver.deliver_sheet.Statement.{statement}
 use Rattle.pass.proofs.deliver.deliver_sheet.Tie as tie
 
--- The call, which lies too far back for the search once the run is made.
+-- Places that lie too far back for the search once the run is made: the test of the unit's kind, the copy, and the call.
+abbrev tested : tie.After-run-unit → tie.Else1
+tested c = c .before .before .before .before .before .before .before .before .before
+
 abbrev copied : tie.After-run-unit → tie.After-copy-words
-copied c = c .before .before .before .before .before .before .before .before .before .before .before .before
+copied c = tested c .before .before .before .before
 
 abbrev entry : tie.After-run-unit → tie.Start
 entry c = copied c .before .before .before .before .before .before
@@ -22,8 +25,14 @@ deliver-sheet-spec =
     (λ c. search needs)
     (λ c. search needs)
     (λ c κs. search needs)
+    (λ c κs. search needs)
     (λ c κs. (search (needs, readings), search (needs, readings)))
     (λ c. search needs)
     (λ c. search needs)
     (λ c. search needs)
-    (λ c. let asked = entry (c .before .before .before .before .before .before) .pre in (search (needs, readings), search needs)))
+    (λ c.
+    let ran = c .before .before .before .before .before .before in
+    let asked = entry ran .pre in
+    let written = copied ran .copy-words .ensures in
+    let kind = tested ran .if1 .left in
+    (search (needs, readings), search needs)))
