@@ -77,7 +77,7 @@ fn the_cause_is_one_of_four() {
     for what in [
         "pass arguments to",
         "nothing in it but",
-        "in front can be left out",
+        "in front can be empty",
         "of the cycle, behind",
     ] {
         let joined = Cell::new(0);
@@ -98,7 +98,7 @@ fn the_cause_is_one_of_four() {
                     ("of the cycle, behind", Some(place)) => {
                         own.elements.insert(place, token(own.id))
                     }
-                    ("nothing in it but" | "in front can be left out", _) if own.id == slot => {
+                    ("nothing in it but" | "in front can be empty", _) if own.id == slot => {
                         own.elements.push(token(0));
                     }
                     _ => {}
