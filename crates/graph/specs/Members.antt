@@ -91,3 +91,4 @@ module _ {A : Type 0} where
   one_with key (x ∷ xs) t (Memᴰ.tail m) (Memᴰ.head e) k = absurd (shared key x xs t m (ap key (sym e) ∙ sym k))
   one_with key (x ∷ xs) t (Memᴰ.tail m) (Memᴰ.tail n) k =
       one_with key xs (right_true (not (member (key x) (map key xs))) _ t) m n k
+  one_with key [] t {a = a} {b = b} x4 _ k = elim x4 [ ]

@@ -40,6 +40,7 @@ module _ {G : Shapes} where
 
   unit_alt : {s : Shape} → Within G (alt fail s) G s
   unit_alt w (d_right y) = y
+  unit_alt {s = s} w (d_left x4) = elim x4 [ ]
 
   pub alt_unit : (s : Shape) → Same G (alt fail s) G s
   alt_unit s = record { to = unit_alt; back = λ w d. d_right d }
@@ -100,6 +101,7 @@ module _ {G : Shapes} where
     unchoose : (as' : List A) → Within G (alts (map (λ a. seq s (seq (f a) t)) as')) G (seq s (seq (alts (map f as')) t))
     unchoose (a ∷ as') w (d_left x) = under_left x
     unchoose (a ∷ as') w (d_right x) = under_right (unchoose as' w x)
+    unchoose [] w x' = elim x' [ ]
 
     pub distribute : (as' : List A) → Same G (seq s (seq (alts (map f as')) t)) G (alts (map (λ a. seq s (seq (f a) t)) as'))
     distribute as' = record { to = choose as'; back = unchoose as' }

@@ -32,6 +32,7 @@ module _ (d : ℕ) (key : RuleOf (Block d) → ℕ) where
       let other : eqb (key q) (key r) ≡ false =
       ne_eqb (key q) (key r) λ e. true≢false (sym (in_member (subst (λ x. Memᴰ x (map key rs)) (sym e) (in_map key m))) ∙ f) in
       find_next (body_of q) (bodies_by d key rs) (key r) other ∙ rule_found rs (right_true (not (member (key q) (map key rs))) _ t) m
+  rule_found [] t {r = r} x'' = elim x'' [ ]
 
   -- What is found is the body of a rule with that number.
   pub found_rule : (rs : List (RuleOf (Block d))) (n : ℕ) {b : Shape} → find (bodies_by d key rs) n ≡ some b

@@ -25,6 +25,7 @@ module _ {G : Shapes} where
   joined : {x : Shape} → Within G (alts (map seqs ((x ∷ []) ∷ [] ∷ []))) G (opt x)
   joined {x} w (d_left (d_seq {u = u} e d d_eps)) = d_present (subst (λ v. Der G x v) (sym (append-nil u) ∙ e) d)
   joined w (d_right (d_left d_eps)) = d_absent
+  joined {x = x} w (d_right (d_right x9)) = elim x9 [ ]
 
   pub opt_same : (x : Shape) → Same G (opt x) G (alts (map seqs ((x ∷ []) ∷ [] ∷ [])))
   opt_same x = record { to = parted; back = joined }

@@ -39,7 +39,7 @@ module _ {G : Shapes} where
   alternative_of f (b ∷ bs) (c_left k) = (b, Memᴰ.head refl, k)
   alternative_of f (b ∷ bs) (c_right k) = let r = alternative_of f bs k in (r.0, Memᴰ.tail r.1, r.2)
 
-  of_alternative : {B : Type 0} (f : B → Shape) {bs : List B} {b : B} {n : ℕ} → Memᴰ b bs → Corner textbook G (f b) n
+  of_alternative : {B : Type 0} (f : B → Shape) {b : B} {bs : List B} {n : ℕ} → Memᴰ b bs → Corner textbook G (f b) n
       → Corner textbook G (alts (map f bs)) n
   of_alternative f {n = n} (Memᴰ.head e) k = c_left (subst (λ x. Corner textbook G (f x) n) e k)
   of_alternative f (Memᴰ.tail m) k = c_right (of_alternative f m k)

@@ -228,6 +228,13 @@ no_end (d_unknown e) again = none-ne-some _ (sym e)
 no_end (d_seq e x y) (in_front i) = no_end x i
 no_end (d_left x) (either_way i j) = no_end x i
 no_end (d_right x) (either_way i j) = no_end x j
+no_end d_eps i = elim i [ ]
+no_end d_symbol i = elim i [ ]
+no_end d_absent i = elim i [ ]
+no_end (d_present x) i = elim i [ ]
+no_end d_none i = elim i [ ]
+no_end (d_more e x y) i = elim i [ ]
+no_end (d_some e x y) i = elim i [ ]
 
 endless_nothing_lem : (w : Word) → No endless w
 unfolding find

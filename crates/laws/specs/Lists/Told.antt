@@ -41,6 +41,7 @@ low : (c : ℕ) (xs : List ℕ) → below c xs ≡ true → Low c xs
 unfolding below
 low c (y ∷ ys) t x (mathlib.Core.List.Memᴰ.head e) = ltb-true x c (ap (λ z. ltb z c) e ∙ left_true (ltb y c) _ t)
 low c (y ∷ ys) t x (mathlib.Core.List.Memᴰ.tail m) = low c ys (right_true (ltb y c) _ t) x m
+low c [] t x x4 = elim x4 [ ]
 
 kept_low : (c : ℕ) (xs : List ℕ) → Low c xs → below c xs ≡ true
 unfolding below
@@ -66,6 +67,7 @@ kept_rising (x ∷ y ∷ ys) h =
 all_low : (c : ℕ) (xs : List ℕ) → AllOf (λ x. x < c) xs → Low c xs
 all_low c (y ∷ ys) h x (mathlib.Core.List.Memᴰ.head e) = subst (λ z. z < c) (sym e) h.0
 all_low c (y ∷ ys) h x (mathlib.Core.List.Memᴰ.tail m) = all_low c ys h.1 x m
+all_low c [] h x x4 = elim x4 [ ]
 
 low_all : (c : ℕ) (xs : List ℕ) → Low c xs → AllOf (λ x. x < c) xs
 low_all c [] h = tt
@@ -74,14 +76,16 @@ low_all c (y ∷ ys) h = (h y (mathlib.Core.List.Memᴰ.head refl), low_all c ys
 any_one : (c : ℕ) (xs : List ℕ) → AnyOf (λ x. c ≤ x) xs → (x : ℕ) × Memᴰ x xs × (c ≤ x)
 any_one c (y ∷ ys) (inl l) = (y, mathlib.Core.List.Memᴰ.head refl, l)
 any_one c (y ∷ ys) (inr h) = let (x, m, l) = any_one c ys h in (x, mathlib.Core.List.Memᴰ.tail m, l)
+any_one c [] x' = elim x' [ ]
 
-one_any : (c : ℕ) {xs : List ℕ} {x : ℕ} → Memᴰ x xs → c ≤ x → AnyOf (λ x. c ≤ x) xs
+one_any : (c : ℕ) {x : ℕ} {xs : List ℕ} → Memᴰ x xs → c ≤ x → AnyOf (λ x. c ≤ x) xs
 one_any c (mathlib.Core.List.Memᴰ.head e) l = inl (subst (λ z. c ≤ z) e l)
 one_any c (mathlib.Core.List.Memᴰ.tail m) l = inr (one_any c m l)
 
 bytes_low : (bs : List ℕ) → AreBytes bs → Low 256 bs
 bytes_low (b ∷ bs) h x (mathlib.Core.List.Memᴰ.head e) = subst (λ z. z < 256) (sym e) (h 0)
 bytes_low (b ∷ bs) h x (mathlib.Core.List.Memᴰ.tail m) = bytes_low bs (λ i. h (suc i)) x m
+bytes_low [] h x x4 = elim x4 [ ]
 
 low_bytes : (bs : List ℕ) → Low 256 bs → AreBytes bs
 low_bytes [] h zero = omega arith

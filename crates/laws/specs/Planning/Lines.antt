@@ -141,14 +141,14 @@ module _ (g : Grammar) (cycle : List ℕ) (hub : ℕ) {B : Type 0} where
       finds_none : Finds settled
 
     finds_by : (k : PlannedCorner) → planned_corner g cycle hub es ≡ k → Means g cycle hub es k → Finds k
-    finds_by (optional i t) e m = go (subst (Line hub m.0.head m.0.site t i) e (line_at m.0))
+    finds_by (optional i t) e m = finds_split m.0 (go (subst (Line hub m.0.head m.0.site t i) e (line_at m.0)))
       where
-        go : Line hub m.0.head m.0.site t i (optional i t) → Finds (optional i t)
-        go (split_line y) = finds_split m.0 y
-    finds_by (satellite i t) e m = go (subst (Line hub m.0.head m.0.site t i) e (line_at m.0))
+        go : {j u : ℕ} → Line hub m.0.head m.0.site t i (optional j u) → Splits hub m.0.head m.0.site t
+        go (split_line y) = y
+    finds_by (satellite i t) e m = finds_splice m.0 (go (subst (Line hub m.0.head m.0.site t i) e (line_at m.0)))
       where
-        go : Line hub m.0.head m.0.site t i (satellite i t) → Finds (satellite i t)
-        go (splice_line y) = finds_splice m.0 y
+        go : {j u : ℕ} → Line hub m.0.head m.0.site t i (satellite j u) → Splices hub m.0.head m.0.site t
+        go (splice_line y) = y
     finds_by blocked e m = go (subst (Line hub m.2.head m.2.site m.1 m.0) e (line_at m.2))
       where
         go : Line hub m.2.head m.2.site m.1 m.0 blocked → Finds blocked

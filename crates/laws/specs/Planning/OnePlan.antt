@@ -3,7 +3,7 @@ use Prim.Native.Nat.{ℕ, suc}
 use Rattle.std.specs.Prelude.{◌≡◌, refl, ◌⊎◌, ◌↔◌, Bool, true, false, ◌||◌, eqb}
 use Rattle.std.proofs.Common.{sym, ap, ◌∙◌, subst, inl, inr, ⊎_elim, true≢false, eqb-true, eq-eqb, ne_eqb}
 use Rattle.std.proofs.Math.Path.{ap₂}
-use Rattle.std.proofs.Math.Logic.{Iff·trans}
+use mathlib.Core.Logic.Iff
 use mathlib.Core.List.Memᴰ
 use mathlib.Core.List.{List, [], ◌∷◌, ◌++◌, map, map-map, Memᴰ}
 use Rattle.std.proofs.Math.Option.{Option, none, some}
@@ -264,7 +264,7 @@ module _ {c : Corners} {d : ℕ} {rs : List (RuleOf (Block (suc d)))} {g : Gramm
 
   -- Of what calls only rules left, or unknown names, the left corners are the same before and after.
   pub left_corner : (o : Corners) (s : Shape) {n : ℕ} → EachCall (λ n. gone n ≡ false) s → Corner o G s n ↔ Corner o L s n
-  left_corner o s p = Iff·trans (same_corner replaced_same replaced_known s) (removal_corner left_alike s p)
+  left_corner o s p = Iff.trans (same_corner replaced_same replaced_known s) (removal_corner left_alike s p)
 
   -- The hub as the plan leaves it.
   abbrev pub hub_after : RuleOf (Block (suc d))

@@ -41,6 +41,7 @@ skipped f o (y ∷ os) front (Memᴰ.head e) n =
     (passed_over (named o) f (ap (λ m. eqb m o.name) (sym n ∙ ap (λ z. z.name) e) ∙ u) os front))
 skipped f o (y ∷ os) front (Memᴰ.tail m) n =
     either (named o y) (λ u. rw (u, first)) (λ u. rw (u, first) (skipped f o os front m n))
+skipped f o [] front x4 n = elim x4 [ ]
 
 -- Of the first option of those that join others.
 abbrev Replied : Type 0

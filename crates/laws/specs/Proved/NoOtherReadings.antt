@@ -2,7 +2,7 @@
 use Rattle.std.specs.Prelude.{ℕ, ◌≡◌, refl, ◌↔◌, List, [], ◌∷◌, ◌++◌, map}
 use Rattle.std.proofs.Common.{sym, ap, ◌∙◌, subst, subst₂, ⊎_elim, arith, ne_eqb}
 use Rattle.std.proofs.Math.Path.{path_j}
-use Rattle.std.proofs.Math.Logic.{Iff·trans}
+use mathlib.Core.Logic.Iff
 use mathlib.Core.List.Memᴰ
 use mathlib.Core.Equiv.{Iso}
 use Rattle.std.proofs.Math.Option.{some, some-injective, none-ne-some}
@@ -94,7 +94,7 @@ same_strings_lem =
       derives = λ r q m n e w.
           let i : q.id ≡ 1 = ap (λ q. q.id) (Memᴰ.eq_of_singleton n) in
           subst₂ (λ i j. RuleDerives body_depth doubling.rules i w ↔ RuleDerives body_depth merged j w) (sym (sym e ∙ i)) (sym i)
-          (Iff·trans (run_strings.derives doubling_hub _ (Memᴰ.head refl) (Memᴰ.head refl) refl w) (both_one w));
+          (Iff.trans (run_strings.derives doubling_hub _ (Memᴰ.head refl) (Memᴰ.head refl) refl w) (both_one w));
     }
 
 -- But without one of the two equal alternatives DOTS has one reading.

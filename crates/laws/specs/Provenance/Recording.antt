@@ -77,6 +77,7 @@ apart_at (q ∷ have) os o h {p} (mathlib.Core.List.Memᴰ.head d) e =
     let m : Memᴰ o (have ++ (o ∷ os)) = mathlib.Core.List.Memᴰ.append_right have (mathlib.Core.List.Memᴰ.head refl) in
     h.0 (subst (λ x. Memᴰ x (map owner_id (have ++ (o ∷ os)))) (sym e ∙ ap owner_id d) (in_map owner_id m))
 apart_at (q ∷ have) os o h (mathlib.Core.List.Memᴰ.tail m) e = apart_at have os o h.1 m e
+apart_at [] os o h {p = p} x3 e = elim x3 [ ]
 
 -- Origins with different owners are all added.
 pub add_new : (have os : List Origin) → Distinct (map owner_id (have ++ os)) → add_origins have os ≡ have ++ os

@@ -64,6 +64,7 @@ module _ (o : Corners) {d : ℕ} {rs : List (RuleOf (Block (suc d)))} {g : Gramm
     split_corner q (c_right (c_left j)) =
         inl (whole (c_later (optional_skips o before (erase_block d) x.site x.head (name_found x.site.name x.known).1 q)
         (past_front o before d x.front x.rest x.silent j)))
+    split_corner q {m = m} (c_right (c_right x9)) = elim x9 [ ]
 
     splice_corner : (r : RuleOf (Block (suc d))) → Memᴰ r rs → r.id ≡ t → {m : ℕ}
         → Corner o before (body_of d (map (λ s. x.front ++ (s.elements ++ x.rest)) r.body)) m

@@ -85,7 +85,7 @@ module _ (c : Corners) (G : Shapes) where
     corner_one f (a ∷ as') (c_left k) = (a, Memᴰ.head refl, k)
     corner_one f (a ∷ as') (c_right k) = let (b, n, j) = corner_one f as' k in (b, Memᴰ.tail n, j)
 
-    pub one_corner : {A : Type 0} (f : A → Items d) {as' : List A} {a : A} → Memᴰ a as' → {m : ℕ} → Corner c G (shape_of d (f a)) m
+    pub one_corner : {A : Type 0} (f : A → Items d) {a : A} {as' : List A} → Memᴰ a as' → {m : ℕ} → Corner c G (shape_of d (f a)) m
         → Corner c G (alts (map (λ a. shape_of d (f a)) as')) m
     one_corner f (Memᴰ.head e) {m} k = c_left (subst (λ a. Corner c G (shape_of d (f a)) m) e k)
     one_corner f (Memᴰ.tail n) k = c_right (one_corner f n k)

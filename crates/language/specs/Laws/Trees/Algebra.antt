@@ -201,6 +201,7 @@ module _ {X : Shapes} where
         → Tree X (seq s (seq (alts (map f as')) t))
     unchoose (a ∷ as') (t_left (t_seq x (t_seq y z))) = t_seq x (t_seq (t_left y) z)
     unchoose (a ∷ as') (t_right w) = under_right (unchoose as' w)
+    unchoose [] x' = elim x' [ ]
 
     choose_under : (a : A) (as' : List A) (v : Tree X (seq s (seq (alts (map f as')) t)))
         → choose (a ∷ as') (under_right v) ≡ t_right (choose as' v)
@@ -212,6 +213,7 @@ module _ {X : Shapes} where
     unfolding choose unchoose
     choose_unchoose (a ∷ as') (t_left (t_seq x (t_seq y z))) = refl
     choose_unchoose (a ∷ as') (t_right w) = choose_under a as' (unchoose as' w) ∙ ap t_right (choose_unchoose as' w)
+    choose_unchoose [] w = elim w [ ]
 
     pub unchoose_choose : (as' : List A) (v : Tree X (seq s (seq (alts (map f as')) t))) → unchoose as' (choose as' v) ≡ v
     unfolding choose unchoose under_right

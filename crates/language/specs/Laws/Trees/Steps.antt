@@ -69,12 +69,14 @@ module _ {X : Shapes} {x : Shape} where
   unfoldable pub joined : Tree X (alts (map seqs ((x ∷ []) ∷ [] ∷ []))) → Tree X (opt x)
   joined (t_left (t_seq d t_eps)) = t_present d
   joined (t_right (t_left t_eps)) = t_absent
+  joined (t_right (t_right x7)) = elim x7 [ ]
 
   -- Each undoes the other, the string is kept, and it commutes.
   pub part_join : (d : Tree X (alts (map seqs ((x ∷ []) ∷ [] ∷ [])))) → parted (joined d) ≡ d
   unfolding parted joined
   part_join (t_left (t_seq d t_eps)) = refl
   part_join (t_right (t_left t_eps)) = refl
+  part_join (t_right (t_right x6)) = elim x6 [ ]
 
   pub join_part : (d : Tree X (opt x)) → joined (parted d) ≡ d
   unfolding parted joined
