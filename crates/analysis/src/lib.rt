@@ -3,6 +3,8 @@
 // (`emptyDerivation`); left corners are those of the derivations (`leftCornersListed`, and `textbookCorners` for the
 // textbook's reading); the cycles are the largest sets of several rules that reach each other, in the order of their least
 // ids (`cyclesListed`). What plans leave of them is `factsStay`.
+#![tactic(auto)]
+
 pub mod leaf;
 pub mod names;
 pub mod rounds;

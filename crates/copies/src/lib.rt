@@ -1,4 +1,6 @@
 // Copies of what stands in a sheet, with fresh ids all the way down and an entry of the trail for each.
+#![tactic(auto)]
+
 pub mod copy;
 pub mod parts;
 pub mod pen;

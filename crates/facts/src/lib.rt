@@ -1,5 +1,7 @@
 // What is found out about a sheet, for callers in other languages: its facts and its cycles, as `analysis` and `reach` find
 // them.
+#![tactic(auto)]
+
 ghost use Rattle.std.specs.Prelude.{◌≡◌, ◌≤◌, length, replicate};
 ghost use Rattle.grammar.specs.Numbers.{work_bytes};
 ghost use Rattle.grammar.specs.Words.{words};

@@ -1,5 +1,7 @@
 // The listing of a sheet (SPECIFICATION 16.2), from standard input to standard output. A longer input is told by its first byte
 // too many. What cannot be read or written is told on standard error, in a line that begins with the program's name.
+#![tactic(auto)]
+
 mod answer;
 mod input;
 mod reasons;

@@ -1,4 +1,6 @@
 // The pass over one sheet (SPECIFICATION 1): the entries, as functions with an enum for an answer, and for callers in other languages.
+#![tactic(auto)]
+
 mod answer;
 mod clearing;
 mod deliver;

@@ -1,5 +1,7 @@
 // The plans of a sheet, for callers in other languages: the decision for one of its cycles, and the first plan, as
 // `plan` makes them.
+#![tactic(auto)]
+
 mod first;
 mod nth;
 

@@ -1,3 +1,5 @@
 // Every record of a sheet is looked at (SPECIFICATION 4.4); what is found are the rules' ids, names and places.
+#![tactic(auto)]
+
 mod records;
 pub mod rules;

@@ -1,1 +1,2 @@
 // The Rust as a function on trees: definitions only, in specs/.
+#![tactic(auto)]

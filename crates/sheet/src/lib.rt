@@ -1,4 +1,6 @@
 // The sheet reader: any bytes are refused by a number (SPECIFICATION 4.1 to 4.6), or known to be one tree's encoding.
+#![tactic(auto)]
+
 pub mod answer;
 mod counts;
 mod judge;

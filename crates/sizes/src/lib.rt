@@ -1,4 +1,6 @@
 // How large the planned list of a hub is once it is written: its fresh ids of each sort, its words.
+#![tactic(auto)]
+
 pub mod measure;
 pub mod sums;
 mod tally;

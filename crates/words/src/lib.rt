@@ -1,5 +1,7 @@
 // The lowest layer of the code: words in bytes, the numbers that have a meaning in a sheet, and where the parts of a tree
 // that stands in a sheet begin and end.
+#![tactic(auto)]
+
 pub mod numbers;
 pub mod walk;
 pub mod words;
