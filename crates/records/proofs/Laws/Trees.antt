@@ -161,4 +161,4 @@ pub ruleset blocks = (block_none, block_short, block_more)
 
 pub ruleset trees = (payload_block, payload_leaf, element_short, element_bad, element_more, alternatives, blocks)
 
-pub ruleset rules = (rule_short, rule_flags, rule_name, rule_more)
+pub ruleset rule_laws = (rule_short, rule_flags, rule_name, rule_more)

@@ -1,0 +1,36 @@
+use Prim.Native.Nat.{ℕ, ◌<◌, ◌+◌, ◌*◌}
+use Rattle.records.proofs.Laws.Steps.{Left, loops}
+use Rattle.grammar.specs.Words.{words}
+use Rattle.grammar.specs.Read.{element_at, alternative_at, block_at}
+use Rattle.records.proofs.Laws.Trees.{trees}
+use Rattle.records.proofs.records.+tree.Given as goal
+
+abbrev pub decreases-alternative_at : goal.decreases-alternative_at
+decreases-alternative_at l = l.depth * 8 + 4
+
+abbrev pub decreases-alternatives_at : goal.decreases-alternatives_at
+decreases-alternatives_at l = l.depth * 8 + 5
+
+abbrev pub decreases-block_at : goal.decreases-block_at
+decreases-block_at l = l.depth * 8
+
+abbrev pub decreases-element_at : goal.decreases-element_at
+decreases-element_at l = l.depth * 8 + 2
+
+abbrev pub decreases-elements_at : goal.decreases-elements_at
+decreases-elements_at l = l.depth * 8 + 3
+
+abbrev pub decreases-payload_at : goal.decreases-payload_at
+decreases-payload_at l = l.depth * 8 + 1
+
+abbrev pub invariant-alternatives_at-loop-i : goal.invariant-alternatives_at-loop-i
+invariant-alternatives_at-loop-i l = Left (alternative_at (words l.s) l.end (block_at (words l.s) l.end l.depth)) l.n l.at l.i l.p
+
+abbrev pub decreases-alternatives_at-loop-i : goal.decreases-alternatives_at-loop-i
+decreases-alternatives_at-loop-i l = l.i
+
+abbrev pub invariant-elements_at-loop-i : goal.invariant-elements_at-loop-i
+invariant-elements_at-loop-i l = Left (element_at (words l.s) l.end (block_at (words l.s) l.end l.depth)) l.n l.at l.i l.p
+
+abbrev pub decreases-elements_at-loop-i : goal.decreases-elements_at-loop-i
+decreases-elements_at-loop-i l = l.i

@@ -1,0 +1,40 @@
+use Rattle.std.proofs.Common.{rules, ◌≡◌, ◌+◌, ◌-◌, ◌*◌, ◌≤◌, length, ℕ, ◌<◌, ◌/◌, ◌%◌, Bool, true, false, nat_eq, nat_lt, List, [], ◌∷◌, ◌++◌, slice_index_or, slice_set, bit_and, bit_or, Fits, w8, w32, w64, Bor, MutBor}
+use Rattle.grammar.specs.Tree.{ElementHead}
+use Rattle.grammar.specs.Words.{words}
+use Rattle.grammar.specs.Read.{is_name, is_label, action_of, option_at, reference_at, body_at, call_at, token_at, leaf_at, head_at, payload_at, element_at, alternative_at, block_at}
+use Rattle.grammar.specs.Parse.{many}
+use Rattle.records.specs.Step.{is_fixed, step_of}
+use Rattle.records.proofs.records.leaf_at.Goals as goal
+use Rattle.records.proofs.Laws.Records.{leaves}
+
+-- src/records.rt:146:9
+pub returns-then-kind-eq-EPSILON : goal.returns-then-kind-eq-EPSILON
+returns-then-kind-eq-EPSILON c = search (rules, leaves)
+
+-- src/records.rt:149:9
+pub returns-then-kind-eq-TERMINAL : goal.returns-then-kind-eq-TERMINAL
+returns-then-kind-eq-TERMINAL c = search (rules, leaves)
+
+-- src/records.rt:152:9
+pub returns-then-kind-eq-END_OF_INPUT : goal.returns-then-kind-eq-END_OF_INPUT
+returns-then-kind-eq-END_OF_INPUT c = search (rules, leaves)
+
+-- src/records.rt:155:9
+pub returns-then-kind-eq-CALL : goal.returns-then-kind-eq-CALL
+returns-then-kind-eq-CALL c = search (rules, leaves)
+
+-- src/records.rt:158:9
+pub returns-then-kind-eq-TOKEN : goal.returns-then-kind-eq-TOKEN
+returns-then-kind-eq-TOKEN c = search (rules, leaves)
+
+-- src/records.rt:161:9
+pub returns-then-kind-eq-ACTION : goal.returns-then-kind-eq-ACTION
+returns-then-kind-eq-ACTION c = search (rules, leaves)
+
+-- src/records.rt:164:9
+pub returns-then-kind-eq-PREDICATE : goal.returns-then-kind-eq-PREDICATE
+returns-then-kind-eq-PREDICATE c = search (rules, leaves)
+
+-- src/records.rt:141:1
+pub returns : goal.returns
+returns c = search (rules, leaves)

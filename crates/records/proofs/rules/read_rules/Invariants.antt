@@ -1,0 +1,11 @@
+use Prim.Native.Nat.{◌-◌}
+use Rattle.grammar.specs.Numbers.{rule_limit}
+use Rattle.grammar.specs.Words.{words}
+use Rattle.records.proofs.Laws.Rules.{SoFar, reads}
+use Rattle.records.proofs.rules.read_rules.Given as goal
+
+abbrev pub invariant-loop-at : goal.invariant-loop-at
+invariant-loop-at l = SoFar (words l.s) l.end l.at l.rules
+
+abbrev pub decreases-loop-at : goal.decreases-loop-at
+decreases-loop-at l = rule_limit - l.rules.n
