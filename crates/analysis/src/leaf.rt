@@ -14,7 +14,7 @@ use words::words::word;
 
 // What is known of the rules while a body is walked: how many places there are, which rules are nullable, and whether left
 // corners are sought past symbols that can be empty.
-#[derive(Drop)]
+#[derive(Clone, Copy)]
 pub struct Known {
     pub n: usize,
     pub nullable: [u64; Row::WORDS],
@@ -22,7 +22,7 @@ pub struct Known {
 }
 
 // Whether left corners are still sought, and whether all in front is nullable.
-#[derive(Drop)]
+#[derive(Clone, Copy)]
 pub struct Passing {
     pub seeks: bool,
     pub null: bool,

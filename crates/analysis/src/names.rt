@@ -11,7 +11,7 @@ impl Table {
     const SLOTS: u32 = 65536;
 }
 
-#[derive(Drop)]
+#[derive(Clone, Copy)]
 pub enum Target {
     Unknown,
     Rule(usize),

@@ -18,14 +18,14 @@ use reach::rows::{Row, add_if};
 use records::rules::Rules;
 
 // Rules that are nullable, and rules that cannot be inlined as satellites.
-#[derive(Drop)]
+#[derive(Clone, Copy)]
 pub struct Marks {
     pub nullable: [u64; Row::WORDS],
     pub stops: [u64; Row::WORDS],
 }
 
 // What a round finds beside the rows: the same, and how many are nullable.
-#[derive(Drop)]
+#[derive(Clone, Copy)]
 struct Round {
     nullable: [u64; Row::WORDS],
     stops: [u64; Row::WORDS],

@@ -91,7 +91,7 @@ fn body(
 }
 
 // What a survey finds of a rule.
-#[derive(Drop)]
+#[derive(Clone, Copy)]
 pub struct Survey {
     pub calls: [u64; Row::WORDS],
     pub corners: [u64; Row::WORDS],

@@ -14,7 +14,7 @@ use words::walk::{alternative_head, element_head, leaf_end};
 use words::words::word;
 
 // Where the walk is, whether left corners are still sought, and whether all in front is nullable.
-#[derive(Drop)]
+#[derive(Clone, Copy)]
 pub struct Place {
     pub at: usize,
     pub seeks: bool,

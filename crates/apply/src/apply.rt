@@ -23,7 +23,7 @@ use writing::counters::Counters;
 
 // A refusal's number, or 0; then the rules and counters of the new sheet, where its rules and its preserved ids end, in words, and
 // how many entries the trail has.
-#[derive(Drop)]
+#[derive(Clone, Copy)]
 pub struct Applied {
     pub number: u32,
     pub rules: Rules,

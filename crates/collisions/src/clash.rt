@@ -17,14 +17,14 @@ use words::walk::{alternative_head, element_head, leaf_end};
 use words::words::word;
 
 // Whether a label's name is in the set of labels, and whether a bound name is in the set of references.
-#[derive(Drop)]
+#[derive(Clone, Copy)]
 pub struct Clash {
     pub label: bool,
     pub binding: bool,
 }
 
 // Where the walk is, and what it has found.
-#[derive(Drop)]
+#[derive(Clone, Copy)]
 struct Place {
     at: usize,
     found: Clash,

@@ -21,7 +21,7 @@ use words::walk::{alternative_head, element_head, leaf_end};
 use words::words::word;
 
 // Where the walk is, and whether something referred to the name that is sought.
-#[derive(Drop)]
+#[derive(Clone, Copy)]
 struct Place {
     at: usize,
     dangling: bool,

@@ -34,7 +34,7 @@ impl Names {
 }
 
 // How many entries have names below a name, and whether the next one has it.
-#[derive(Drop)]
+#[derive(Clone, Copy)]
 struct Spot {
     at: usize,
     found: bool,

@@ -19,7 +19,7 @@ use words::walk::{alternative_head, element_head, leaf_end};
 use words::words::word;
 
 // Where the walk is, and whether there was a label or a reference so far.
-#[derive(Drop)]
+#[derive(Clone, Copy)]
 struct Place {
     at: usize,
     noisy: bool,

@@ -13,7 +13,7 @@ use plan::plan::Plan;
 use records::rules::Rules;
 
 // The pen behind the new sheet, its rules, and where these end, counted in words from its first.
-#[derive(Drop)]
+#[derive(Clone, Copy)]
 pub struct Composed {
     pub pen: Pen,
     pub rules: Rules,

@@ -12,7 +12,7 @@ use words::walk::{alternative_head, element_head, leaf_end};
 use words::words::word;
 
 // Past what was copied, and the pen behind the copy.
-#[derive(Drop)]
+#[derive(Clone, Copy)]
 pub struct Copied {
     pub next: usize,
     pub pen: Pen,

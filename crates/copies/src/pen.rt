@@ -10,7 +10,7 @@ use writing::copy::write;
 use writing::counters::{Counters, Taken};
 
 // The next word of what is drawn and the next word of the trail, both counted in words, and the counters.
-#[derive(Drop)]
+#[derive(Clone, Copy)]
 pub struct Pen {
     pub to: usize,
     pub trail: usize,
@@ -28,7 +28,7 @@ impl Reason {
 }
 
 // A fresh id, and the pen behind its entry.
-#[derive(Drop)]
+#[derive(Clone, Copy)]
 pub struct Given {
     pub id: u32,
     pub pen: Pen,

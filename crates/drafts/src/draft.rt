@@ -8,7 +8,7 @@ ghost use Rattle.drafts.specs.Draft.{compose_end, RowAdded};
 use copies::pen::Pen;
 use records::rules::Rules;
 
-#[derive(Drop)]
+#[derive(Clone, Copy)]
 pub struct Draft {
     pub rules: Rules,
     pub pen: Pen,

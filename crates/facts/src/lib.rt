@@ -19,7 +19,7 @@ use sheet::{Answer, read};
 use words::words::clear;
 
 // The marks of all rules, and the number of cycles.
-#[derive(Drop)]
+#[derive(Clone, Copy)]
 struct Told {
     marks: Marks,
     cycles: u32,

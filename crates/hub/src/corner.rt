@@ -18,7 +18,7 @@ use words::walk::{alternative_head, element_head, leaf_end};
 use words::words::word;
 
 // A cycle among n rules: which rules are its members, and which rules are nullable.
-#[derive(Drop)]
+#[derive(Clone, Copy)]
 pub struct Cycle {
     pub n: usize,
     pub members: [u64; Row::WORDS],

@@ -11,14 +11,14 @@ use words::walk::{alternative_head, element_head, leaf_end};
 use words::words::{put_word, word};
 
 // Past what was walked, and past what was written.
-#[derive(Drop)]
+#[derive(Clone, Copy)]
 pub struct Place {
     pub at: usize,
     pub out: usize,
 }
 
 // The id of one sort that an element has itself.
-#[derive(Drop)]
+#[derive(Clone, Copy)]
 pub enum Own {
     Id(u32),
     Nothing,

@@ -14,13 +14,13 @@ use words::walk::{alternative_head, element_head, leaf_end};
 use words::words::word;
 
 // Ids of one sort: past the largest, and 0 where each was larger than all in front of it.
-#[derive(Drop)]
+#[derive(Clone, Copy)]
 pub struct Track {
     pub top: u64,
     pub falls: u64,
 }
 
-#[derive(Drop)]
+#[derive(Clone, Copy)]
 pub struct Survey {
     pub alternatives: u32,
     pub elements: u32,

@@ -16,7 +16,7 @@ use words::walk::{alternative_head, element_head, leaf_end};
 use words::words::word;
 
 // Past what was listed, and where text goes on.
-#[derive(Drop)]
+#[derive(Clone, Copy)]
 pub struct Passed {
     pub at: usize,
     pub n: usize,

@@ -7,7 +7,7 @@ use pass::Answer;
 use pass::entry::pass;
 
 // The text's length, and the refusal's number or 0.
-#[derive(Drop)]
+#[derive(Clone, Copy)]
 pub struct Told {
     pub n: usize,
     pub refusal: u32,

@@ -3,7 +3,7 @@ ghost use Rattle.std.specs.Prelude.{◌≡◌};
 ghost use Rattle.pass.specs.Handed.{numbers};
 
 // Plans and steps, and how many bytes of the result and of the trail are taken.
-#[derive(Drop)]
+#[derive(Clone, Copy)]
 pub struct Totals {
     pub plans: u32,
     pub steps: u32,
@@ -11,7 +11,7 @@ pub struct Totals {
     pub trail: u32,
 }
 
-#[derive(Drop)]
+#[derive(Clone, Copy)]
 pub enum Answer {
     Refused(u32),
     Joined(Totals),

@@ -32,7 +32,7 @@ use words::words::word;
 
 // What takes a cycle's place: the hub's place among the rules, its new alternatives in the work area, the steps that these took, and
 // the rules that may go, as the two words of a row.
-#[derive(Drop)]
+#[derive(Clone, Copy)]
 pub struct Plan {
     pub hub: usize,
     pub l: Sizes,
@@ -42,7 +42,7 @@ pub struct Plan {
 }
 
 // A plan; or a decline by its clause; or refusal 7.
-#[derive(Drop)]
+#[derive(Clone, Copy)]
 pub enum Decision {
     Planned(Plan),
     Declined(u32),

@@ -16,7 +16,7 @@ use records::rules::Rules;
 use turns::state::Limits;
 
 // A plan, and the members of its cycle as the two words of a row.
-#[derive(Drop)]
+#[derive(Clone, Copy)]
 pub struct FoundPlan {
     pub plan: Plan,
     pub low: u64,
@@ -24,7 +24,7 @@ pub struct FoundPlan {
 }
 
 // No plan; a plan; or refusal 7.
-#[derive(Drop)]
+#[derive(Clone, Copy)]
 pub enum Search {
     NoPlan,
     Planned(FoundPlan),
@@ -32,7 +32,7 @@ pub enum Search {
 }
 
 // The answer, how many cycles were declined in front of it, and by which clauses, in the cycles' order; zeros behind.
-#[derive(Drop)]
+#[derive(Clone, Copy)]
 pub struct Found {
     pub answer: Search,
     pub declined: u32,

@@ -5,7 +5,7 @@ ghost use Rattle.planned.specs.Moves.{IsEmpty, IsDrained, Took, Settled};
 use crate::record::{record_at, write_record};
 
 // Both ends, each of alternatives, elements and options: how many are settled, and where the stack begins.
-#[derive(Drop)]
+#[derive(Clone, Copy)]
 pub struct Sizes {
     pub outa: usize,
     pub oute: usize,
@@ -63,7 +63,7 @@ impl Mark {
 }
 
 // A planned alternative: the slot that it fills, where it was taken from last, and where its elements and options are listed.
-#[derive(Drop)]
+#[derive(Clone, Copy)]
 pub struct Listed {
     pub slot: u16,
     pub origin: u16,
@@ -74,14 +74,14 @@ pub struct Listed {
 }
 
 // An element of the list: its place in the sheet, and whether it was made plain.
-#[derive(Drop)]
+#[derive(Clone, Copy)]
 pub struct Item {
     pub at: usize,
     pub plain: bool,
 }
 
 // The alternative on top of the stack, and the list without it.
-#[derive(Drop)]
+#[derive(Clone, Copy)]
 pub struct Top {
     pub x: Listed,
     pub rest: Sizes,

@@ -26,7 +26,7 @@ pub fn item(work: &[u8], x: Listed, i: usize) -> Item
 }
 
 // A position among the settled alternatives.
-#[derive(Drop)]
+#[derive(Clone, Copy)]
 pub struct Cursor {
     pub a: usize,
     pub e: usize,
@@ -42,7 +42,7 @@ impl Cursor {
 }
 
 // The settled alternative at a position, and the next position.
-#[derive(Drop)]
+#[derive(Clone, Copy)]
 pub struct Read {
     pub x: Listed,
     pub next: Cursor,

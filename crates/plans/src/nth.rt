@@ -16,21 +16,21 @@ use turns::state::Limits;
 use words::words::clear;
 
 // The decision for a cycle, or none where there is no such cycle.
-#[derive(Drop)]
+#[derive(Clone, Copy)]
 pub enum Choice {
     None,
     Some(Decision),
 }
 
 // How many cycles there are, and the decision.
-#[derive(Drop)]
+#[derive(Clone, Copy)]
 pub struct Nth {
     pub cycles: u32,
     pub choice: Choice,
 }
 
 // Numbers, and a row.
-#[derive(Drop)]
+#[derive(Clone, Copy)]
 pub struct Told {
     pub numbers: [u32; 8],
     pub row: [u64; Row::WORDS],

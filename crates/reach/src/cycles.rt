@@ -23,7 +23,7 @@ pub fn joined(corners: [[u64; Row::WORDS]; Row::RULES], n: usize) -> [[u64; Row:
 }
 
 // The rule with the least id in a row, or none.
-#[derive(Drop)]
+#[derive(Clone, Copy)]
 pub enum Next {
     Done,
     Rule(usize),
@@ -69,7 +69,7 @@ pub fn first(ids: [u32; Row::RULES], left: [u64; Row::WORDS], n: usize) -> Next
 }
 
 // The members of the next cycle and those of all behind it, unless none is left.
-#[derive(Drop)]
+#[derive(Clone, Copy)]
 pub struct Ahead {
     pub done: bool,
     pub members: [u64; Row::WORDS],

@@ -11,7 +11,7 @@ use words::numbers::{AlternativeFlag, Kind, Name, Quantifier, ReferenceKind};
 use words::words::word;
 
 // Past the record, or refusal 4.
-#[derive(Drop)]
+#[derive(Clone, Copy)]
 pub enum Step {
     Next(usize),
     Bad,

@@ -12,7 +12,7 @@ use words::numbers::{Block, RuleFlags};
 use words::words::word;
 
 // One row of each array for each rule, zeros behind; a place is counted in words.
-#[derive(Drop)]
+#[derive(Clone, Copy)]
 pub struct Rules {
     pub ids: [u32; 128],
     pub names: [u32; 128],
@@ -66,7 +66,7 @@ fn rule_at(s: &[u8], end: usize, at: usize) -> Step
 }
 
 // The rules, where every record is good; else no rules.
-#[derive(Drop)]
+#[derive(Clone, Copy)]
 pub struct Rows {
     pub good: bool,
     pub rules: Rules,

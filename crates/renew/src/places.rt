@@ -8,7 +8,7 @@ use crate::less::without_place;
 use reach::rows::{Row, has};
 
 // Rows by value, and the hub's place.
-#[derive(Drop)]
+#[derive(Clone, Copy)]
 pub struct Rest {
     pub nullable: [u64; Row::WORDS],
     pub stops: [u64; Row::WORDS],

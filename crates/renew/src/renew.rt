@@ -16,7 +16,7 @@ use reach::rows::{Row, add_if, without};
 use records::rules::Rules;
 
 // What is known of the rules that stay, and the hub's place among them.
-#[derive(Drop)]
+#[derive(Clone, Copy)]
 pub struct Renewed {
     pub marks: Marks,
     pub kept: [u64; Row::WORDS],

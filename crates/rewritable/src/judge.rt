@@ -22,7 +22,7 @@ use records::rules::Rules;
 use words::numbers::Block;
 
 // What is told of one alternative; the rest means nothing where it is not fit.
-#[derive(Drop)]
+#[derive(Clone, Copy)]
 struct Verdict {
     fit: bool,
     primary: bool,
@@ -78,7 +78,7 @@ fn judge_alternative(
 }
 
 // Whether the list is directly left-recursive; and if so, the rules that it calls.
-#[derive(Drop)]
+#[derive(Clone, Copy)]
 pub struct Judged {
     pub fit: bool,
     pub calls: [u64; Row::WORDS],

@@ -92,7 +92,7 @@ fn walk_rest(
     q
 }
 
-#[derive(Drop)]
+#[derive(Clone, Copy)]
 pub struct Walk {
     pub calls: [u64; Row::WORDS],
     pub corners: [u64; Row::WORDS],

@@ -8,7 +8,7 @@ use records::rules::Rules;
 use writing::counters::Counters;
 
 // How many entries the trail has.
-#[derive(Drop)]
+#[derive(Clone, Copy)]
 pub struct Trail {
     pub entries: usize,
 }
@@ -23,7 +23,7 @@ impl Trail {
 
 // The rules of the sheet in the result, what is known of them, the preserved ones, the counters; where the rules end, and the
 // preserved ids behind them, in words; how many entries the trail has; plans and steps so far.
-#[derive(Drop)]
+#[derive(Clone, Copy)]
 pub struct State {
     pub rules: Rules,
     pub marks: Marks,
@@ -64,7 +64,7 @@ impl State {
 }
 
 // A refusal's number or 0; then plans and steps, the words of the new sheet, and the entries of the trail.
-#[derive(Drop)]
+#[derive(Clone, Copy)]
 pub struct Ended {
     pub number: u32,
     pub plans: u32,

@@ -19,7 +19,7 @@ use renew::renew::renew;
 use turns::state::Limits;
 
 // Whether there was one plan more; else the refusal's number, or 0 where no cycle has a plan.
-#[derive(Drop)]
+#[derive(Clone, Copy)]
 pub struct Turn {
     pub more: bool,
     pub number: u32,

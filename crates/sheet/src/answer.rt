@@ -15,7 +15,7 @@ use words::words::word;
 use writing::counters::Counters;
 
 // The sheet's parts: unit kind; the preserved list's place, in words, and how many ids it has; counters.
-#[derive(Drop)]
+#[derive(Clone, Copy)]
 pub struct Parts {
     pub kind: u32,
     pub preserved: u32,
@@ -23,14 +23,14 @@ pub struct Parts {
     pub counters: Counters,
 }
 
-#[derive(Drop)]
+#[derive(Clone, Copy)]
 pub enum Answer {
     Refused(u32),
     Sheet(Parts),
 }
 
 // An answer, and the rules where it is a sheet.
-#[derive(Drop)]
+#[derive(Clone, Copy)]
 pub struct Reading {
     pub answer: Answer,
     pub rules: Rules,

@@ -8,7 +8,7 @@ use crate::answer::Parts;
 use ids::survey::survey_all;
 
 // The numbers of rules, alternatives, elements and preserved ids, nested ones counted.
-#[derive(Drop)]
+#[derive(Clone, Copy)]
 pub struct Sizes {
     pub rules: u32,
     pub alternatives: u32,
@@ -16,7 +16,7 @@ pub struct Sizes {
     pub preserved: u32,
 }
 
-#[derive(Drop)]
+#[derive(Clone, Copy)]
 pub enum Summary {
     Refused(u32),
     Sheet(Sizes),

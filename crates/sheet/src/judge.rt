@@ -18,7 +18,7 @@ use words::numbers::Sort;
 use writing::counters::Counters;
 
 // Refusal 5 is given where `distinct` is false, refusal 6 where only `below` is.
-#[derive(Drop)]
+#[derive(Clone, Copy)]
 pub struct Verdict {
     pub distinct: bool,
     pub below: bool,

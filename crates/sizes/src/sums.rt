@@ -3,7 +3,7 @@ ghost use Rattle.std.specs.Prelude.{◌≡◌, ◌^◌};
 ghost use Rattle.sizes.specs.Sized.{Under, plus};
 
 // How many fresh ids of each sort, and how many words.
-#[derive(Drop)]
+#[derive(Clone, Copy)]
 pub struct Measure {
     pub alternatives: usize,
     pub elements: usize,

@@ -11,7 +11,7 @@ use words::walk::{alternative_head, element_head, leaf_end};
 use words::words::word;
 
 // How many ids of each sort.
-#[derive(Drop)]
+#[derive(Clone, Copy)]
 pub struct Tally {
     pub alternatives: usize,
     pub elements: usize,
@@ -21,7 +21,7 @@ pub struct Tally {
 }
 
 // Past what was walked, and what was counted.
-#[derive(Drop)]
+#[derive(Clone, Copy)]
 pub struct Passed {
     pub at: usize,
     pub tally: Tally,

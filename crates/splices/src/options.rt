@@ -16,14 +16,14 @@ use planned::list::Listed;
 use words::words::word;
 
 // How many options are added; or two of one name have two values.
-#[derive(Drop)]
+#[derive(Clone, Copy)]
 pub enum Added {
     Clash,
     More(usize),
 }
 
 // An option against others: none has its name; or the first that has it has the same value, or another.
-#[derive(Drop)]
+#[derive(Clone, Copy)]
 pub enum Meets {
     New,
     Same,

@@ -60,7 +60,7 @@ pub fn option_count(s: &[u8], end: usize, depth: u32, at: usize) -> usize
 }
 
 // How many elements and options an alternative has, and where its elements begin.
-#[derive(Drop)]
+#[derive(Clone, Copy)]
 pub struct Parts {
     pub count: u32,
     pub ne: usize,

@@ -46,7 +46,7 @@ fn put_elements(
 }
 
 // The next alternative of the satellite, and where its record comes: which it is, and where its elements and options begin.
-#[derive(Drop)]
+#[derive(Clone, Copy)]
 struct Spot {
     at: usize,
     a: usize,
@@ -55,7 +55,7 @@ struct Spot {
 }
 
 // How many elements a record has, and where its options end; and where the elements end that were taken from the sheet.
-#[derive(Drop)]
+#[derive(Clone, Copy)]
 struct Ends {
     at: usize,
     ne: usize,
@@ -154,7 +154,7 @@ fn put_all(
 }
 
 // How many alternatives, elements and options a splice comes to.
-#[derive(Drop)]
+#[derive(Clone, Copy)]
 pub struct Size {
     pub a: usize,
     pub e: usize,

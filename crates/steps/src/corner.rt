@@ -18,7 +18,7 @@ use words::walk::element_head;
 use words::words::word;
 
 // A cycle among n rules, and its hub: places of rules.
-#[derive(Drop)]
+#[derive(Clone, Copy)]
 pub struct Cycle {
     pub n: usize,
     pub members: [u64; Row::WORDS],
@@ -26,7 +26,7 @@ pub struct Cycle {
 }
 
 // What is met at one element: nothing that counts; or what decides, of a member its place.
-#[derive(Drop)]
+#[derive(Clone, Copy)]
 pub enum Met {
     Silent,
     Settled,
@@ -36,13 +36,13 @@ pub enum Met {
 }
 
 // Where a member is met: the element's index, and the member's place.
-#[derive(Drop)]
+#[derive(Clone, Copy)]
 pub struct Place {
     pub index: usize,
     pub target: usize,
 }
 
-#[derive(Drop)]
+#[derive(Clone, Copy)]
 pub enum Corner {
     Settled,
     Blocked,

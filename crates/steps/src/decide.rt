@@ -47,14 +47,14 @@ impl Clause {
 }
 
 // One alternative of the satellite: a clause, or how many options it adds.
-#[derive(Drop)]
+#[derive(Clone, Copy)]
 pub enum One {
     Declines(u32),
     Adds(usize),
 }
 
 // The whole step: a clause, or what it would push.
-#[derive(Drop)]
+#[derive(Clone, Copy)]
 pub enum Decision {
     Declined(u32),
     Goes(Size),

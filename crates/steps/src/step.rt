@@ -16,7 +16,7 @@ use planned::list::Listed;
 use splices::splice::Size;
 
 // What is known of the elements around one: that nothing in them can collide, or that a reference in them would dangle.
-#[derive(Drop)]
+#[derive(Clone, Copy)]
 pub struct Prepared {
     pub quiet: bool,
     pub dangling: bool,

@@ -22,7 +22,7 @@ use words::numbers::Block;
 use words::words::word;
 
 // What comes of an alternative: nothing; a decline by its clause; or a step that goes.
-#[derive(Drop)]
+#[derive(Clone, Copy)]
 pub enum Look {
     Settled,
     Declines(u32),

@@ -19,14 +19,14 @@ use turns::turn::{Turn, is_within, take_turn};
 use words::words::word;
 
 // The list that is left, and the steps that it took.
-#[derive(Drop)]
+#[derive(Clone, Copy)]
 pub struct Done {
     pub l: Sizes,
     pub steps: usize,
 }
 
 // A list without work left; or none was made, since nothing was in need of work; or a decline by its clause; or refusal 7.
-#[derive(Drop)]
+#[derive(Clone, Copy)]
 pub enum Made {
     Planned(Done),
     Idle,

@@ -14,7 +14,7 @@ use splices::splice::Size;
 use words::numbers::Block;
 
 // The least budget, and how large a planned list may be after a step.
-#[derive(Drop)]
+#[derive(Clone, Copy)]
 pub struct Limits {
     pub floor: usize,
     pub alternatives: usize,
@@ -41,7 +41,7 @@ impl Limits {
 
 // The list, how many of the hub's alternatives are still in the sheet and where the first stands, how large all of it is, and
 // the steps that are left and made.
-#[derive(Drop)]
+#[derive(Clone, Copy)]
 pub struct State {
     pub l: Sizes,
     pub left: u32,
@@ -52,7 +52,7 @@ pub struct State {
 }
 
 // An alternative that was taken, whether it is in hand, and what is left.
-#[derive(Drop)]
+#[derive(Clone, Copy)]
 pub struct Taken {
     pub x: Listed,
     pub hand: bool,

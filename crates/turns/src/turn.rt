@@ -79,7 +79,7 @@ fn push(
 }
 
 // A turn: the substitution goes on, or is over by a clause, or by refusal 7.
-#[derive(Drop)]
+#[derive(Clone, Copy)]
 pub enum Turn {
     On(State),
     Declined(u32),

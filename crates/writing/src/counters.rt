@@ -10,7 +10,7 @@ impl Last {
     pub const NUMBER: u32 = 4294967295;
 }
 
-#[derive(Drop)]
+#[derive(Clone, Copy)]
 pub struct Counters {
     pub alternative: u32,
     pub element: u32,
@@ -20,7 +20,7 @@ pub struct Counters {
 }
 
 // A fresh id, and the counters behind it.
-#[derive(Drop)]
+#[derive(Clone, Copy)]
 pub struct Taken {
     pub id: u32,
     pub counters: Counters,

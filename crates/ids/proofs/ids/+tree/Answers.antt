@@ -1,0 +1,74 @@
+use Rattle.std.proofs.Common.{rules, ◌≡◌, [], ◌∷◌, ◌++◌, ◌+◌, ◌*◌, ◌≤◌, length, take, ℕ, ◌-◌, ◌<◌, ◌/◌, ◌%◌, Bool, true, false, nat_eq, nat_lt, List, slice_index_or, slice_set, bit_and, bit_or, Fits, w8, w32, w64, Bor, MutBor}
+use Rattle.grammar.specs.Words.{words}
+use Rattle.grammar.specs.Found.{FoundElement, FoundElements, FoundAlternative, FoundAlternatives, FoundRule, FoundRules}
+use Rattle.grammar.specs.Fold.{ElementWalked, ElementsWalked, AlternativeWalked, AlternativesWalked, RuleWalked, RulesWalked}
+use Rattle.words.specs.Room.{Room}
+use Rattle.ids.specs.Ids.{own_of, own_ids, alternative_id, seeing, behind, CollectedSort}
+use Rattle.ids.proofs.ids.+tree.Goals as goal
+use native.Mathlib.Omega.{arith}
+use mathlib.Core.Path.{◌≡◌}
+use lib.ListN.{length, take}
+use Rattle.grammar.specs.Words.{words}
+use Rattle.grammar.specs.Laws.Found.{rooms, inner}
+use Rattle.grammar.specs.Laws.Fold.{ElementsFolding, AlternativesFolding, folding}
+use Rattle.ids.specs.Ids.{seeing, behind}
+use Rattle.ids.proofs.Laws.Seeing.{seeings}
+use Prim.Native.Nat.{ℕ, ◌<◌, ◌≤◌, ◌+◌, ◌*◌}
+
+-- src/ids.rt:164:9
+pub alternative-alternative_head-inner-requires-clause-room :
+    goal.alternative-alternative_head-inner-requires-clause-room
+alternative-alternative_head-inner-requires-clause-room t c = search (rules, inner, rooms, seeings, folding)
+
+-- src/ids.rt:168:5
+pub alternative-elements-requires : goal.alternative-elements-requires
+alternative-elements-requires t c = search (rules, inner, rooms, seeings, folding)
+
+-- src/ids.rt:149:1
+pub alternative-returns : goal.alternative-returns
+alternative-returns t c = search (rules, inner, rooms, seeings, folding)
+
+-- src/ids.rt:192:13
+pub alternatives-alternative-q-requires : goal.alternatives-alternative-q-requires
+alternatives-alternative-q-requires t c = search (rules, inner, rooms, seeings, folding)
+
+-- src/ids.rt:191:5
+pub alternatives-loop-i-preserved : goal.alternatives-loop-i-preserved
+alternatives-loop-i-preserved t c = search (rules, inner, rooms, seeings, folding)
+
+-- src/ids.rt:172:1
+pub alternatives-returns : goal.alternatives-returns
+alternatives-returns t c = search (rules, inner, rooms, seeings, folding)
+
+-- src/ids.rt:104:9
+pub element-element_head-head-requires-clause-room :
+    goal.element-element_head-head-requires-clause-room
+element-element_head-head-requires-clause-room t c = search (rules, inner, rooms, seeings, folding)
+
+-- src/ids.rt:110:37
+pub element-overflow_sub-depth : goal.element-overflow_sub-depth
+element-overflow_sub-depth t c = search (rules, inner, rooms, seeings, folding)
+
+-- src/ids.rt:110:9
+pub element-alternatives-requires : goal.element-alternatives-requires
+element-alternatives-requires t c = search (rules, inner, rooms, seeings, folding)
+
+-- src/ids.rt:110:9
+pub element-returns-then-kind-eq-BLOCK : goal.element-returns-then-kind-eq-BLOCK
+element-returns-then-kind-eq-BLOCK t c = search (rules, inner, rooms, seeings, folding)
+
+-- src/ids.rt:89:1
+pub element-returns : goal.element-returns
+element-returns t c = search (rules, inner, rooms, seeings, folding)
+
+-- src/ids.rt:140:13
+pub elements-element-q-requires : goal.elements-element-q-requires
+elements-element-q-requires t c = search (rules, inner, rooms, seeings, folding)
+
+-- src/ids.rt:139:5
+pub elements-loop-i-preserved : goal.elements-loop-i-preserved
+elements-loop-i-preserved t c = search (rules, inner, rooms, seeings, folding)
+
+-- src/ids.rt:120:1
+pub elements-returns : goal.elements-returns
+elements-returns t c = search (rules, inner, rooms, seeings, folding)

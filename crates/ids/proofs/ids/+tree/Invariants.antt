@@ -1,0 +1,36 @@
+use native.Mathlib.Omega.{arith}
+use mathlib.Core.Path.{◌≡◌}
+use lib.ListN.{length, take}
+use Rattle.grammar.specs.Words.{words}
+use Rattle.grammar.specs.Laws.Found.{rooms, inner}
+use Rattle.grammar.specs.Laws.Fold.{ElementsFolding, AlternativesFolding, folding}
+use Rattle.ids.specs.Ids.{seeing, behind}
+use Rattle.ids.proofs.Laws.Seeing.{seeings}
+use Prim.Native.Nat.{ℕ, ◌<◌, ◌≤◌, ◌+◌, ◌*◌}
+use Rattle.ids.proofs.ids.+tree.Given as goal
+
+abbrev pub decreases-alternative : goal.decreases-alternative
+decreases-alternative l = l.depth * 4 + 2
+
+abbrev pub decreases-alternatives : goal.decreases-alternatives
+decreases-alternatives l = l.depth * 4 + 3
+
+abbrev pub decreases-element : goal.decreases-element
+decreases-element l = l.depth * 4
+
+abbrev pub decreases-elements : goal.decreases-elements
+decreases-elements l = l.depth * 4 + 1
+
+abbrev pub invariant-alternatives-loop-i : goal.invariant-alternatives-loop-i
+invariant-alternatives-loop-i l = (length l.work ≡ length l.initial.work)
+    × ((l.w ≤ l.p) × AlternativesFolding (seeing (behind l.sort)) (words l.s) l.end l.depth l.n l.at (take l.out (words l.initial.work)) l.i l.p (take l.w (words l.work)))
+
+abbrev pub decreases-alternatives-loop-i : goal.decreases-alternatives-loop-i
+decreases-alternatives-loop-i l = l.i
+
+abbrev pub invariant-elements-loop-i : goal.invariant-elements-loop-i
+invariant-elements-loop-i l = (length l.work ≡ length l.initial.work)
+    × ((l.w ≤ l.p) × ElementsFolding (seeing (behind l.sort)) (words l.s) l.end l.depth l.n l.at (take l.out (words l.initial.work)) l.i l.p (take l.w (words l.work)))
+
+abbrev pub decreases-elements-loop-i : goal.decreases-elements-loop-i
+decreases-elements-loop-i l = l.i
