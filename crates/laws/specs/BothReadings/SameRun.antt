@@ -7,7 +7,8 @@ use mathlib.Core.List.{List, [], ◌∷◌, map, Memᴰ}
 use Rattle.std.proofs.Math.Option.{Option, none, some}
 use Rattle.std.proofs.Math.Bool.{◌&&◌, ◌||◌, not}
 use Rattle.grammar.specs.Laws.Lists.{in_map}
-use Rattle.grammar.specs.Tree.{ElementHead, Leaf, call, token, terminal, Block, RuleOf, Rule, body_depth, Counters, Sheet}
+use Rattle.grammar.specs.Tree.{ElementHead, Leaf, epsilon, action, predicate, call, token, terminal, end_of_input, Block, RuleOf, Rule}
+use Rattle.grammar.specs.Tree.{body_depth, Counters, Sheet}
 use Rattle.grammar.specs.Lists.{all, any, meet, sorted}
 use Rattle.grammar.specs.Valid.{valid}
 use Rattle.grammar.specs.Reading.{Reading, refused, sheet, is_length, read}
@@ -143,10 +144,14 @@ module _ {c : Corners} {d : ℕ} {rs : List (RuleOf (Block (suc d)))} {g : Gramm
   missing o (some b) e f = absurd (true≢false (sym (ap is_missing f) ∙ e))
 
   still_plain : (h : ElementHead) (l : Leaf) → NotOptional now h l → OnCall (λ n. gone k x counters n ≡ false) h l → NotOptional then h l
+  still_plain h epsilon p s y = elim y [ ]
+  still_plain h (action a) p s y = elim y [ ]
+  still_plain h (predicate q) p s y = elim y [ ]
   still_plain h (token n) p s is_token = p is_token
   still_plain h terminal p s is_terminal = p is_terminal
   still_plain h (call c) p s (unknown_name e) =
       p (unknown_name (missing (find then c.name) (find now c.name) (left_known k x counters c.name s) e))
+  still_plain h end_of_input p s y = elim y [ ]
 
   left_plain : (q : RuleOf (Block (suc d))) → Memᴰ q (rules_left k x counters) → OnBlock (NotOptional then) (suc d) q.body
   left_plain q m =

@@ -131,9 +131,13 @@ module _ (Q : ℕ → Type 0) where
 
 module _ (G : Shapes) where
   symbol_dropped : (l : Leaf) → IsSymbol G l → IsSymbol G (drop_leaf_id l)
+  symbol_dropped epsilon s = elim s [ ]
+  symbol_dropped (action a) s = elim s [ ]
+  symbol_dropped (predicate p) s = elim s [ ]
   symbol_dropped (token n) is_token = is_token
   symbol_dropped terminal is_terminal = is_terminal
   symbol_dropped (call c) (unknown_name e) = unknown_name e
+  symbol_dropped end_of_input s = elim s [ ]
 
   dropped_symbol : (l : Leaf) → IsSymbol G (drop_leaf_id l) → IsSymbol G l
   dropped_symbol epsilon s = elim s [ ]

@@ -80,7 +80,7 @@ ends_nowhere : AllOf (λ r. OnBlock NotEnd body_depth r.body) returning.rules
 unfolding OnBlock is_end
 ends_nowhere = (((refl, tt), ((refl, tt), tt)), (((refl, (refl, tt)), tt), tt))
 
-of_each : {A : Type 0} (P : A → Type 0) {xs : List A} {a : A} → Memᴰ a xs → AllOf P xs → P a
+of_each : {A : Type 0} (P : A → Type 0) {a : A} {xs : List A} → Memᴰ a xs → AllOf P xs → P a
 of_each P (Memᴰ.head e) p = subst P (sym e) p.0
 of_each P (Memᴰ.tail m) p = of_each P m p.1
 

@@ -49,8 +49,8 @@ copy_starts d (leaf h' end_of_input ∷ es) h c rest e = absurd (let z : ◌≡�
 copy_starts d (block h' b ∷ es) h c rest e = absurd (let z : ◌≡◌ {A = ℕ} 0 1 = cc in omega arith)
 
 -- What each alternative of a body calls has a property.
-pub each_alternative : (P : ℕ → Type 0) (d : ℕ) {as' : Block (suc d)} → EachCall P (erase_block (suc d) as')
-    → {a : AlternativeOf (Block d)} → Memᴰ a as'
+pub each_alternative : (P : ℕ → Type 0) (d : ℕ) {a : AlternativeOf (Block d)} {as' : Block (suc d)} → EachCall P (erase_block (suc d) as')
+    → Memᴰ a as'
     → EachCall P (shape_of d a.elements)
 unfolding erase_block
 each_alternative P d p (Memᴰ.head e) = subst (λ a. EachCall P (shape_of d a.elements)) (sym e) p.0

@@ -162,9 +162,14 @@ module _ (limits : Limits) (corners : Corners) (kind : ℕ) (preserved : List �
       → Stages (rules_after rs ts) (counters_after c ts) (n + length (entries_of ts)) us
   unfolding entries_of
   stages_behind {rs} {c} {n} [] us x = subst (λ m. Stages rs c m us) (omega arith) x
-  stages_behind {rs} {c} {n} (t ∷ ts) us (s_plan {plan = plan} f r x) =
+  stages_behind {rs} {c} {n} (t ∷ ts) us x =
       let l = length-append t.after.entries (entries_of ts) in
-      subst (λ m. Stages (rules_after rs (t ∷ ts)) (counters_after c (t ∷ ts)) m us) (omega arith) (stages_behind ts us x)
+      subst (λ m. Stages (rules_after rs (t ∷ ts)) (counters_after c (t ∷ ts)) m us) (omega arith)
+      (stages_behind {rs = t.after.node} {c = t.after.counters} {n = n + length t.after.entries} ts us (behind x))
+    where
+      behind : {rs : List Rule} {c : Counters} {n : ℕ} {t : Stage} → Stages rs c n (t ∷ (ts ++ us))
+          → Stages t.after.node t.after.counters (n + length t.after.entries) (ts ++ us)
+      behind (s_plan f r x) = x
 
   pub record FirstOf (rs : List Rule) (c : Counters) (n : ℕ) (t : Stage) : Type 0 where
     pub starts : t.before ≡ rs

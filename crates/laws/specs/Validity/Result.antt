@@ -182,10 +182,21 @@ module _ (limits : Limits) (corners : Corners) where
     stages_traced : (front : List Stage) (t : Stage) (rest : List Stage) {rs : List Rule} {c : Counters} {n : ℕ}
         → Stages limits corners kind preserved rs c n (front ++ (t ∷ rest)) → Good (sheet_by rs c)
         → Trail (counters_after c front) t.after.entries t.after.counters
-    stages_traced [] t rest (s_plan {rs = rs} {c = c} {plan = plan} f r x) g =
-        applied_trace inner_depth c rs (good_sound g) plan (plan_found preserved rs c f)
-    stages_traced (u ∷ front) t rest (s_plan {rs = rs} {c = c} {n = n} f r x) g =
-        stages_traced front t rest x (stage_good (sheet_by rs c) n f r g)
+    stages_traced [] t rest y g = here y g
+      where
+        here : {rs : List Rule} {c : Counters} {n : ℕ} {t : Stage} → Stages limits corners kind preserved rs c n (t ∷ rest)
+            → Good (sheet_by rs c)
+            → Trail c t.after.entries t.after.counters
+        here (s_plan {rs = rs} {c = c} {plan = plan} f r x) g =
+            applied_trace inner_depth c rs (good_sound g) plan (plan_found preserved rs c f)
+    stages_traced (u ∷ front) t rest y g = let z = behind y g in stages_traced front t rest z.0 z.1
+      where
+        behind : {rs : List Rule} {c : Counters} {n : ℕ} {u : Stage}
+            → Stages limits corners kind preserved rs c n (u ∷ (front ++ (t ∷ rest)))
+            → Good (sheet_by rs c)
+            → Stages limits corners kind preserved u.after.node u.after.counters (n + length u.after.entries) (front ++ (t ∷ rest))
+            × Good (sheet_by u.after.node u.after.counters)
+        behind (s_plan {rs = rs} {c = c} {n = n} f r x) g = (x, stage_good (sheet_by rs c) n f r g)
 
     pub stages_short : {rs : List Rule} {c : Counters} {n : ℕ} {ss : List Stage} → Stages limits corners kind preserved rs c n ss
         → n ≤ most_entries → n + length (entries_of ss) ≤ most_entries
