@@ -20,15 +20,18 @@ use Rattle.grammar.specs.Numbers.{parser, bad_length, short_buffer}
 use Rattle.reference.specs.Walks.{is_epsilon_only}
 use Rattle.reference.specs.Analysis.{Grammar, target, ids_of, rule_with_id, grammar_of, nullable_rules, reach, cycles_from, row_of}
 use Rattle.reference.specs.Analysis.{left_corner_cycles}
-use Rattle.reference.specs.Substitute.{no_hub, hub_with_arguments, satellite_not_inlinable, no_steps, not_directly_rewritable, Decided, decided}
+use Rattle.reference.specs.Substitute.{no_hub, hub_with_arguments, satellite_not_inlinable, no_steps, not_directly_rewritable, Decided}
+use Rattle.reference.specs.Substitute.{decided}
 use Rattle.reference.specs.Substitute.{declined, overfull, ◌and_then◌, require, found, Limits, Planned, Substituted, substitute}
 use Rattle.reference.specs.Substitute.{substitution_budget}
-use Rattle.reference.specs.Plan.{CyclePlan, choose_hub, satellite_is_inlinable, gives_hub_arguments, starts_with_hub_call, is_recursive, is_primary}
+use Rattle.reference.specs.Plan.{CyclePlan, choose_hub, satellite_is_inlinable, gives_hub_arguments, starts_with_hub_call, is_recursive}
+use Rattle.reference.specs.Plan.{is_primary}
 use Rattle.reference.specs.Plan.{is_fit, planned_hub_is_directly_rewritable, as_they_are, plan_cycle}
 use Rattle.reference.specs.Plan.{satellites, plan_of, last_tests, substituting, with_rule, with_hub}
 use Rattle.reference.specs.Apply.{apply_plan}
 use Rattle.reference.specs.Run.{inner_depth, Stage, Search, no_plan, planned, too_large, Run, ended, preceded, search_cycles, find_plan}
-use Rattle.reference.specs.Run.{refusal_of, eliminate_in_unit, eliminate_mutual_left_recursion, answer_run, answer_reading, answer_to, are_lent}
+use Rattle.reference.specs.Run.{refusal_of, eliminate_in_unit, eliminate_mutual_left_recursion, answer_run, answer_reading, answer_to}
+use Rattle.reference.specs.Run.{are_lent}
 use Rattle.reference.specs.Run.{Outcome, untouched, delivered, outcome}
 use Rattle.laws.specs.Demands.Shape.{NotOptional, NoOptionalSymbol}
 use Rattle.laws.specs.Running.Leaves.{Told}
@@ -61,7 +64,8 @@ module _ {A : Type 0} where
   any_same f k [] h = refl
   any_same f k (a ∷ as') h = ap₂ ◌||◌ (h a (Memᴰ.head refl)) (any_same f k as' (λ b m. h b (Memᴰ.tail m)))
 
-pub then_same : {A B : Type 0} (x : Decided A) (f k : A → Decided B) → ((a : A) → x ≡ decided a → f a ≡ k a) → (x and_then f) ≡ (x and_then k)
+pub then_same : {A B : Type 0} (x : Decided A) (f k : A → Decided B) → ((a : A) → x ≡ decided a → f a ≡ k a)
+    → (x and_then f) ≡ (x and_then k)
 then_same (decided a) f k h = h a refl
 then_same (declined c) f k h = refl
 then_same overfull f k h = refl
@@ -160,7 +164,8 @@ module _ {c : Corners} {d : ℕ} {rs : List (RuleOf (Block (suc d)))} {g : Gramm
 
 -- The run.
 module _ (limits : Limits) (preserved : List ℕ) where
-  names_known : (rs : List Rule) (n : ℕ) → is_missing (find (erase_rules body_depth rs) n) ≡ is_unknown (target (grammar_of body_depth rs) n)
+  names_known : (rs : List Rule) (n : ℕ)
+      → is_missing (find (erase_rules body_depth rs) n) ≡ is_unknown (target (grammar_of body_depth rs) n)
   unfolding grammar_of
   names_known rs n = looked_alike (looked body_depth rs (nullable_rules body_depth rs) n)
 
@@ -188,7 +193,8 @@ module _ (limits : Limits) (preserved : List ℕ) where
       (record { everywhere = left_plain (known t.before k) (stage_made limits rust preserved h) h.counters p.everywhere })
 
   pub run_same : (kind turns : ℕ) (rs : List Rule) → Told rs → NoOptionalSymbol rs → (c : Counters) (recorded : ℕ)
-      → eliminate_in_unit limits rust kind preserved turns rs c recorded ≡ eliminate_in_unit limits textbook kind preserved turns rs c recorded
+      → eliminate_in_unit limits rust kind preserved turns rs c recorded
+      ≡ eliminate_in_unit limits textbook kind preserved turns rs c recorded
   unfolding eliminate_in_unit
   run_same kind zero rs k p c recorded = refl
   run_same kind (suc turns) rs k p c recorded =

@@ -15,7 +15,8 @@ use Rattle.language.specs.LeftCorners.{is_missing, IsSymbol, is_token, is_termin
 use Rattle.grammar.specs.Laws.Parse.{either}
 use Rattle.language.specs.Laws.Copies.{drop_leaf_id}
 use Rattle.reference.specs.Walks.{sort_of, is_end}
-use Rattle.reference.specs.Analysis.{Grammar, target, calls, leaf_nullable, element_nullable, block_is_nullable, is_stop, collect_left_corner_calls}
+use Rattle.reference.specs.Analysis.{Grammar, target, calls, leaf_nullable, element_nullable, block_is_nullable, is_stop}
+use Rattle.reference.specs.Analysis.{collect_left_corner_calls}
 use Rattle.reference.specs.Analysis.{block_corners, left_corners}
 use Rattle.laws.specs.Demands.Shape.{NotOptional}
 use Rattle.laws.specs.Analysis.Names.{is_unknown}

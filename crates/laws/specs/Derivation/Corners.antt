@@ -15,7 +15,8 @@ use Rattle.grammar.specs.Numbers.{most_alternative_flag}
 use Rattle.grammar.specs.Valid.{valid, ok_option, ok_head, ok_element, ok_alternative, ok_block}
 use Rattle.grammar.specs.Laws.Parse.{left_true, right_true, either}
 use Rattle.grammar.specs.Corners.{Corners, rust, textbook}
-use Rattle.language.specs.Shape.{is_mark, Shape, alts, call_of, erase_leaf, erase_element, erase_elements, erase_block, Shapes, erase_rules, find}
+use Rattle.language.specs.Shape.{is_mark, Shape, alts, call_of, erase_leaf, erase_element, erase_elements, erase_block, Shapes, erase_rules}
+use Rattle.language.specs.Shape.{find}
 use Rattle.language.specs.LeftCorners.{is_missing, is_symbol, stops, Skippable, Corner, c_call, c_first, c_later, c_left, c_right, Leads}
 use Rattle.language.specs.LeftCorners.{Reaches, r_last, r_more}
 use Rattle.language.specs.Laws.Corner.{corner_quantified, symbol_quantified}

@@ -142,7 +142,8 @@ hub_known = refl
 abbrev lent_zeros : ℕ → List ℕ
 lent_zeros n = replicate n 0
 
-number_0 : (outcome standard rust (bytes (encode bare)) (lent_zeros result_bytes) (lent_zeros trail_bytes) (lent_zeros work_bytes)).number ≡ 0
+number_0 : (outcome standard rust (bytes (encode bare)) (lent_zeros result_bytes) (lent_zeros trail_bytes) (lent_zeros work_bytes)).number
+    ≡ 0
 number_0 =
     ap (λ (o : Outcome). o.number)
     ((every_call_lem standard rust (bytes (encode bare)) (lent_zeros result_bytes) (lent_zeros trail_bytes) (lent_zeros work_bytes)
@@ -191,7 +192,8 @@ zeros_refused : (is_length (length (lent_zeros 32)) ≡ true) × (read (lent_zer
 unfolding computed
 zeros_refused = (refl, refl)
 
-number_of : (bs result trail work : List ℕ) → is_length (length bs) ≡ true → are_lent result trail work ≡ true → (n : ℕ) → read bs ≡ refused n
+number_of : (bs result trail work : List ℕ) → is_length (length bs) ≡ true → are_lent result trail work ≡ true → (n : ℕ)
+    → read bs ≡ refused n
     → (outcome standard rust bs result trail work).number ≡ n
 unfolding outcome answer_to answer_reading delivered
 number_of bs result trail work a b n e = rw (a, b, outcome) (rw e refl)

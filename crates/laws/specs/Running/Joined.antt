@@ -8,7 +8,8 @@ use mathlib.Core.List.{List, [], ◌∷◌, Memᴰ}
 use Rattle.std.proofs.Math.Bool.{true, false}
 use Rattle.std.proofs.lemmas.Bool.{not-true}
 use Rattle.grammar.specs.Laws.Lists.{in_map}
-use Rattle.grammar.specs.Tree.{ElementHead, Call, epsilon, action, predicate, call, token, terminal, end_of_input, leaf, block, AlternativeOf}
+use Rattle.grammar.specs.Tree.{ElementHead, Call, epsilon, action, predicate, call, token, terminal, end_of_input, leaf, block}
+use Rattle.grammar.specs.Tree.{AlternativeOf}
 use Rattle.grammar.specs.Tree.{Block, RuleOf, Counters}
 use Rattle.grammar.specs.Lists.{member, all, any}
 use Rattle.language.specs.Shape.{erase_block, erase_rules, EachCall}

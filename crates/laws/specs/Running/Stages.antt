@@ -20,7 +20,8 @@ use Rattle.reference.specs.Analysis.{grammar_of, left_corner_cycles}
 use Rattle.reference.specs.Substitute.{Limits}
 use Rattle.reference.specs.Plan.{CyclePlan}
 use Rattle.reference.specs.Apply.{apply_plan}
-use Rattle.reference.specs.Run.{inner_depth, Stage, Search, no_plan, planned, too_large, Run, ended, stopped, preceded, find_plan, sheet_with}
+use Rattle.reference.specs.Run.{inner_depth, Stage, Search, no_plan, planned, too_large, Run, ended, stopped, preceded, find_plan}
+use Rattle.reference.specs.Run.{sheet_with}
 use Rattle.reference.specs.Run.{refusal_of, eliminate_in_unit, eliminate_mutual_left_recursion, sheet_after, entries_of, steps_of}
 use Rattle.laws.specs.Demands.Run.{EveryCycleDeclined}
 use Rattle.laws.specs.Planning.Substituted.{Known}

@@ -22,7 +22,8 @@ use Rattle.grammar.specs.Numbers.{word_end}
 use Rattle.reference.specs.Substitute.{Limits}
 use Rattle.reference.specs.Plan.{CyclePlan}
 use Rattle.reference.specs.Apply.{unchanged, apply_plan, Entry}
-use Rattle.reference.specs.Run.{inner_depth, Stage, planned, find_plan, ended, are_words, sheet_with, refusal_of, eliminate_mutual_left_recursion}
+use Rattle.reference.specs.Run.{inner_depth, Stage, planned, find_plan, ended, are_words, sheet_with, refusal_of}
+use Rattle.reference.specs.Run.{eliminate_mutual_left_recursion}
 use Rattle.reference.specs.Run.{sheet_after, entries_of, encode_entry}
 use Rattle.laws.specs.Lists.Lookup.{all_in}
 use Rattle.laws.specs.Demands.Answers.{ReadsBack, GoodAnswer}
@@ -217,7 +218,8 @@ module _ (limits : Limits) (corners : Corners) where
     stages_words (s_plan {rs = rs} {c = c} {n = n} {plan = plan} f r x) l =
         stages_words x (not_refused kind preserved (apply_plan inner_depth rs plan c) n r).short
 
-  pub run_good : (s : Sheet) {ss : List Stage} → eliminate_mutual_left_recursion limits corners s ≡ ended ss → Good s → Good (sheet_after s ss)
+  pub run_good : (s : Sheet) {ss : List Stage} → eliminate_mutual_left_recursion limits corners s ≡ ended ss → Good s
+      → Good (sheet_after s ss)
   run_good s {ss} e g = stages_good s.kind s.preserved (sheet_ends limits corners s ss e).0 g
 
   pub run_each : (s : Sheet) {ss : List Stage} → eliminate_mutual_left_recursion limits corners s ≡ ended ss → Good s → {t : Stage}
