@@ -9,13 +9,16 @@ use Rattle.grammar.specs.Numbers.{parser, bad_length, short_buffer, plan_too_lar
 use Rattle.grammar.specs.Reading.{Reading, refused, sheet, is_length, read}
 use Rattle.reference.specs.Walks.{silent, consuming, calling, sort_of, is_epsilon_only, is_optional}
 use Rattle.reference.specs.Analysis.{Grammar, names_of, ids_of, target, rule_with_id, calls, Row, reach, cycles_from}
-use Rattle.reference.specs.Substitute.{no_hub, hub_with_arguments, satellite_not_inlinable, no_steps, not_directly_rewritable, Decided, decided}
+use Rattle.reference.specs.Substitute.{no_hub, hub_with_arguments, satellite_not_inlinable, no_steps, not_directly_rewritable, Decided}
+use Rattle.reference.specs.Substitute.{decided}
 use Rattle.reference.specs.Substitute.{declined, overfull, ◌and_then◌, require, found, Limits, Planned, Substituted, substitute}
 use Rattle.reference.specs.Substitute.{substitution_budget}
-use Rattle.reference.specs.Plan.{CyclePlan, choose_hub, satellite_is_inlinable, gives_hub_arguments, starts_with_hub_call, as_they_are, satellites}
+use Rattle.reference.specs.Plan.{CyclePlan, choose_hub, satellite_is_inlinable, gives_hub_arguments, starts_with_hub_call, as_they_are}
+use Rattle.reference.specs.Plan.{satellites}
 use Rattle.reference.specs.Plan.{plan_of}
 use Rattle.reference.specs.Apply.{apply_plan}
-use Rattle.reference.specs.Run.{inner_depth, Search, no_plan, planned, too_large, Run, ended, stopped, preceded, refusal_of, Answer, refusal}
+use Rattle.reference.specs.Run.{inner_depth, Search, no_plan, planned, too_large, Run, ended, stopped, preceded, refusal_of, Answer}
+use Rattle.reference.specs.Run.{refusal}
 use Rattle.reference.specs.Run.{answer_run, Outcome, are_lent, untouched, delivered}
 
 module _ (g : Grammar) where

@@ -1,7 +1,8 @@
 -- Sheets that Demands names, what the run makes of them, and what it must not make of them.
 use Rattle.std.specs.Prelude.{ℕ, zero, suc, List, [], ◌∷◌}
 use Rattle.grammar.specs.Numbers.{once, optional_greedy, attribute, non_local}
-use Rattle.grammar.specs.Tree.{unlabelled, labelled, ElementHead, action, predicate, call, token, terminal, end_of_input, Leaf, Element, leaf}
+use Rattle.grammar.specs.Tree.{unlabelled, labelled, ElementHead, action, predicate, call, token, terminal, end_of_input, Leaf, Element}
+use Rattle.grammar.specs.Tree.{leaf}
 use Rattle.grammar.specs.Tree.{block, Block, inner_depth, Alternative, Rule, Sheet}
 use Rattle.reference.specs.Written.{element, call_to, alternative, rule, counted, unit}
 
@@ -185,7 +186,8 @@ end_alone =
 abbrev pub alone_joined : List Rule
 alone_joined =
     rule 1 1
-    (alternative 14 (element 26 once (call_to 1) ∷ element 27 once (token 4) ∷ []) ∷ alternative 11 (element 21 once end_of_input ∷ []) ∷ [])
+    (alternative 14 (element 26 once (call_to 1) ∷ element 27 once (token 4) ∷ [])
+    ∷ alternative 11 (element 21 once end_of_input ∷ []) ∷ [])
     ∷ []
 
 -- e: a | INT; a: e PLUS EOF;

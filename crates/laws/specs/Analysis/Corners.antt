@@ -95,7 +95,8 @@ module _ (c : Corners) (g : Grammar) (G : Shapes) (known : (n : ℕ) → is_miss
   module _ (d : ℕ) (h : (b : Block d) → each ids (list (erase_block d b)) ≡ block_corners c g d b) where
     -- The walk through an alternative.
     pub elements_list : (es : List (Element (Block d)))
-        → each ids (list (erase_elements (erase_block d) es)) ≡ collect_left_corner_calls c g (block_corners c g d) (block_is_nullable g d) es
+        → each ids (list (erase_elements (erase_block d) es))
+        ≡ collect_left_corner_calls c g (block_corners c g d) (block_is_nullable g d) es
     unfolding corners_of collect_left_corner_calls erase_element
     elements_list [] = refl
     elements_list (leaf x l ∷ es) =

@@ -21,7 +21,8 @@ use Rattle.graph.specs.Members.{one_with}
 use Rattle.graph.specs.Order.{distinct_of, part_rising, rising_true, true_rising, sorted_in, sorted_rising, rising_same}
 use Rattle.laws.specs.Analysis.LeftCorners.{block_corners_lem}
 use Rattle.graph.specs.Reach.{Edge, Way, way_way}
-use Rattle.graph.specs.Cycles.{in_cycles, cycles_in, several_of, component_ways, ways_component, component_rises, component_both, row_ids_lem}
+use Rattle.graph.specs.Cycles.{in_cycles, cycles_in, several_of, component_ways, ways_component, component_rises, component_both}
+use Rattle.graph.specs.Cycles.{row_ids_lem}
 
 -- Every edge leads to a row.
 abbrev Closed : List Row → Type 0

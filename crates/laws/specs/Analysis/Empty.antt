@@ -17,7 +17,8 @@ use Rattle.language.specs.Shape.{Shape, call_of, find, erase_element, erase_elem
 use Rattle.language.specs.Derive.{CanBeEmpty, RuleCanBeEmpty}
 use Rattle.language.specs.Laws.Empty.{call_empty, empty_if, empty_if_sound, empty_if_exact}
 use Rattle.language.specs.Laws.Rules.{rule_found, found_rule, rule_can_be_empty}
-use Rattle.reference.specs.Analysis.{Grammar, names_of, target, element_nullable, block_is_nullable, nullable_round, nullable_rules, grammar_of}
+use Rattle.reference.specs.Analysis.{Grammar, names_of, target, element_nullable, block_is_nullable, nullable_round, nullable_rules}
+use Rattle.reference.specs.Analysis.{grammar_of}
 use Rattle.graph.specs.Members.{in_keep, keep_in, one_with, keep_part, keep_is_part, part_in, part_map}
 use Rattle.graph.specs.Fixpoint.{part_length, rounds_keep, rounds_grow}
 use Rattle.laws.specs.Analysis.Names.{Looked, looked, by_body}
@@ -124,14 +125,16 @@ module _ (d : ℕ) (rs : List (RuleOf (Block d))) where
     rewritten e p = (λ t. p.0 (e ∙ t), λ x. sym e ∙ p.1 x)
 
     -- Of a block nested at any depth, or a body.
-    pub block_empty : (k : ℕ) (b : Block k) → (block_is_nullable (grammar_of d rs) k b ≡ true) ↔ CanBeEmpty (erase_rules d rs) (erase_block k b)
+    pub block_empty : (k : ℕ) (b : Block k)
+        → (block_is_nullable (grammar_of d rs) k b ≡ true) ↔ CanBeEmpty (erase_rules d rs) (erase_block k b)
     block_empty k b = rewritten (block_test (grammar_of d rs) k b) (empty_exact (erase_block k b))
 
     pub element_empty : (k : ℕ) (e : Element (Block k))
         → (element_nullable (grammar_of d rs) (block_is_nullable (grammar_of d rs) k) e ≡ true)
         ↔ CanBeEmpty (erase_rules d rs) (erase_element (erase_block k) e)
     element_empty k e =
-        rewritten (element_test (grammar_of d rs) (erase_block k) (block_is_nullable (grammar_of d rs) k) (block_test (grammar_of d rs) k) e)
+        rewritten (element_test (grammar_of d rs) (erase_block k) (block_is_nullable (grammar_of d rs) k)
+        (block_test (grammar_of d rs) k) e)
         (empty_exact (erase_element (erase_block k) e))
 
     pub elements_empty : (k : ℕ) (es : List (Element (Block k)))

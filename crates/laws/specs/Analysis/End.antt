@@ -8,7 +8,8 @@ use Rattle.grammar.specs.Lists.{AllOf, all, any}
 use Rattle.grammar.specs.Tree.{ElementHead, Leaf, epsilon, action, predicate, call, token, terminal, end_of_input, Element, leaf, block}
 use Rattle.grammar.specs.Tree.{Block, RuleOf}
 use Rattle.grammar.specs.Corners.{Corners, rust, textbook}
-use Rattle.language.specs.Shape.{Word, Shape, symbol, end_symbol, quantified, erase_leaf, erase_element, erase_elements, erase_block, Shapes}
+use Rattle.language.specs.Shape.{Word, Shape, symbol, end_symbol, quantified, erase_leaf, erase_element, erase_elements, erase_block}
+use Rattle.language.specs.Shape.{Shapes}
 use Rattle.language.specs.Shape.{find, bodies_by, OnElement, OnBlock, is_mark}
 use Rattle.language.specs.Derive.{RuleDerives}
 use Rattle.language.specs.LeftCorners.{is_symbol, stops, Skippable, Corner, c_first, c_later}
@@ -72,7 +73,8 @@ module _ (d : ℕ) (rs : List (RuleOf (Block d))) (none : NoEnd d rs) where
           λ x. record { word = []; marks = no_marks; derives = x },
         );
         of_alternative = λ k es p.
-            empty_is_empty (bodies_markless (λ r. r.name)) (erase_elements (erase_block k) es) (elements_markless k (block_markless k) es p);
+            empty_is_empty (bodies_markless (λ r. r.name)) (erase_elements (erase_block k) es)
+            (elements_markless k (block_markless k) es p);
         of_block = λ k b p. empty_is_empty (bodies_markless (λ r. r.name)) (erase_block k b) (block_markless k b p);
       }
 

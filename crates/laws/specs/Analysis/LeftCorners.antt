@@ -65,7 +65,8 @@ module _ (c : Corners) (d : ℕ) (rs : List (RuleOf (Block d))) (ids : distinct 
       → (member i (left_corners c (grammar_of d rs) k es) ≡ true) ↔ CornerRule c d rs (erase_elements (erase_block k) es) i
   unfolding left_corners
   left_corners_lem k es i =
-      let e = elements_list c (grammar_of d rs) (erase_rules d rs) known k (block_list c (grammar_of d rs) (erase_rules d rs) known k) es in (
+      let e =
+      elements_list c (grammar_of d rs) (erase_rules d rs) known k (block_list c (grammar_of d rs) (erase_rules d rs) known k) es in (
         λ t. listed (erase_elements (erase_block k) es) (subst (Memᴰ i) (sym e) (member_in _ t)),
         λ r. in_member
             (subst (Memᴰ i) e (lists (erase_elements (erase_block k) es) r)),

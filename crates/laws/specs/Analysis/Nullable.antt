@@ -33,7 +33,8 @@ module _ (g : Grammar) where
   leaf_test k terminal = refl
   leaf_test k end_of_input = refl
 
-  pub element_test : {B : Type 0} (erase_b : B → Shape) (test_b : B → Bool) → ((b : B) → empty_if named (erase_b b) ≡ test_b b) → (e : Element B)
+  pub element_test : {B : Type 0} (erase_b : B → Shape) (test_b : B → Bool) → ((b : B) → empty_if named (erase_b b) ≡ test_b b)
+      → (e : Element B)
       → empty_if named (erase_element erase_b e) ≡ element_nullable g test_b e
   unfolding erase_element element_nullable
   element_test erase_b test_b h (leaf x l) =
@@ -55,7 +56,8 @@ module _ (g : Grammar) where
   pub elements_test : (d : ℕ) (es : List (Element (Block d)))
       → empty_if named (erase_elements (erase_block d) es) ≡ all (element_nullable g (block_is_nullable g d)) es
   elements_test d es =
-      empty_if_seqs named (erase_element (erase_block d)) es ∙ all_same (element_test (erase_block d) (block_is_nullable g d) (block_test d)) es
+      empty_if_seqs named (erase_element (erase_block d)) es
+      ∙ all_same (element_test (erase_block d) (block_is_nullable g d) (block_test d)) es
 
 -- What more names let be empty.
 pub empty_if_more : (M N : ℕ → Bool) → ((n : ℕ) → M n ≡ true → N n ≡ true) → (s : Shape) → empty_if M s ≡ true → empty_if N s ≡ true

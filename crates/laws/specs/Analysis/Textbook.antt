@@ -73,7 +73,8 @@ module _ {G : Shapes} where
   behind d [] rest e s k = c_first k
   behind d (f ∷ front) rest e s k = c_later (record { empty = s.0; goes_on = refl }) (behind d front rest e s.1 k)
 
-  is_corner : {d : ℕ} {es : List (Element (Block d))} {n : ℕ} → LeftCorner G d es n → Corner textbook G (erase_elements (erase_block d) es) n
+  is_corner : {d : ℕ} {es : List (Element (Block d))} {n : ℕ} → LeftCorner G d es n
+      → Corner textbook G (erase_elements (erase_block d) es) n
   unfolding erase_element erase_leaf erase_block
   is_corner {d} {n = n} (called front rest h c w s f) =
       subst (λ l. Corner textbook G (erase_elements (erase_block d) l) n) w

@@ -11,7 +11,8 @@ use Rattle.grammar.specs.Corners.{Corners, rust, textbook}
 use Rattle.language.specs.Shape.{OnElement, OnBlock}
 use Rattle.reference.specs.Walks.{is_end, is_optional}
 use Rattle.reference.specs.Analysis.{Grammar, names_of, ids_of, calls, leaf_nullable, element_nullable, block_is_nullable, nullable_round}
-use Rattle.reference.specs.Analysis.{nullable_rules, grammar_of, is_stop, collect_left_corner_calls, block_corners, left_corners, reach, cycles_from}
+use Rattle.reference.specs.Analysis.{nullable_rules, grammar_of, is_stop, collect_left_corner_calls, block_corners, left_corners, reach}
+use Rattle.reference.specs.Analysis.{cycles_from}
 use Rattle.reference.specs.Analysis.{row_of, left_corner_cycles}
 use Rattle.laws.specs.Before
 use Rattle.laws.specs.Demands.End.{NotEnd, NoEnd, AsBefore}

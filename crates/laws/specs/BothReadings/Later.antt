@@ -173,7 +173,8 @@ module _ (limits : Limits) (preserved : List ℕ) {t : Stage} (told : Told t.bef
               sym a.goal_id ∙ ap (λ r. r.id) (sym one) ∙ a.source_id
 
 -- Of a run.
-pub later_rust_lem : (limits : Limits) (s : Sheet) → Told s.rules → (ts : List Stage) → eliminate_mutual_left_recursion limits rust s ≡ ended ts
+pub later_rust_lem : (limits : Limits) (s : Sheet) → Told s.rules → (ts : List Stage)
+    → eliminate_mutual_left_recursion limits rust s ≡ ended ts
     → (front : List Stage) (t : Stage) (middle rest : List Stage) → front ++ (t ∷ (middle ++ rest)) ≡ ts
     → LaterPastSymbols t (rules_of s (front ++ (t ∷ middle)))
 later_rust_lem limits s told ts run front t middle rest w =

@@ -53,9 +53,13 @@ module _ (G : Shapes) where
 
   symbol_full : (c : ℕ) (l : Leaf) → IsSymbol G l → CanBeEmpty G (erase_leaf c l) → ⊥
   unfolding erase_leaf is_mark
+  symbol_full c epsilon s o = elim s [ ]
+  symbol_full c (action a) s o = elim s [ ]
+  symbol_full c (predicate p) s o = elim s [ ]
   symbol_full c (token n) is_token o = false≢true ((symbol_empty _).0 o)
   symbol_full c terminal is_terminal o = false≢true ((symbol_empty _).0 o)
   symbol_full c (call k) (unknown_name e) o = let (b, f, _) = (call_empty k.name).0 o in none-ne-some b (sym e ∙ f)
+  symbol_full c end_of_input s o = elim s [ ]
 
   block_symbol : (d : ℕ) (b : Block d) → is_symbol G (erase_block d b) ≡ true → ⊥
   unfolding is_symbol erase_block
@@ -98,7 +102,7 @@ module _ (G : Shapes) where
     rust_behind [] x rest s k = c_first k
     rust_behind (e ∷ front) x rest s k = c_later s.0 (rust_behind front x rest s.1 k)
 
-  pub one_of : (d : ℕ) {as' : Block (suc d)} {a : AlternativeOf (Block d)} {n : ℕ} → Memᴰ a as'
+  pub one_of : (d : ℕ) {a : AlternativeOf (Block d)} {as' : Block (suc d)} {n : ℕ} → Memᴰ a as'
       → Corner rust G (shape_of d a.elements) n → Corner rust G (erase_block (suc d) as') n
   unfolding erase_block
   one_of d {n = n} (Memᴰ.head e) k = c_left (subst (λ a. Corner rust G (shape_of d a.elements) n) e k)

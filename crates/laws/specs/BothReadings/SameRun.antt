@@ -7,7 +7,8 @@ use mathlib.Core.List.{List, [], ◌∷◌, map, Memᴰ}
 use Rattle.std.proofs.Math.Option.{Option, none, some}
 use Rattle.std.proofs.Math.Bool.{◌&&◌, ◌||◌, not}
 use Rattle.grammar.specs.Laws.Lists.{in_map}
-use Rattle.grammar.specs.Tree.{ElementHead, Leaf, call, token, terminal, Block, RuleOf, Rule, body_depth, Counters, Sheet}
+use Rattle.grammar.specs.Tree.{ElementHead, Leaf, epsilon, action, predicate, call, token, terminal, end_of_input, Block, RuleOf, Rule}
+use Rattle.grammar.specs.Tree.{body_depth, Counters, Sheet}
 use Rattle.grammar.specs.Lists.{all, any, meet, sorted}
 use Rattle.grammar.specs.Valid.{valid}
 use Rattle.grammar.specs.Reading.{Reading, refused, sheet, is_length, read}
@@ -19,15 +20,18 @@ use Rattle.grammar.specs.Numbers.{parser, bad_length, short_buffer}
 use Rattle.reference.specs.Walks.{is_epsilon_only}
 use Rattle.reference.specs.Analysis.{Grammar, target, ids_of, rule_with_id, grammar_of, nullable_rules, reach, cycles_from, row_of}
 use Rattle.reference.specs.Analysis.{left_corner_cycles}
-use Rattle.reference.specs.Substitute.{no_hub, hub_with_arguments, satellite_not_inlinable, no_steps, not_directly_rewritable, Decided, decided}
+use Rattle.reference.specs.Substitute.{no_hub, hub_with_arguments, satellite_not_inlinable, no_steps, not_directly_rewritable, Decided}
+use Rattle.reference.specs.Substitute.{decided}
 use Rattle.reference.specs.Substitute.{declined, overfull, ◌and_then◌, require, found, Limits, Planned, Substituted, substitute}
 use Rattle.reference.specs.Substitute.{substitution_budget}
-use Rattle.reference.specs.Plan.{CyclePlan, choose_hub, satellite_is_inlinable, gives_hub_arguments, starts_with_hub_call, is_recursive, is_primary}
+use Rattle.reference.specs.Plan.{CyclePlan, choose_hub, satellite_is_inlinable, gives_hub_arguments, starts_with_hub_call, is_recursive}
+use Rattle.reference.specs.Plan.{is_primary}
 use Rattle.reference.specs.Plan.{is_fit, planned_hub_is_directly_rewritable, as_they_are, plan_cycle}
 use Rattle.reference.specs.Plan.{satellites, plan_of, last_tests, substituting, with_rule, with_hub}
 use Rattle.reference.specs.Apply.{apply_plan}
 use Rattle.reference.specs.Run.{inner_depth, Stage, Search, no_plan, planned, too_large, Run, ended, preceded, search_cycles, find_plan}
-use Rattle.reference.specs.Run.{refusal_of, eliminate_in_unit, eliminate_mutual_left_recursion, answer_run, answer_reading, answer_to, are_lent}
+use Rattle.reference.specs.Run.{refusal_of, eliminate_in_unit, eliminate_mutual_left_recursion, answer_run, answer_reading, answer_to}
+use Rattle.reference.specs.Run.{are_lent}
 use Rattle.reference.specs.Run.{Outcome, untouched, delivered, outcome}
 use Rattle.laws.specs.Demands.Shape.{NotOptional, NoOptionalSymbol}
 use Rattle.laws.specs.Running.Leaves.{Told}
@@ -60,7 +64,8 @@ module _ {A : Type 0} where
   any_same f k [] h = refl
   any_same f k (a ∷ as') h = ap₂ ◌||◌ (h a (Memᴰ.head refl)) (any_same f k as' (λ b m. h b (Memᴰ.tail m)))
 
-pub then_same : {A B : Type 0} (x : Decided A) (f k : A → Decided B) → ((a : A) → x ≡ decided a → f a ≡ k a) → (x and_then f) ≡ (x and_then k)
+pub then_same : {A B : Type 0} (x : Decided A) (f k : A → Decided B) → ((a : A) → x ≡ decided a → f a ≡ k a)
+    → (x and_then f) ≡ (x and_then k)
 then_same (decided a) f k h = h a refl
 then_same (declined c) f k h = refl
 then_same overfull f k h = refl
@@ -143,10 +148,14 @@ module _ {c : Corners} {d : ℕ} {rs : List (RuleOf (Block (suc d)))} {g : Gramm
   missing o (some b) e f = absurd (true≢false (sym (ap is_missing f) ∙ e))
 
   still_plain : (h : ElementHead) (l : Leaf) → NotOptional now h l → OnCall (λ n. gone k x counters n ≡ false) h l → NotOptional then h l
+  still_plain h epsilon p s y = elim y [ ]
+  still_plain h (action a) p s y = elim y [ ]
+  still_plain h (predicate q) p s y = elim y [ ]
   still_plain h (token n) p s is_token = p is_token
   still_plain h terminal p s is_terminal = p is_terminal
   still_plain h (call c) p s (unknown_name e) =
       p (unknown_name (missing (find then c.name) (find now c.name) (left_known k x counters c.name s) e))
+  still_plain h end_of_input p s y = elim y [ ]
 
   left_plain : (q : RuleOf (Block (suc d))) → Memᴰ q (rules_left k x counters) → OnBlock (NotOptional then) (suc d) q.body
   left_plain q m =
@@ -155,7 +164,8 @@ module _ {c : Corners} {d : ℕ} {rs : List (RuleOf (Block (suc d)))} {g : Gramm
 
 -- The run.
 module _ (limits : Limits) (preserved : List ℕ) where
-  names_known : (rs : List Rule) (n : ℕ) → is_missing (find (erase_rules body_depth rs) n) ≡ is_unknown (target (grammar_of body_depth rs) n)
+  names_known : (rs : List Rule) (n : ℕ)
+      → is_missing (find (erase_rules body_depth rs) n) ≡ is_unknown (target (grammar_of body_depth rs) n)
   unfolding grammar_of
   names_known rs n = looked_alike (looked body_depth rs (nullable_rules body_depth rs) n)
 
@@ -183,7 +193,8 @@ module _ (limits : Limits) (preserved : List ℕ) where
       (record { everywhere = left_plain (known t.before k) (stage_made limits rust preserved h) h.counters p.everywhere })
 
   pub run_same : (kind turns : ℕ) (rs : List Rule) → Told rs → NoOptionalSymbol rs → (c : Counters) (recorded : ℕ)
-      → eliminate_in_unit limits rust kind preserved turns rs c recorded ≡ eliminate_in_unit limits textbook kind preserved turns rs c recorded
+      → eliminate_in_unit limits rust kind preserved turns rs c recorded
+      ≡ eliminate_in_unit limits textbook kind preserved turns rs c recorded
   unfolding eliminate_in_unit
   run_same kind zero rs k p c recorded = refl
   run_same kind (suc turns) rs k p c recorded =

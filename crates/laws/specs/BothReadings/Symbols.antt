@@ -15,7 +15,8 @@ use Rattle.language.specs.LeftCorners.{is_missing, IsSymbol, is_token, is_termin
 use Rattle.grammar.specs.Laws.Parse.{either}
 use Rattle.language.specs.Laws.Copies.{drop_leaf_id}
 use Rattle.reference.specs.Walks.{sort_of, is_end}
-use Rattle.reference.specs.Analysis.{Grammar, target, calls, leaf_nullable, element_nullable, block_is_nullable, is_stop, collect_left_corner_calls}
+use Rattle.reference.specs.Analysis.{Grammar, target, calls, leaf_nullable, element_nullable, block_is_nullable, is_stop}
+use Rattle.reference.specs.Analysis.{collect_left_corner_calls}
 use Rattle.reference.specs.Analysis.{block_corners, left_corners}
 use Rattle.laws.specs.Demands.Shape.{NotOptional}
 use Rattle.laws.specs.Analysis.Names.{is_unknown}
@@ -131,9 +132,13 @@ module _ (Q : ℕ → Type 0) where
 
 module _ (G : Shapes) where
   symbol_dropped : (l : Leaf) → IsSymbol G l → IsSymbol G (drop_leaf_id l)
+  symbol_dropped epsilon s = elim s [ ]
+  symbol_dropped (action a) s = elim s [ ]
+  symbol_dropped (predicate p) s = elim s [ ]
   symbol_dropped (token n) is_token = is_token
   symbol_dropped terminal is_terminal = is_terminal
   symbol_dropped (call c) (unknown_name e) = unknown_name e
+  symbol_dropped end_of_input s = elim s [ ]
 
   dropped_symbol : (l : Leaf) → IsSymbol G (drop_leaf_id l) → IsSymbol G l
   dropped_symbol epsilon s = elim s [ ]

@@ -18,14 +18,17 @@ use Rattle.language.specs.Shape.{OnBlock}
 use Rattle.language.specs.Laws.Copies.{drop_leaf_id}
 use Rattle.reference.specs.Walks.{is_epsilon_only, is_end}
 use Rattle.reference.specs.Analysis.{Grammar, rule_with_id, grammar_of, left_corner_cycles}
-use Rattle.reference.specs.Substitute.{no_hub, hub_with_arguments, satellite_not_inlinable, no_steps, not_directly_rewritable, decided, declined}
+use Rattle.reference.specs.Substitute.{no_hub, hub_with_arguments, satellite_not_inlinable, no_steps, not_directly_rewritable, decided}
+use Rattle.reference.specs.Substitute.{declined}
 use Rattle.reference.specs.Substitute.{overfull, require, found, Limits, Planned, Substituted, substitute, substitution_budget}
-use Rattle.reference.specs.Plan.{choose_hub, satellite_is_inlinable, gives_hub_arguments, starts_with_hub_call, is_recursive, is_primary, is_fit}
+use Rattle.reference.specs.Plan.{choose_hub, satellite_is_inlinable, gives_hub_arguments, starts_with_hub_call, is_recursive, is_primary}
+use Rattle.reference.specs.Plan.{is_fit}
 use Rattle.reference.specs.Plan.{planned_hub_is_directly_rewritable, as_they_are, plan_cycle, satellites, plan_of, last_tests, substituting}
 use Rattle.reference.specs.Plan.{with_rule, with_hub}
 use Rattle.reference.specs.Apply.{apply_plan}
 use Rattle.reference.specs.Run.{inner_depth, Stage, Search, no_plan, planned, too_large, Run, ended, preceded, search_cycles, find_plan}
-use Rattle.reference.specs.Run.{refusal_of, eliminate_in_unit, eliminate_mutual_left_recursion, answer_run, answer_reading, answer_to, are_lent}
+use Rattle.reference.specs.Run.{refusal_of, eliminate_in_unit, eliminate_mutual_left_recursion, answer_run, answer_reading, answer_to}
+use Rattle.reference.specs.Run.{are_lent}
 use Rattle.reference.specs.Run.{Outcome, untouched, delivered, outcome}
 use Rattle.laws.specs.Before
 use Rattle.laws.specs.Demands.End.{NotEnd, NoEnd}

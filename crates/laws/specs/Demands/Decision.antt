@@ -7,10 +7,12 @@ use Rattle.grammar.specs.Lists.{keep, total, member}
 use Rattle.grammar.specs.Tree.{Block, RuleOf}
 use Rattle.grammar.specs.Corners.{Corners}
 use Rattle.reference.specs.Analysis.{Grammar}
-use Rattle.reference.specs.Substitute.{Clause, no_hub, hub_with_arguments, satellite_not_inlinable, budget, dangling_reference, blocked_corner}
+use Rattle.reference.specs.Substitute.{Clause, no_hub, hub_with_arguments, satellite_not_inlinable, budget, dangling_reference}
+use Rattle.reference.specs.Substitute.{blocked_corner}
 use Rattle.reference.specs.Substitute.{label_collision, binding_collision, option_collision, no_steps, not_directly_rewritable}
 use Rattle.reference.specs.Substitute.{Limits, Planned, Decided, decided, declined, overfull, step}
-use Rattle.reference.specs.Plan.{choose_hub, satellite_is_inlinable, planned_hub_is_directly_rewritable, removable_satellites, CyclePlan, as_they_are}
+use Rattle.reference.specs.Plan.{choose_hub, satellite_is_inlinable, planned_hub_is_directly_rewritable, removable_satellites, CyclePlan}
+use Rattle.reference.specs.Plan.{as_they_are}
 use Rattle.laws.specs.Demands.Substitution.{Beyond, Steps}
 
 -- The clauses for which a step declines.

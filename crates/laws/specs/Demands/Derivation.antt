@@ -6,7 +6,8 @@ use Rattle.grammar.specs.Lists.{all}
 use Rattle.grammar.specs.Tree.{ElementHead, Action, Predicate, Call, Element, leaf, block, epsilon, action, predicate, call, token}
 use Rattle.grammar.specs.Tree.{terminal, end_of_input, AlternativeOf, Block, RuleOf}
 use Rattle.grammar.specs.Valid.{ok_element, ok_block}
-use Rattle.language.specs.Shape.{Symbol, token_symbol, unknown_symbol, other_symbol, end_symbol, Word, erase_element, erase_elements, erase_block}
+use Rattle.language.specs.Shape.{Symbol, token_symbol, unknown_symbol, other_symbol, end_symbol, Word, erase_element, erase_elements}
+use Rattle.language.specs.Shape.{erase_block}
 use Rattle.language.specs.Shape.{erase_rules}
 use Rattle.language.specs.Derive.{Der, RuleDerives}
 

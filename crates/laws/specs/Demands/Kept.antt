@@ -8,7 +8,8 @@ use Rattle.grammar.specs.Reading.{sheet, read}
 use Rattle.grammar.specs.Corners.{Corners, rust, textbook}
 use Rattle.grammar.specs.Numbers.{parser}
 use Rattle.reference.specs.Substitute.{Limits}
-use Rattle.reference.specs.Run.{Stage, ended, eliminate_mutual_left_recursion, sheet_after, steps_of, encode_entry, entries_of, Outcome, filled}
+use Rattle.reference.specs.Run.{Stage, ended, eliminate_mutual_left_recursion, sheet_after, steps_of, encode_entry, entries_of, Outcome}
+use Rattle.reference.specs.Run.{filled}
 use Rattle.reference.specs.Run.{outcome}
 use Rattle.laws.specs.Demands.Shape.{Closed, Elements, LaterPastSymbols, NoLeftCorner, NoOptionalSymbol, OnlyPastSymbols}
 use Rattle.laws.specs.Demands.Shape.{SameReadings, SameStrings}

@@ -1,12 +1,18 @@
 -- The numbers that are bought (SPECIFICATION 2.2 to 2.15, 2.19, 3.1, 4, 8.10, 10 and 12): those that the definition names are
 -- these. Format says where they stand in a sheet.
 use Rattle.std.specs.Prelude.{ℕ, ◌<◌, ◌≡◌, List, [], ◌∷◌, map, leb}
-use Rattle.grammar.specs.Numbers.{least_bytes, most_bytes, most_words, result_bytes, trail_bytes, work_bytes, most_name, rule_limit, lexer, parser}
-use Rattle.grammar.specs.Numbers.{combined, most_rule_flags, most_alternative_flag, once, optional_greedy, optional_nongreedy, zero_or_more_greedy}
-use Rattle.grammar.specs.Numbers.{zero_or_more_nongreedy, one_or_more_greedy, one_or_more_nongreedy, epsilon_kind, action_kind, predicate_kind}
-use Rattle.grammar.specs.Numbers.{call_kind, token_kind, terminal_kind, block_kind, end_kind, kind_end, attribute, qualified, non_local, rule_sort}
-use Rattle.grammar.specs.Numbers.{alternative_sort, element_sort, label_sort, action_sort, predicate_sort, trailer_words, bad_length, short_buffer}
-use Rattle.grammar.specs.Numbers.{bad_trailer, bad_record, shared_number, id_past_counter, plan_too_large, counter_past_end, result_too_long, word_end}
+use Rattle.grammar.specs.Numbers.{least_bytes, most_bytes, most_words, result_bytes, trail_bytes, work_bytes, most_name, rule_limit, lexer}
+use Rattle.grammar.specs.Numbers.{parser}
+use Rattle.grammar.specs.Numbers.{combined, most_rule_flags, most_alternative_flag, once, optional_greedy, optional_nongreedy}
+use Rattle.grammar.specs.Numbers.{zero_or_more_greedy}
+use Rattle.grammar.specs.Numbers.{zero_or_more_nongreedy, one_or_more_greedy, one_or_more_nongreedy, epsilon_kind, action_kind}
+use Rattle.grammar.specs.Numbers.{predicate_kind}
+use Rattle.grammar.specs.Numbers.{call_kind, token_kind, terminal_kind, block_kind, end_kind, kind_end, attribute, qualified, non_local}
+use Rattle.grammar.specs.Numbers.{rule_sort}
+use Rattle.grammar.specs.Numbers.{alternative_sort, element_sort, label_sort, action_sort, predicate_sort, trailer_words, bad_length}
+use Rattle.grammar.specs.Numbers.{short_buffer}
+use Rattle.grammar.specs.Numbers.{bad_trailer, bad_record, shared_number, id_past_counter, plan_too_large, counter_past_end}
+use Rattle.grammar.specs.Numbers.{result_too_long, word_end}
 use Rattle.grammar.specs.Read.{is_name}
 use Rattle.grammar.specs.Tree.{inner_depth}
 use Rattle.reference.specs.Numbers.{most_entries, counter_end, entry_words, rule_boundary, block_boundary}

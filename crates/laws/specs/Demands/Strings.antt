@@ -2,7 +2,8 @@
 -- tokens 7, 8 and 9, x is a call of 5, which no rule has, [1] and [2] are elements of kind 5 by their carried numbers, and EOF is an
 -- element of kind 7.
 use Rattle.std.specs.Prelude.{ℕ, List, [], ◌∷◌, map}
-use Rattle.grammar.specs.Tree.{unlabelled, epsilon, action, predicate, token, terminal, end_of_input, Element, leaf, block, Block, inner_depth}
+use Rattle.grammar.specs.Tree.{unlabelled, epsilon, action, predicate, token, terminal, end_of_input, Element, leaf, block, Block}
+use Rattle.grammar.specs.Tree.{inner_depth}
 use Rattle.grammar.specs.Tree.{body_depth, Rule}
 use Rattle.language.specs.Shape.{Symbol, token_symbol, unknown_symbol, other_symbol, end_symbol, Word}
 use Rattle.language.specs.Derive.{RuleDerives, RuleCanBeEmpty}

@@ -14,7 +14,8 @@ use Rattle.grammar.specs.Numbers.{parser, once}
 use Rattle.reference.specs.Analysis.{Grammar, target, grammar_of}
 use Rattle.reference.specs.Substitute.{Limits, Planned, settled, planned_corner, union_options}
 use Rattle.reference.specs.Apply.{Entry, Origins}
-use Rattle.reference.specs.Run.{inner_depth, Stage, ended, sheet_with, eliminate_mutual_left_recursion, sheet_after, entries_of, answer, refusal}
+use Rattle.reference.specs.Run.{inner_depth, Stage, ended, sheet_with, eliminate_mutual_left_recursion, sheet_after, entries_of, answer}
+use Rattle.reference.specs.Run.{refusal}
 use Rattle.reference.specs.Run.{answer_to, outcome}
 use Rattle.reference.specs.Walks.{is_epsilon_only}
 use Rattle.reference.specs.Plan.{choose_hub, satellite_is_inlinable, planned_hub_is_directly_rewritable, plan_cycle}

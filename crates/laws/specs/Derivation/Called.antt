@@ -4,7 +4,8 @@ use Rattle.std.specs.Prelude.{◌≡◌}
 use Rattle.std.proofs.Math.Path.{refl}
 use Rattle.std.proofs.Common.{sym, subst}
 use mathlib.Core.List.{List, [], ◌∷◌, map, Memᴰ}
-use Rattle.grammar.specs.Tree.{ElementHead, Call, Leaf, epsilon, action, predicate, call, token, terminal, end_of_input, Element, leaf, block}
+use Rattle.grammar.specs.Tree.{ElementHead, Call, Leaf, epsilon, action, predicate, call, token, terminal, end_of_input, Element, leaf}
+use Rattle.grammar.specs.Tree.{block}
 use Rattle.grammar.specs.Tree.{AlternativeOf, Block}
 use Rattle.language.specs.Shape.{Shape, seqs, alts, quantified, erase_leaf, erase_element, erase_elements, erase_block, EachCall}
 use Rattle.language.specs.Laws.Quantifier.{quantified_cases}
@@ -27,7 +28,8 @@ module _ (P : ℕ → Type 0) where
   unfolding erase_element erase_leaf
   derives_call k h c p = of_quantified h.quantifier _ p
 
-  derives_block : (k : ℕ) (h : ElementHead) (b : Block k) → EachCall P (erase_element (erase_block k) (block h b)) → EachCall P (erase_block k b)
+  derives_block : (k : ℕ) (h : ElementHead) (b : Block k) → EachCall P (erase_element (erase_block k) (block h b))
+      → EachCall P (erase_block k b)
   unfolding erase_element
   derives_block k h b p = of_quantified h.quantifier _ p
 

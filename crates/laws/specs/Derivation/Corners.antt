@@ -15,7 +15,8 @@ use Rattle.grammar.specs.Numbers.{most_alternative_flag}
 use Rattle.grammar.specs.Valid.{valid, ok_option, ok_head, ok_element, ok_alternative, ok_block}
 use Rattle.grammar.specs.Laws.Parse.{left_true, right_true, either}
 use Rattle.grammar.specs.Corners.{Corners, rust, textbook}
-use Rattle.language.specs.Shape.{is_mark, Shape, alts, call_of, erase_leaf, erase_element, erase_elements, erase_block, Shapes, erase_rules, find}
+use Rattle.language.specs.Shape.{is_mark, Shape, alts, call_of, erase_leaf, erase_element, erase_elements, erase_block, Shapes, erase_rules}
+use Rattle.language.specs.Shape.{find}
 use Rattle.language.specs.LeftCorners.{is_missing, is_symbol, stops, Skippable, Corner, c_call, c_first, c_later, c_left, c_right, Leads}
 use Rattle.language.specs.LeftCorners.{Reaches, r_last, r_more}
 use Rattle.language.specs.Laws.Corner.{corner_quantified, symbol_quantified}
@@ -48,11 +49,15 @@ module _ (d : ℕ) (rs : List (RuleOf (Block (suc d)))) (names : distinct (map (
 
   leaf_symbol : {k : ℕ} (h : ElementHead) (l : Leaf) → SymbolAt d rs k (leaf h l) → is_symbol G (erase_leaf h.carried l) ≡ true
   unfolding is_symbol is_mark erase_leaf
+  leaf_symbol h epsilon s = elim s [ ]
+  leaf_symbol h (action a) s = elim s [ ]
+  leaf_symbol h (predicate p) s = elim s [ ]
   leaf_symbol h (token n) token_at = refl
   leaf_symbol h terminal terminal_at = refl
   leaf_symbol h (call c) (unknown_at u) =
       either (is_missing (find G c.name)) (λ t. t)
       (λ f. let (r, m, e) = not_missing c.name (find G c.name) refl f in absurd (u r m e))
+  leaf_symbol h end_of_input s = elim s [ ]
 
   symbol_leaf : {k : ℕ} (h : ElementHead) (l : Leaf) → is_symbol G (erase_leaf h.carried l) ≡ true → SymbolAt d rs k (leaf h l)
   unfolding is_symbol is_mark erase_leaf
@@ -135,7 +140,7 @@ module _ (d : ℕ) (rs : List (RuleOf (Block (suc d)))) (names : distinct (map (
     alternative_of f (b ∷ bs) (c_left x) = (b, Memᴰ.head refl, x)
     alternative_of f (b ∷ bs) (c_right x) = let (a, m, y) = alternative_of f bs x in (a, Memᴰ.tail m, y)
 
-    of_alternative : {B : Type 0} (f : B → Shape) {bs : List B} {b : B} {n : ℕ} → Memᴰ b bs → Corner c G (f b) n
+    of_alternative : {B : Type 0} (f : B → Shape) {b : B} {bs : List B} {n : ℕ} → Memᴰ b bs → Corner c G (f b) n
         → Corner c G (alts (map f bs)) n
     of_alternative f {n = n} (Memᴰ.head e) x = c_left (subst (λ y. Corner c G (f y) n) e x)
     of_alternative f (Memᴰ.tail m) x = c_right (of_alternative f m x)
@@ -176,9 +181,9 @@ module _ (d : ℕ) (rs : List (RuleOf (Block (suc d)))) (names : distinct (map (
     behind k (f ∷ front) rest e p x =
         c_later (skips c k f (p f (Memᴰ.head refl))) (behind k front rest e (λ g m. p g (Memᴰ.tail m)) x)
 
-    is_corner : {k : ℕ} {es : List (Element (Block k))} {n : ℕ} → CornerTold d rs c n k es → Corner c G (erase_elements (erase_block k) es) n
+    is_corner : {n k : ℕ} {es : List (Element (Block k))} → CornerTold d rs c n k es → Corner c G (erase_elements (erase_block k) es) n
     unfolding erase_element erase_leaf erase_block
-    is_corner {k} {n = n} (call_there front rest h s w p r m i j) =
+    is_corner {n = n} {k = k} (call_there front rest h s w p r m i j) =
         let b = erase_block (suc d) r.body in
         let f : find G s.name ≡ some b = subst (λ n. find G n ≡ some b) i (rule_found (suc d) (λ r. r.name) rs names m) in
         let x : Corner c G (call_of s.name) n = subst (Corner c G (call_of s.name)) j (c_call f) in
@@ -226,10 +231,10 @@ module _ (d : ℕ) (rs : List (RuleOf (Block (suc d)))) (names : distinct (map (
     path_told m i e f (r_last x) =
         let (a, j, y) = leads_told m e x in
         one_step j i (subst (λ k. CornerTold d rs c k d a.elements) (sym f) y)
-    path_told m i e f (r_more {m = h} x xs) =
+    path_told {r = r} m i e f (r_more {m = h} x xs) =
         let (a, j, y) = leads_told m e x in
         let (p, o, s) = next xs in
-        step_then j o (subst (λ k. CornerTold d rs c k d a.elements) (sym s) y) (path_told o i s f xs)
+        step_then j o (subst (λ k. CornerTold d rs c k d a.elements) (sym s) y) (path_told {r = p} o i s f xs)
       where
         next : {n k : ℕ} → Reaches c G n k → (p : RuleOf (Block (suc d))) × Memᴰ p rs × (p.name ≡ n)
         next {n} (r_last z) = let (p, o, s, w) = found_rule (suc d) (λ r. r.name) rs n z.found in (p, o, s)

@@ -9,7 +9,8 @@ use Rattle.std.proofs.Math.Bool.{true, false, or-true}
 use Rattle.grammar.specs.Tree.{body_depth, Rule}
 use Rattle.grammar.specs.Lists.{is_empty}
 use Rattle.grammar.specs.Laws.Parse.{both_true}
-use Rattle.language.specs.Shape.{Symbol, token_symbol, unknown_symbol, other_symbol, end_symbol, Word, Shape, eps, fail, symbol, call_of, seq}
+use Rattle.language.specs.Shape.{Symbol, token_symbol, unknown_symbol, other_symbol, end_symbol, Word, Shape, eps, fail, symbol, call_of}
+use Rattle.language.specs.Shape.{seq}
 use Rattle.language.specs.Shape.{alt, opt, star, plus, Shapes, erase_block, bodies_by, erase_rules, find}
 use Rattle.laws.specs.Demands.Strings.{Yes, No}
 use Rattle.language.specs.Derive.{Der, d_eps, d_symbol, d_call, d_unknown, d_seq, d_left, d_right, d_absent, d_present, d_none, d_more}

@@ -28,7 +28,8 @@ unfolding is_mark
 end_mark w h = in_all is_mark w (λ a m. ap is_mark (h a m))
 
 module _ (d : ℕ) (rs : List (RuleOf (Block (suc d)))) (names : distinct (map (λ r. r.name) rs) ≡ true) where
-  pub can_be_empty : (k : ℕ) (e : Element (Block k)) → Empties d rs k e → CanBeEmpty (erase_rules (suc d) rs) (erase_element (erase_block k) e)
+  pub can_be_empty : (k : ℕ) (e : Element (Block k)) → Empties d rs k e
+      → CanBeEmpty (erase_rules (suc d) rs) (erase_element (erase_block k) e)
   can_be_empty k e x = record { word = x.word; marks = end_mark x.word x.marks; tree = into d rs names x.derived }
 
   module _ (good : (r : RuleOf (Block (suc d))) → Memᴰ r rs → ok_block (suc d) r.body ≡ true) where

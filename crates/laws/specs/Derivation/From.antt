@@ -11,7 +11,8 @@ use Rattle.grammar.specs.Tree.{terminal, end_of_input, AlternativeOf, Block, Rul
 use Rattle.grammar.specs.Numbers.{most_alternative_flag}
 use Rattle.grammar.specs.Valid.{ok_option, ok_head, ok_leaf, ok_element, ok_alternative, ok_block}
 use Rattle.grammar.specs.Laws.Parse.{left_true, right_true}
-use Rattle.language.specs.Shape.{Symbol, token_symbol, other_symbol, unknown_symbol, end_symbol, Word, Shape, eps, fail, symbol, call_of, seq}
+use Rattle.language.specs.Shape.{Symbol, token_symbol, other_symbol, unknown_symbol, end_symbol, Word, Shape, eps, fail, symbol, call_of}
+use Rattle.language.specs.Shape.{seq}
 use Rattle.language.specs.Shape.{alt, opt, star, plus, alts, quantified, erase_leaf, erase_element, erase_elements, erase_block, find}
 use Rattle.language.specs.Shape.{erase_rules}
 use Rattle.language.specs.Derive.{Der, d_eps, d_symbol, d_call, d_unknown, d_seq, d_left, d_right, d_absent, d_present, d_none, d_more}
@@ -19,7 +20,8 @@ use Rattle.language.specs.Derive.{d_some}
 use Rattle.language.specs.Laws.Rules.{rule_found, found_rule}
 use Rattle.laws.specs.Demands.Derivation.{Often, exactly_once, at_most_once, any_times, at_least_once, quantifier_of, Part, choice}
 use Rattle.laws.specs.Demands.Derivation.{sequence, element, times, once, Derives, chosen, no_element, element_then, counted}
-use Rattle.laws.specs.Demands.Derivation.{not_once, once_more, derives_epsilon, derives_action, derives_predicate, derives_call, of_unknown, derives_token}
+use Rattle.laws.specs.Demands.Derivation.{not_once, once_more, derives_epsilon, derives_action, derives_predicate, derives_call, of_unknown}
+use Rattle.laws.specs.Demands.Derivation.{derives_token}
 use Rattle.laws.specs.Demands.Derivation.{derives_terminal, derives_end, derives_block}
 
 -- A part; or an element taken some number of times, whatever its quantifier.
@@ -105,7 +107,8 @@ module _ (k : ℕ) (block_is : (h : ElementHead) (b : Block k) → ok_block k b 
   unfolding all
   elements_are [] t = is_nil
   elements_are (e ∷ es) t =
-      is_seq (element_is e (left_true _ (all (ok_element (ok_block k)) es) t)) (elements_are es (right_true (ok_element (ok_block k) e) _ t))
+      is_seq (element_is e (left_true _ (all (ok_element (ok_block k)) es) t))
+      (elements_are es (right_true (ok_element (ok_block k) e) _ t))
 
   alternatives_are : (as' : List (AlternativeOf (Block k))) → all (ok_alternative (ok_block k)) as' ≡ true
       → Is (alts (map (λ a. erase_elements (erase_block k) a.elements) as')) (part (choice k as'))

@@ -1,5 +1,5 @@
 -- The two wordings agree, of every sheet that the reader accepts.
-use Rattle.std.specs.Prelude.{ℕ, suc, ◌≡◌, refl, true, leb}
+use Rattle.std.specs.Prelude.{ℕ, suc, ◌≡◌, ◌⊎◌, refl, true, leb}
 use Rattle.std.proofs.Common.{sym, ap, subst, inl, inr}
 use mathlib.Core.List.{List, map, Memᴰ}
 use Rattle.grammar.specs.Lists.{distinct}
@@ -48,7 +48,8 @@ unfolding number_of
 symbols_told =
     record {
       sorts = λ a.
-          elim a [
+          elim a as (λ a. (a ≡ end_symbol)
+          ⊎ ((n : ℕ) × ((a ≡ token_symbol n) ⊎ ((a ≡ unknown_symbol n) ⊎ (a ≡ other_symbol n))))) [
             | token_symbol n ↦ inr (n, inl refl)
             | unknown_symbol n ↦ inr (n, inr (inl refl))
             | other_symbol n ↦ inr (n, inr (inr refl))

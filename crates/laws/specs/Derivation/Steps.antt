@@ -7,7 +7,8 @@ use Rattle.grammar.specs.Tree.{terminal, end_of_input, AlternativeOf, Block, Rul
 use Rattle.language.specs.Shape.{token_symbol, unknown_symbol, other_symbol, end_symbol, Word}
 use Rattle.laws.specs.Demands.Derivation.{Often, exactly_once, at_most_once, any_times, at_least_once, quantifier_of, choice}
 use Rattle.laws.specs.Demands.Derivation.{sequence, element, times, once, Derives, chosen, no_element, element_then, counted}
-use Rattle.laws.specs.Demands.Derivation.{not_once, once_more, derives_epsilon, derives_action, derives_predicate, derives_call, of_unknown, derives_token}
+use Rattle.laws.specs.Demands.Derivation.{not_once, once_more, derives_epsilon, derives_action, derives_predicate, derives_call, of_unknown}
+use Rattle.laws.specs.Demands.Derivation.{derives_token}
 use Rattle.laws.specs.Demands.Derivation.{derives_terminal, derives_end, derives_block, StepsTold}
 
 -- How often, by the quantifier: other quantifiers say nothing here.
@@ -63,7 +64,8 @@ module _ (d : ℕ) (rs : List (RuleOf (Block (suc d)))) where
   nothing_at : {k : ℕ} {e : Element (Block k)} {w : Word} → w ≡ [] → Derives d rs (times k 0 e) w
   nothing_at {k} {e} z = subst (Derives d rs (times k 0 e)) (sym z) not_once
 
-  once_only_lem : {k : ℕ} (e : Element (Block k)) → quantifier_of e ≡ 0 → {w : Word} → Derives d rs (element k e) w → Derives d rs (once k e) w
+  once_only_lem : {k : ℕ} (e : Element (Block k)) → quantifier_of e ≡ 0 → {w : Word} → Derives d rs (element k e) w
+      → Derives d rs (once k e) w
   once_only_lem {k} e q {w} x =
       let t = to_counted x in
       to_one (subst (λ n. Derives d rs (times k n e) w) (often_once t.1 q) t.2)
@@ -78,7 +80,8 @@ module _ (d : ℕ) (rs : List (RuleOf (Block (suc d)))) where
   least zero l x = absurd (omega arith)
   least (suc n) l x = (n, x)
 
-  optional_only : {k : ℕ} (e : Element (Block k)) → (quantifier_of e ≡ 1) ⊎ (quantifier_of e ≡ 2) → {w : Word} → Derives d rs (element k e) w
+  optional_only : {k : ℕ} (e : Element (Block k)) → (quantifier_of e ≡ 1) ⊎ (quantifier_of e ≡ 2) → {w : Word}
+      → Derives d rs (element k e) w
       → (w ≡ []) ⊎ Derives d rs (once k e) w
   optional_only e q x =
       let t = to_counted x in

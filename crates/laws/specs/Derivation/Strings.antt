@@ -34,7 +34,8 @@ any_twice_lem = derived (often 3) refl (d_left (d_seq refl (d_more refl d_symbol
 
 any_thrice_lem : Yes (often 4) (A ∷ A ∷ A ∷ [])
 unfolding find erase_block erase_element erase_leaf quantified
-any_thrice_lem = derived (often 4) refl (d_left (d_seq refl (d_more refl d_symbol (d_more refl d_symbol (d_more refl d_symbol d_none))) d_eps))
+any_thrice_lem =
+    derived (often 4) refl (d_left (d_seq refl (d_more refl d_symbol (d_more refl d_symbol (d_more refl d_symbol d_none))) d_eps))
 
 some_once_lem : Yes (often 5) (A ∷ [])
 unfolding find erase_block erase_element erase_leaf quantified
@@ -46,7 +47,8 @@ some_twice_lem = derived (often 5) refl (d_left (d_seq refl (d_some refl d_symbo
 
 some_thrice_lem : Yes (often 6) (A ∷ A ∷ A ∷ [])
 unfolding find erase_block erase_element erase_leaf quantified
-some_thrice_lem = derived (often 6) refl (d_left (d_seq refl (d_some refl d_symbol (d_more refl d_symbol (d_more refl d_symbol d_none))) d_eps))
+some_thrice_lem =
+    derived (often 6) refl (d_left (d_seq refl (d_some refl d_symbol (d_more refl d_symbol (d_more refl d_symbol d_none))) d_eps))
 
 order_kept_lem : Yes in_order (A ∷ B ∷ [])
 unfolding find erase_block erase_element erase_leaf quantified
@@ -228,13 +230,7 @@ no_end (d_unknown e) again = none-ne-some _ (sym e)
 no_end (d_seq e x y) (in_front i) = no_end x i
 no_end (d_left x) (either_way i j) = no_end x i
 no_end (d_right x) (either_way i j) = no_end x j
-no_end d_eps i = elim i [ ]
-no_end d_symbol i = elim i [ ]
-no_end d_absent i = elim i [ ]
-no_end (d_present x) i = elim i [ ]
-no_end d_none i = elim i [ ]
-no_end (d_more e x y) i = elim i [ ]
-no_end (d_some e x y) i = elim i [ ]
+no_end x i = elim i [ ]
 
 endless_nothing_lem : (w : Word) → No endless w
 unfolding find

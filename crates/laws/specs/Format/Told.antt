@@ -7,7 +7,8 @@ use Rattle.grammar.specs.Words.{words}
 use Rattle.grammar.specs.Tree.{Reference, Label, unlabelled, labelled, ElementHead, Leaf, epsilon, action, predicate, call, token, terminal}
 use Rattle.grammar.specs.Tree.{end_of_input, OptionDecl, Element, leaf, block, AlternativeOf, Block, Rule, Sheet, body_depth, Counters}
 use Rattle.grammar.specs.Encode.{encode_head, leaf_kind, encode_leaf, encode_element, encode_alternative, encode_rule, encode_block, encode}
-use Rattle.grammar.specs.Valid.{ok_option, ok_reference, ok_label, ok_head, ok_leaf, ok_element, ok_alternative, ok_rule, ok_block, is_kind, valid}
+use Rattle.grammar.specs.Valid.{ok_option, ok_reference, ok_label, ok_head, ok_leaf, ok_element, ok_alternative, ok_rule, ok_block, is_kind}
+use Rattle.grammar.specs.Valid.{valid}
 use Rattle.grammar.specs.Read.{is_name}
 use Rattle.grammar.specs.Reading.{sheet, read}
 use Rattle.grammar.specs.Laws.Parse.{both_true, left_true, right_true}

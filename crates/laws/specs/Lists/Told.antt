@@ -47,7 +47,8 @@ kept_low : (c : ℕ) (xs : List ℕ) → Low c xs → below c xs ≡ true
 unfolding below
 kept_low c [] h = refl
 kept_low c (y ∷ ys) h =
-    both_true (ltb y c) (below c ys) (lt-ltb y c (h y (mathlib.Core.List.Memᴰ.head refl))) (kept_low c ys (λ x m. h x (mathlib.Core.List.Memᴰ.tail m)))
+    both_true (ltb y c) (below c ys) (lt-ltb y c (h y (mathlib.Core.List.Memᴰ.head refl)))
+    (kept_low c ys (λ x m. h x (mathlib.Core.List.Memᴰ.tail m)))
 
 rises : (xs : List ℕ) → rising xs ≡ true → Rises xs
 unfolding rising

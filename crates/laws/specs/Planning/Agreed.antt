@@ -77,8 +77,8 @@ module _ (g h : Grammar) where
 
   module _ (d : ℕ) (inner : (b : Block d) → Agreed (erase_block d b) → BlockAlike d b) where
     elements_alike : (es : List (Element (Block d))) → Agreed (erase_elements (erase_block d) es) → ElementsAlike d es
-    unfolding collect_calls_in_elements elements_give element_gives collect_calls_into element_nullable all left_corners collect_left_corner_calls
-        erase_element
+    unfolding collect_calls_in_elements elements_give element_gives collect_calls_into element_nullable all
+        left_corners collect_left_corner_calls erase_element
     elements_alike [] p = record { calls = refl; empty = refl; corners = λ c. refl }
     elements_alike (leaf x l ∷ es) p =
         let q = unquantified (Agree g h) x.quantifier (erase_leaf x.carried l) p.0 in
@@ -102,7 +102,8 @@ module _ (g h : Grammar) where
         }
 
   pub block_alike : (d : ℕ) (b : Block d) → Agreed (erase_block d b) → BlockAlike d b
-  unfolding erase_block collect_calls_into block_gives block_is_nullable block_corners collect_calls_in_elements elements_give left_corners any
+  unfolding erase_block collect_calls_into block_gives block_is_nullable block_corners collect_calls_in_elements elements_give
+      left_corners any
   block_alike zero b p = absurd b
   block_alike (suc d) [] p = record { calls = refl; empty = refl; corners = λ c. refl }
   block_alike (suc d) (a ∷ as') p =

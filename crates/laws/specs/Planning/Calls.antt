@@ -5,7 +5,8 @@ use Rattle.std.proofs.Common.{sym, subst}
 use mathlib.Core.List.Memᴰ
 use mathlib.Core.List.{List, [], ◌∷◌, ◌++◌, map, Memᴰ}
 use Rattle.std.proofs.Math.Option.{some}
-use Rattle.grammar.specs.Tree.{ElementHead, Call, Leaf, epsilon, action, predicate, call, token, terminal, end_of_input, Element, leaf, block}
+use Rattle.grammar.specs.Tree.{ElementHead, Call, Leaf, epsilon, action, predicate, call, token, terminal, end_of_input, Element, leaf}
+use Rattle.grammar.specs.Tree.{block}
 use Rattle.grammar.specs.Tree.{AlternativeOf, Block, RuleOf}
 use Rattle.grammar.specs.Lists.{each, nothing}
 use Rattle.language.specs.Shape.{Shape, eps, fail, symbol, call_of, seq, alt, opt, star, plus, quantified, erase_leaf, erase_element}

@@ -106,7 +106,8 @@ module _ (g : Grammar) (cycle : List ℕ) (hub : ℕ) where
     corner_means [] = tt
     corner_means (leaf h epsilon ∷ es) = means_further es (leaf h epsilon) refl (planned_corner g cycle hub es) (corner_means es)
     corner_means (leaf h (action a) ∷ es) = means_further es (leaf h (action a)) refl (planned_corner g cycle hub es) (corner_means es)
-    corner_means (leaf h (predicate p) ∷ es) = means_further es (leaf h (predicate p)) refl (planned_corner g cycle hub es) (corner_means es)
+    corner_means (leaf h (predicate p) ∷ es) =
+        means_further es (leaf h (predicate p)) refl (planned_corner g cycle hub es) (corner_means es)
     corner_means (leaf h (call c) ∷ es) = call_means es h c (target g c.name) refl
     corner_means (leaf h (token n) ∷ es) = tt
     corner_means (leaf h terminal ∷ es) = tt

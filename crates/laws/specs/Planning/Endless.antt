@@ -175,6 +175,7 @@ module _ {d : ℕ} {rs : List (RuleOf (Block (suc d)))} {g : Grammar} (k : Known
     steps_among no_steps_left h = still
     steps_among (one_more {ps = ps} {qs = qs} e w t) h =
         let s = stepped d rs g cycle hub ps qs e in
-        let slot : Memᴰ s.slot ps = subst (Memᴰ s.slot) s.whole (mathlib.Core.List.Memᴰ.append_right s.front (mathlib.Core.List.Memᴰ.head refl)) in
+        let slot : Memᴰ s.slot ps =
+        subst (Memᴰ s.slot) s.whole (mathlib.Core.List.Memᴰ.append_right s.front (mathlib.Core.List.Memᴰ.head refl)) in
         onward (subst₂ (StepTo d others) s.whole s.result
         (step_at d others g cycle hub s.front s.rest (among (one_more e w t) h slot s.is_made))) (steps_among t h)

@@ -87,7 +87,7 @@ module _ {P : ElementHead → Leaf → Type 0} (x : Copied P) where
   on_join d [] β p q = q
   on_join d (e ∷ α) β p q = (p.0, on_join d α β p.1 q)
 
-  pub body_on : (d : ℕ) (as' : Block (suc d)) → OnBlock (P) (suc d) as' → {a : AlternativeOf (Block d)} → Memᴰ a as'
+  pub body_on : (d : ℕ) {a : AlternativeOf (Block d)} (as' : Block (suc d)) → OnBlock (P) (suc d) as' → Memᴰ a as'
       → On P d a.elements
   unfolding OnBlock
   body_on d as' p (Memᴰ.head {xs = xs} e) = subst (λ a. On P d a.elements) (sym e) p.0

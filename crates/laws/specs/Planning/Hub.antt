@@ -139,14 +139,16 @@ module _ (g : Grammar) (cycle : List ℕ) (d : ℕ) (rs : List (RuleOf (Block (s
 
   none_wanted : first is_wanted candidates ≡ none → (j : ℕ) → Memᴰ j cycle → Candidate g cycle d rs preserved j
       → Wanted g cycle d rs preserved j → ⊥
-  none_wanted e j m c w = true≢false (sym (wanted_is j w) ∙ first_none is_wanted e (keep_in (is_candidate g cycle d rs) m (is_candidate_lem j c)))
+  none_wanted e j m c w =
+      true≢false (sym (wanted_is j w) ∙ first_none is_wanted e (keep_in (is_candidate g cycle d rs) m (is_candidate_lem j c)))
 
   pub hub_told_lem : HubTold g cycle d rs preserved (choose_hub g cycle d rs preserved)
   unfolding choose_hub
   hub_told_lem = choosing (first is_wanted candidates) refl
     where
       others : first is_wanted candidates ≡ none → (o : Option ℕ) → first (λ i. true) candidates ≡ o → HubTold g cycle d rs preserved o
-      others e none k = nobody (λ j m c. true≢false (first_none (λ i. true) k (keep_in (is_candidate g cycle d rs) m (is_candidate_lem j c))))
+      others e none k =
+          nobody (λ j m c. true≢false (first_none (λ i. true) k (keep_in (is_candidate g cycle d rs) m (is_candidate_lem j c))))
       others e (some i) k =
           let f = first_kept (is_candidate g cycle d rs) (λ i. true) cycle k in
           unwanted f.front f.rest f.whole (candidate i f.passes) (λ j m c. f.others j m (is_candidate_lem j c) refl)

@@ -9,7 +9,8 @@ use mathlib.Core.List.{List, [], ◌∷◌, ◌++◌, Memᴰ}
 use Rattle.std.proofs.Math.Option.{Option, none, some}
 use Rattle.std.proofs.Math.Bool.{true, false, true≢false}
 use Rattle.grammar.specs.Lists.{each, nothing, member, AllOf}
-use Rattle.grammar.specs.Tree.{ElementHead, Call, Leaf, epsilon, action, predicate, call, token, terminal, end_of_input, Element, leaf, block}
+use Rattle.grammar.specs.Tree.{ElementHead, Call, Leaf, epsilon, action, predicate, call, token, terminal, end_of_input, Element, leaf}
+use Rattle.grammar.specs.Tree.{block}
 use Rattle.grammar.specs.Tree.{AlternativeOf, Block}
 use Rattle.reference.specs.Walks.{silent, sort_of, is_epsilon_only, is_one, bare_reference, element_gives, block_gives}
 use Rattle.reference.specs.Analysis.{Grammar, target, calls, collect_calls_into}

@@ -43,7 +43,8 @@ leaf_none end_of_input = (λ _. (refl, refl), λ _. tt)
 abbrev code : {B : Type 0} → (B → Type 0) → Element B → Type 0
 code = OnElement (λ h l. NoCode l)
 
-module _ (d : ℕ) (inner : (b : Block d) → OnBlock (λ h l. NoCode l) d b ↔ None (block_ids action_sort d b) (block_ids predicate_sort d b)) where
+module _ (d : ℕ)
+    (inner : (b : Block d) → OnBlock (λ h l. NoCode l) d b ↔ None (block_ids action_sort d b) (block_ids predicate_sort d b)) where
   abbrev ids : ℕ → Element (Block d) → List ℕ
   ids k = element_ids k (block_ids k d)
 

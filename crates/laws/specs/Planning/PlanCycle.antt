@@ -37,7 +37,8 @@ module _ (c : Corners) (d : ℕ) (rs : List (RuleOf (Block (suc d)))) (g : Gramm
   -- The hub that is chosen is of the cycle, and a rule.
   pub candidate : (i : ℕ) → choose_hub g cycle d rs preserved ≡ some i → Memᴰ i cycle × (is_candidate g cycle d rs i ≡ true)
   unfolding choose_hub
-  candidate i e = go (first (λ i. member i (externally_referenced g cycle d rs ++ preserved)) (keep (is_candidate g cycle d rs) cycle)) refl e
+  candidate i e =
+      go (first (λ i. member i (externally_referenced g cycle d rs ++ preserved)) (keep (is_candidate g cycle d rs) cycle)) refl e
     where
       go : (o : Option ℕ) → first (λ i. member i (externally_referenced g cycle d rs ++ preserved)) (keep (is_candidate g cycle d rs) cycle)
           ≡ o

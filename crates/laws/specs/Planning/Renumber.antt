@@ -7,7 +7,8 @@ use Rattle.grammar.specs.Tree.{leaf, block, AlternativeOf, Block, Counters}
 use Rattle.grammar.specs.Laws.Parse.{either}
 use Rattle.grammar.specs.Numbers.{alternative_sort, element_sort}
 use Rattle.language.specs.Shape.{alts, erase_block}
-use Rattle.language.specs.Laws.Copies.{change_element, change_alternative, change_block, drop_ids, drop_label_id, drop_leaf_id, copies_shape}
+use Rattle.language.specs.Laws.Copies.{change_element, change_alternative, change_block, drop_ids, drop_label_id, drop_leaf_id}
+use Rattle.language.specs.Laws.Copies.{copies_shape}
 use Rattle.reference.specs.Substitute.{Planned}
 use Rattle.reference.specs.Apply.{Fresh, fresh_each, past, placed, apply_alternative, renumber_label, renumber_head, renumber_leaf}
 use Rattle.reference.specs.Apply.{renumber_element, renumber_elements, renumber_alternative, renumber_block}

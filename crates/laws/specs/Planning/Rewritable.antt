@@ -212,7 +212,8 @@ module _ (c : Corners) {d : ℕ} {rs : List (RuleOf (Block (suc d)))} (k : Known
       recursive p = is_recursive g hub.id d p.elements
 
 -- The same in the words of the demands.
-pub rewritable_told_lem : (c : Corners) (rules : List Rule) → Known body_depth rules (grammar_of body_depth rules) → (cycle : List ℕ) (hub : Rule)
+pub rewritable_told_lem : (c : Corners) (rules : List Rule) → Known body_depth rules (grammar_of body_depth rules)
+    → (cycle : List ℕ) (hub : Rule)
     → Memᴰ hub rules → member hub.id cycle ≡ true → (ps : List (Planned inner_depth))
     → (planned_hub_is_directly_rewritable c (grammar_of body_depth rules) cycle hub.id inner_depth ps ≡ true)
     ↔ Rewritable c rules cycle hub ps

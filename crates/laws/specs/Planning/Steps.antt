@@ -11,7 +11,8 @@ use Rattle.grammar.specs.Tree.{OptionDecl, call, Element, leaf, AlternativeOf, B
 use Rattle.grammar.specs.Lists.{first}
 use Rattle.grammar.specs.Numbers.{optional_greedy}
 use Rattle.reference.specs.Analysis.{Grammar, grammar_of, names_of, rule_with_id}
-use Rattle.reference.specs.Substitute.{dangling_reference, label_collision, binding_collision, option_collision, Decided, decided, ◌and_then◌}
+use Rattle.reference.specs.Substitute.{dangling_reference, label_collision, binding_collision, option_collision, Decided, decided}
+use Rattle.reference.specs.Substitute.{◌and_then◌}
 use Rattle.reference.specs.Substitute.{require, found, decide_each, in_slot_of, PlannedCorner, optional, satellite, blocked, settled}
 use Rattle.reference.specs.Substitute.{planned_corner, without, plain, split_optional, union_options, Planned, remaining_actions_reference}
 use Rattle.reference.specs.Substitute.{labels_collide, implicit_bindings_collide, splice_alternative, splice_satellite, replacement, step}

@@ -8,7 +8,8 @@ use Rattle.std.proofs.Math.Option.{some, some-injective}
 use Rattle.grammar.specs.Tree.{ElementHead, Call, call, leaf, Block, RuleOf}
 use Rattle.grammar.specs.Lists.{distinct}
 use Rattle.grammar.specs.Numbers.{once, optional_greedy}
-use Rattle.language.specs.Shape.{Shape, call_of, opt, alts, quantified, erase_leaf, erase_element, erase_elements, erase_block, Shapes, find}
+use Rattle.language.specs.Shape.{Shape, call_of, opt, alts, quantified, erase_leaf, erase_element, erase_elements, erase_block, Shapes}
+use Rattle.language.specs.Shape.{find}
 use Rattle.language.specs.Shape.{erase_rules}
 use Rattle.language.specs.Laws.Cover.{Alike, alike_refl, alike_trans}
 use Rattle.language.specs.Laws.Steps.{alike_slot, alike_behind}

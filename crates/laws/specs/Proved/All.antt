@@ -40,7 +40,8 @@ use Rattle.laws.specs.Analysis.Without.{as_before}
 use Rattle.laws.specs.BothReadings.Ends.{end_of_inputs_lem, empty_by_mark_lem}
 use Rattle.laws.specs.BothReadings.Without.{outcome_before}
 use Rattle.laws.specs.BothReadings.Sheets.{no_more_of_rust_lem, nullable_hub_returns_lem}
-use Rattle.laws.specs.Proved.Analysis.{sheet_empty, sheet_corners, textbook_corners_lem, sheet_cycles, origins_told_lem, result_reads_back_lem}
+use Rattle.laws.specs.Proved.Analysis.{sheet_empty, sheet_corners, textbook_corners_lem, sheet_cycles, origins_told_lem}
+use Rattle.laws.specs.Proved.Analysis.{result_reads_back_lem}
 use Rattle.laws.specs.Proved.Analysis.{stage_reads_back_lem, other_units}
 use Rattle.laws.specs.Proved.Demand3.{enough_turns_lem, demand3, bound, facts_stay_lem, preserved_rules_stay, trail_told_lem}
 use Rattle.laws.specs.Proved.Readings.{trees_told_lem, turns_told_lem, joined_told_lem}

@@ -9,7 +9,8 @@ use Rattle.grammar.specs.Reading.{Reading, refused, sheet, read}
 use Rattle.grammar.specs.Corners.{Corners}
 use Rattle.grammar.specs.Laws.Codec.{accepted_valid}
 use Rattle.reference.specs.Substitute.{Limits}
-use Rattle.reference.specs.Run.{Run, ended, stopped, eliminate_mutual_left_recursion, sheet_after, encode_entry, entries_of, answer, answer_run}
+use Rattle.reference.specs.Run.{Run, ended, stopped, eliminate_mutual_left_recursion, sheet_after, encode_entry, entries_of, answer}
+use Rattle.reference.specs.Run.{answer_run}
 use Rattle.reference.specs.Run.{answer_reading, answer_to}
 use Rattle.laws.specs.Demands.Answers.{GoodAnswer, Answered}
 use Rattle.laws.specs.Running.Stages.{valid_told}

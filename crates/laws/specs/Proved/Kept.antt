@@ -14,7 +14,8 @@ use Rattle.grammar.specs.Lists.{each}
 use Rattle.grammar.specs.Encode.{encode}
 use Rattle.grammar.specs.Numbers.{word_end}
 use Rattle.reference.specs.Substitute.{Limits}
-use Rattle.reference.specs.Run.{Stage, ended, eliminate_mutual_left_recursion, sheet_after, steps_of, encode_entry, entries_of, Outcome, filled}
+use Rattle.reference.specs.Run.{Stage, ended, eliminate_mutual_left_recursion, sheet_after, steps_of, encode_entry, entries_of, Outcome}
+use Rattle.reference.specs.Run.{filled}
 use Rattle.reference.specs.Run.{Answer, refusal, answer, answer_to, are_lent, untouched, delivered, outcome}
 use Rattle.grammar.specs.Reading.{is_length}
 use Rattle.laws.specs.Demands.Refusals.{RefusedSo}

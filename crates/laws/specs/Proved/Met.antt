@@ -80,7 +80,7 @@ ends_nowhere : AllOf (λ r. OnBlock NotEnd body_depth r.body) returning.rules
 unfolding OnBlock is_end
 ends_nowhere = (((refl, tt), ((refl, tt), tt)), (((refl, (refl, tt)), tt), tt))
 
-of_each : {A : Type 0} (P : A → Type 0) {xs : List A} {a : A} → Memᴰ a xs → AllOf P xs → P a
+of_each : {A : Type 0} (P : A → Type 0) {a : A} {xs : List A} → Memᴰ a xs → AllOf P xs → P a
 of_each P (Memᴰ.head e) p = subst P (sym e) p.0
 of_each P (Memᴰ.tail m) p = of_each P m p.1
 
@@ -142,7 +142,8 @@ hub_known = refl
 abbrev lent_zeros : ℕ → List ℕ
 lent_zeros n = replicate n 0
 
-number_0 : (outcome standard rust (bytes (encode bare)) (lent_zeros result_bytes) (lent_zeros trail_bytes) (lent_zeros work_bytes)).number ≡ 0
+number_0 : (outcome standard rust (bytes (encode bare)) (lent_zeros result_bytes) (lent_zeros trail_bytes) (lent_zeros work_bytes)).number
+    ≡ 0
 number_0 =
     ap (λ (o : Outcome). o.number)
     ((every_call_lem standard rust (bytes (encode bare)) (lent_zeros result_bytes) (lent_zeros trail_bytes) (lent_zeros work_bytes)
@@ -191,7 +192,8 @@ zeros_refused : (is_length (length (lent_zeros 32)) ≡ true) × (read (lent_zer
 unfolding computed
 zeros_refused = (refl, refl)
 
-number_of : (bs result trail work : List ℕ) → is_length (length bs) ≡ true → are_lent result trail work ≡ true → (n : ℕ) → read bs ≡ refused n
+number_of : (bs result trail work : List ℕ) → is_length (length bs) ≡ true → are_lent result trail work ≡ true → (n : ℕ)
+    → read bs ≡ refused n
     → (outcome standard rust bs result trail work).number ≡ n
 unfolding outcome answer_to answer_reading delivered
 number_of bs result trail work a b n e = rw (a, b, outcome) (rw e refl)

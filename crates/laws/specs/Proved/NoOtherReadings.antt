@@ -9,7 +9,8 @@ use Rattle.std.proofs.Math.Option.{some, some-injective, none-ne-some}
 use Rattle.grammar.specs.Lists
 use Rattle.grammar.specs.Corners.{rust}
 use Rattle.grammar.specs.Tree.{body_depth}
-use Rattle.language.specs.Shape.{Symbol, token_symbol, Word, Shape, symbol, call_of, seqs, alts, Shapes, quantified, erase_leaf, erase_element}
+use Rattle.language.specs.Shape.{Symbol, token_symbol, Word, Shape, symbol, call_of, seqs, alts, Shapes, quantified, erase_leaf}
+use Rattle.language.specs.Shape.{erase_element}
 use Rattle.language.specs.Shape.{erase_block, find}
 use Rattle.language.specs.Derive.{d_eps, d_symbol, d_call, d_seq, d_left, d_right, RuleDerives}
 use Rattle.language.specs.Readings.{Tree, t_eps, t_symbol, t_call, t_unknown, t_seq, t_left, t_right, Choice, first, next, choices, yield}

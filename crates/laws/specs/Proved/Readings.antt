@@ -4,7 +4,8 @@ use Rattle.language.specs.Shape.{Shapes}
 use Rattle.language.specs.Laws.Cover.{ButFor}
 use Rattle.language.specs.Laws.Trees.Derivations.{derivations}
 use Rattle.language.specs.Laws.Trees.Told.{told_apart_lem}
-use Rattle.language.specs.Laws.Trees.Slots.{some_around_lem, some_slot_lem, some_place_lem, some_call_lem, split_there_lem, split_gone_lem, splice_slot}
+use Rattle.language.specs.Laws.Trees.Slots.{some_around_lem, some_slot_lem, some_place_lem, some_call_lem, split_there_lem, split_gone_lem}
+use Rattle.language.specs.Laws.Trees.Slots.{splice_slot}
 use Rattle.language.specs.Laws.Trees.Slots.{slot_front_lem, slot_here_lem, slot_rest_lem}
 use Rattle.language.specs.Laws.Trees.Joined.{JoinedTrees, joined_to, carried_hub, carried_other}
 use Rattle.laws.specs.Demands.Readings.{TreesTold, TurnsTold, JoinedTold}

@@ -21,7 +21,8 @@ use Rattle.grammar.specs.Laws.Codec.{is_encoding_words}
 use Rattle.reference.specs.Substitute.{Limits}
 use Rattle.reference.specs.Apply.{Fresh, apply_plan}
 use Rattle.reference.specs.Run.{inner_depth, Stage, Run, ended, stopped, eliminate_mutual_left_recursion, sheet_after, steps_of, entries_of}
-use Rattle.reference.specs.Run.{encode_entry, Outcome, refusal, answer_run, answer_reading, answer_to, filled, are_lent, untouched, delivered}
+use Rattle.reference.specs.Run.{encode_entry, Outcome, refusal, answer_run, answer_reading, answer_to, filled, are_lent, untouched}
+use Rattle.reference.specs.Run.{delivered}
 use Rattle.reference.specs.Run.{outcome}
 use Rattle.grammar.specs.Numbers.{least_bytes, most_bytes, result_bytes, trail_bytes, work_bytes, most_words}
 use Rattle.grammar.specs.Numbers.{short_buffer, bad_trailer, shared_number, id_past_counter}

@@ -6,7 +6,8 @@ use mathlib.Core.List.Memᴰ
 use mathlib.Core.Equiv.{Iso}
 use Rattle.std.proofs.Math.Option.{some-injective}
 use Rattle.grammar.specs.Tree.{body_depth, inner_depth}
-use Rattle.language.specs.Shape.{token_symbol, Word, Shape, symbol, seqs, alts, Shapes, quantified, erase_leaf, erase_element, erase_elements}
+use Rattle.language.specs.Shape.{token_symbol, Word, Shape, symbol, seqs, alts, Shapes, quantified, erase_leaf, erase_element}
+use Rattle.language.specs.Shape.{erase_elements}
 use Rattle.language.specs.Shape.{erase_block, find}
 use Rattle.language.specs.Derive.{Der, d_eps, d_symbol, d_seq, d_left, d_right, RuleDerives}
 use Rattle.language.specs.Readings.{Tree, t_eps, t_symbol, t_seq, t_left, t_right, first, next, choices, yield, tree_of}

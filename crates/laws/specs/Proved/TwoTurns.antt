@@ -14,7 +14,8 @@ use Rattle.language.specs.Laws.Cover.{ButFor}
 use Rattle.language.specs.Laws.Trees.Carry.{Pairs, pairs_refl, pairs_trans}
 use Rattle.language.specs.Laws.Trees.Algebra.{join}
 use Rattle.language.specs.Laws.Trees.Steps.{split_pairs, splice_pairs, slot_pairs}
-use Rattle.language.specs.Laws.Trees.Slots.{At, here, there, on_at, in_front, behind, in_slot, around, split_there_lem, split_gone_lem, splice_slot}
+use Rattle.language.specs.Laws.Trees.Slots.{At, here, there, on_at, in_front, behind, in_slot, around, split_there_lem, split_gone_lem}
+use Rattle.language.specs.Laws.Trees.Slots.{splice_slot}
 use Rattle.language.specs.Laws.Trees.Slots.{slot_here_lem, slot_rest_lem}
 use Rattle.language.specs.Laws.Trees.Turns.{split, splice, Turn, slot, Turns, still, onward}
 use Rattle.language.specs.Laws.Trees.Told.{told_apart_lem}
@@ -195,7 +196,8 @@ module _ (G : Shapes) where
             let p : x ≡ call_of 2 = cc in
             let q : β ≡ dots ∷ [] = sym (parts_of β) ∙ ap parts (let u : seqs β ≡ seqs (dots ∷ []) = cc in u) in
             let r : rest ≡ map seqs ((int ∷ []) ∷ []) = cc in
-            subst (λ x. Split x β rest) (sym p) (subst (λ b. Split (call_of 2) b rest) (sym q) (subst (Split (call_of 2) (dots ∷ [])) (sym r)
+            subst (λ x. Split x β rest) (sym p) (subst (λ b. Split (call_of 2) b rest) (sym q)
+            (subst (Split (call_of 2) (dots ∷ [])) (sym r)
             (split_here e)))
         splits x (a ∷ α) β [] rest w =
             let u : seqs (α ++ (opt x ∷ β)) ≡ seqs (dots ∷ []) = cc in

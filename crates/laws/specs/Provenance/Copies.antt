@@ -107,7 +107,8 @@ module _ {B : Type 0} (renumber : B → Counters → Fresh B) (ids : Nodes B) (h
   unfolding renumber_elements
   copy_elements_lem = copy_each (λ k. element_nodes k (ids k)) (renumber_element renumber) copy_element_lem
 
-  copy_alternative_lem : (a : AlternativeOf B) (c : Counters) → Copies (λ k. alternative_nodes k (ids k)) a (renumber_alternative renumber a c)
+  copy_alternative_lem : (a : AlternativeOf B) (c : Counters)
+      → Copies (λ k. alternative_nodes k (ids k)) a (renumber_alternative renumber a c)
   unfolding renumber_alternative alternative_nodes
   copy_alternative_lem a c =
       copy_as (copy_both (copy_one alternative_sort c.alternative a.id) (copy_elements_lem a.elements (past alternative_sort c)))
@@ -157,7 +158,8 @@ module _ (k : ℕ) where
     alternative_ids_lem : (a : AlternativeOf B) → alternative_nodes of_sort nodes a ≡ alternative_ids k ids a
     unfolding alternative_nodes alternative_ids
     alternative_ids_lem a =
-        ap (λ l. of_sort alternative_sort a.id ++ l) (each_same (element_nodes of_sort nodes) (element_ids k ids) element_ids_lem a.elements)
+        ap (λ l. of_sort alternative_sort a.id ++ l)
+        (each_same (element_nodes of_sort nodes) (element_ids k ids) element_ids_lem a.elements)
 
   pub block_ids_lem : (d : ℕ) (b : Block d) → block_nodes of_sort d b ≡ block_ids k d b
   unfolding block_nodes block_ids

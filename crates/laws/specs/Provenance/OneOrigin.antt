@@ -61,7 +61,7 @@ trail_sort (t_rule h l t) e (Memᴰ.tail m) = trail_sort t e m
 trail_sort (t_fresh u b o l t) e (Memᴰ.head w) = inr (u, ap (λ x. x.kind) w)
 trail_sort (t_fresh u b o l t) e (Memᴰ.tail m) = trail_sort t e m
 
-numbers_in : (f : Entry → ℕ) (k : ℕ) {es : List Entry} {e : Entry} → Memᴰ e es → e.kind ≡ k → Memᴰ (f e) (numbers_at f k es)
+numbers_in : (f : Entry → ℕ) (k : ℕ) {e : Entry} {es : List Entry} → Memᴰ e es → e.kind ≡ k → Memᴰ (f e) (numbers_at f k es)
 numbers_in f k (Memᴰ.head {x = x} {xs = xs} w) e = rw (eq-eqb k x.kind (sym e ∙ ap (λ y. y.kind) w)) (Memᴰ.head (ap f w))
 numbers_in f k (Memᴰ.tail {x = x} {xs = xs} m) e = Memᴰ.append_right (only (eqb k x.kind) (f x)) (numbers_in f k m e)
 

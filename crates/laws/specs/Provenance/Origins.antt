@@ -162,7 +162,8 @@ stays (t_fresh {c = c} k b o m t) index s i l =
     omega arith)
 
 -- So does a hub's.
-hub_stays_lem : {c c' : Counters} {es : List Entry} → Trail c es c' → (index : List Origins) (h : ℕ) → origins index (rule h) ≡ hub_origin h ∷ []
+hub_stays_lem : {c c' : Counters} {es : List Entry} → Trail c es c' → (index : List Origins) (h : ℕ)
+    → origins index (rule h) ≡ hub_origin h ∷ []
     → origins (foldl recorded index es) (rule h) ≡ hub_origin h ∷ []
 hub_stays_lem t_end index h e = e
 hub_stays_lem (t_rule g w t) index h e =

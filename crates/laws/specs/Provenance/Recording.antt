@@ -5,7 +5,8 @@ use mathlib.Core.List.{List, [], ◌∷◌, ◌++◌, map, append_assoc, append-
 use Rattle.std.proofs.lemmas.Bool.{eqb-false}
 use Rattle.grammar.specs.Lists.{any}
 use Rattle.grammar.specs.Laws.Parse.{both_true, left_true, right_true, either}
-use Rattle.reference.specs.Apply.{Entry, Node, Origin, Origins, same_node, same_origin, origins, add_origins, record_model, record_clone, node_of}
+use Rattle.reference.specs.Apply.{Entry, Node, Origin, Origins, same_node, same_origin, origins, add_origins, record_model, record_clone}
+use Rattle.reference.specs.Apply.{node_of}
 use Rattle.reference.specs.Apply.{owner_of, origin_of, recorded}
 use Rattle.reference.specs.Numbers.{rule_boundary, block_boundary}
 use Rattle.grammar.specs.Laws.Lists.{in_map}
@@ -26,7 +27,8 @@ pub node_other : (m n : Node) → (m ≡ n → ⊥) → same_node m n ≡ false
 node_other m n ne = either (same_node m n) (λ t. absurd (ne (same_node_lem m n t))) (λ f. f)
 
 -- A recording adds to its node's list, and to no other.
-pub record_at : (index : List Origins) (n : Node) (os : List Origin) → origins (record_model index n os) n ≡ add_origins (origins index n) os
+pub record_at : (index : List Origins) (n : Node) (os : List Origin)
+    → origins (record_model index n os) n ≡ add_origins (origins index n) os
 unfolding origins record_model
 record_at [] n os = rw (node_same n n refl, origins) refl
 record_at (e ∷ es) n os =

@@ -218,7 +218,8 @@ module _ {B : Type 0} (renumber : B → Counters → Fresh B) (ids : ℕ → B �
   unfolding renumber_elements
   copied_elements = copied_each (λ k. element_ids k (ids k)) (renumber_element renumber) copied_element
 
-  copied_alternative : (a : AlternativeOf B) (c : Counters) → Copied (λ k. alternative_ids k (ids k)) a c (renumber_alternative renumber a c)
+  copied_alternative : (a : AlternativeOf B) (c : Counters)
+      → Copied (λ k. alternative_ids k (ids k)) a c (renumber_alternative renumber a c)
   unfolding renumber_alternative alternative_ids
   copied_alternative a c b =
       t_fresh of_alternative true a.id (b of_alternative a.id (Memᴰ.head refl))

@@ -8,7 +8,8 @@ use mathlib.Core.List.{List, [], ◌∷◌, Memᴰ}
 use Rattle.std.proofs.Math.Bool.{true, false}
 use Rattle.std.proofs.lemmas.Bool.{not-true}
 use Rattle.grammar.specs.Laws.Lists.{in_map}
-use Rattle.grammar.specs.Tree.{ElementHead, Call, epsilon, action, predicate, call, token, terminal, end_of_input, leaf, block, AlternativeOf}
+use Rattle.grammar.specs.Tree.{ElementHead, Call, epsilon, action, predicate, call, token, terminal, end_of_input, leaf, block}
+use Rattle.grammar.specs.Tree.{AlternativeOf}
 use Rattle.grammar.specs.Tree.{Block, RuleOf, Counters}
 use Rattle.grammar.specs.Lists.{member, all, any}
 use Rattle.language.specs.Shape.{erase_block, erase_rules, EachCall}
@@ -49,8 +50,8 @@ copy_starts d (leaf h' end_of_input ∷ es) h c rest e = absurd (let z : ◌≡�
 copy_starts d (block h' b ∷ es) h c rest e = absurd (let z : ◌≡◌ {A = ℕ} 0 1 = cc in omega arith)
 
 -- What each alternative of a body calls has a property.
-pub each_alternative : (P : ℕ → Type 0) (d : ℕ) {as' : Block (suc d)} → EachCall P (erase_block (suc d) as')
-    → {a : AlternativeOf (Block d)} → Memᴰ a as'
+pub each_alternative : (P : ℕ → Type 0) (d : ℕ) {a : AlternativeOf (Block d)} {as' : Block (suc d)} → EachCall P (erase_block (suc d) as')
+    → Memᴰ a as'
     → EachCall P (shape_of d a.elements)
 unfolding erase_block
 each_alternative P d p (Memᴰ.head e) = subst (λ a. EachCall P (shape_of d a.elements)) (sym e) p.0

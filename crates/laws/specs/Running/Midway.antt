@@ -21,7 +21,8 @@ use Rattle.reference.specs.Analysis.{grammar_of}
 use Rattle.reference.specs.Substitute.{Limits}
 use Rattle.reference.specs.Plan.{CyclePlan}
 use Rattle.reference.specs.Apply.{apply_plan}
-use Rattle.reference.specs.Run.{inner_depth, Stage, Search, no_plan, planned, too_large, Run, ended, stopped, find_plan, refusal_of, sheet_with}
+use Rattle.reference.specs.Run.{inner_depth, Stage, Search, no_plan, planned, too_large, Run, ended, stopped, find_plan, refusal_of}
+use Rattle.reference.specs.Run.{sheet_with}
 use Rattle.reference.specs.Run.{eliminate_mutual_left_recursion, sheet_after, entries_of, steps_of}
 use Rattle.laws.specs.Demands.Answers.{ReadsBack}
 use Rattle.laws.specs.Demands.Facts.{FactsStay}

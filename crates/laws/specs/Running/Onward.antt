@@ -9,7 +9,8 @@ use Rattle.grammar.specs.Corners.{Corners}
 use Rattle.reference.specs.Substitute.{Limits}
 use Rattle.reference.specs.Plan.{CyclePlan}
 use Rattle.reference.specs.Apply.{apply_plan}
-use Rattle.reference.specs.Run.{inner_depth, Stage, planned, Run, ended, stopped, preceded, find_plan, refusal_of, eliminate_in_unit, entries_of}
+use Rattle.reference.specs.Run.{inner_depth, Stage, planned, Run, ended, stopped, preceded, find_plan, refusal_of, eliminate_in_unit}
+use Rattle.reference.specs.Run.{entries_of}
 use Rattle.laws.specs.Running.Stages.{rules_after, counters_after, Happened, Chain, last, next, Stages, s_end, s_plan, turn, applying}
 use Rattle.laws.specs.Running.Stages.{turns_once}
 

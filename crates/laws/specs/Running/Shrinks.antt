@@ -94,7 +94,7 @@ module _ (o : Corners) {d : ℕ} {rs : List (RuleOf (Block (suc d)))} {g : Gramm
         ((corner_append (map e s.elements) (map e x.rest)).0
         (subst (λ l. Corner o before (seqs l) m) (map-append e s.elements x.rest) z))
       where
-        one_empty : {as' : List (AlternativeOf (Block d))} {s : AlternativeOf (Block d)} → Memᴰ s as'
+        one_empty : {s : AlternativeOf (Block d)} {as' : List (AlternativeOf (Block d))} → Memᴰ s as'
             → CanBeEmpty before (shape_of d s.elements)
             → CanBeEmpty before (alts (map (λ a. shape_of d a.elements) as'))
         one_empty (Memᴰ.head e) w = (alt_empty _ _).1 (inl (subst (λ a. CanBeEmpty before (shape_of d a.elements)) e w))

@@ -20,7 +20,8 @@ use Rattle.reference.specs.Analysis.{grammar_of, left_corner_cycles}
 use Rattle.reference.specs.Substitute.{Limits}
 use Rattle.reference.specs.Plan.{CyclePlan}
 use Rattle.reference.specs.Apply.{apply_plan}
-use Rattle.reference.specs.Run.{inner_depth, Stage, Search, no_plan, planned, too_large, Run, ended, stopped, preceded, find_plan, sheet_with}
+use Rattle.reference.specs.Run.{inner_depth, Stage, Search, no_plan, planned, too_large, Run, ended, stopped, preceded, find_plan}
+use Rattle.reference.specs.Run.{sheet_with}
 use Rattle.reference.specs.Run.{refusal_of, eliminate_in_unit, eliminate_mutual_left_recursion, sheet_after, entries_of, steps_of}
 use Rattle.laws.specs.Demands.Run.{EveryCycleDeclined}
 use Rattle.laws.specs.Planning.Substituted.{Known}
@@ -162,9 +163,14 @@ module _ (limits : Limits) (corners : Corners) (kind : ℕ) (preserved : List �
       → Stages (rules_after rs ts) (counters_after c ts) (n + length (entries_of ts)) us
   unfolding entries_of
   stages_behind {rs} {c} {n} [] us x = subst (λ m. Stages rs c m us) (omega arith) x
-  stages_behind {rs} {c} {n} (t ∷ ts) us (s_plan {plan = plan} f r x) =
+  stages_behind {rs} {c} {n} (t ∷ ts) us x =
       let l = length-append t.after.entries (entries_of ts) in
-      subst (λ m. Stages (rules_after rs (t ∷ ts)) (counters_after c (t ∷ ts)) m us) (omega arith) (stages_behind ts us x)
+      subst (λ m. Stages (rules_after rs (t ∷ ts)) (counters_after c (t ∷ ts)) m us) (omega arith)
+      (stages_behind {rs = t.after.node} {c = t.after.counters} {n = n + length t.after.entries} ts us (behind x))
+    where
+      behind : {rs : List Rule} {c : Counters} {n : ℕ} {t : Stage} → Stages rs c n (t ∷ (ts ++ us))
+          → Stages t.after.node t.after.counters (n + length t.after.entries) (ts ++ us)
+      behind (s_plan f r x) = x
 
   pub record FirstOf (rs : List Rule) (c : Counters) (n : ℕ) (t : Stage) : Type 0 where
     pub starts : t.before ≡ rs

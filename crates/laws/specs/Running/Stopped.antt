@@ -12,7 +12,8 @@ use Rattle.grammar.specs.Numbers.{parser}
 use Rattle.reference.specs.Substitute.{Limits}
 use Rattle.reference.specs.Plan.{CyclePlan}
 use Rattle.reference.specs.Apply.{apply_plan}
-use Rattle.reference.specs.Run.{inner_depth, Stage, Search, no_plan, planned, too_large, Run, ended, stopped, preceded, find_plan, refusal_of}
+use Rattle.reference.specs.Run.{inner_depth, Stage, Search, no_plan, planned, too_large, Run, ended, stopped, preceded, find_plan}
+use Rattle.reference.specs.Run.{refusal_of}
 use Rattle.reference.specs.Run.{eliminate_in_unit, eliminate_mutual_left_recursion, entries_of}
 use Rattle.laws.specs.Running.Stages.{rules_after, counters_after, Stages, s_end, s_plan, Rest, applying, turn, turns_once}
 
@@ -45,7 +46,8 @@ module _ (limits : Limits) (corners : Corners) (kind : ℕ) (preserved : List �
 
   -- Behind one stage more.
   stops_later : (rs : List Rule) (c : Counters) (recorded : ℕ) {cycle : List ℕ} {plan : CyclePlan inner_depth} {us : List Stage} {m : ℕ}
-      → find_plan limits corners preserved rs ≡ planned cycle plan → refusal_of kind preserved (apply_plan inner_depth rs plan c) recorded ≡ 0
+      → find_plan limits corners preserved rs ≡ planned cycle plan
+      → refusal_of kind preserved (apply_plan inner_depth rs plan c) recorded ≡ 0
       → Stopped (apply_plan inner_depth rs plan c).node (apply_plan inner_depth rs plan c).counters
       (recorded + length (apply_plan inner_depth rs plan c).entries) us m
       → Stopped rs c recorded (record { before = rs; cycle = cycle; plan = plan; after = apply_plan inner_depth rs plan c } ∷ us) m

@@ -12,7 +12,8 @@ use Rattle.grammar.specs.Laws.Parse.{either}
 use Rattle.grammar.specs.Laws.Words.{AreBytes}
 use Rattle.grammar.specs.Numbers.{parser}
 use Rattle.reference.specs.Substitute.{Limits}
-use Rattle.reference.specs.Run.{Stage, ended, no_plan, find_plan, eliminate_in_unit, eliminate_mutual_left_recursion, sheet_after, filled, are_lent}
+use Rattle.reference.specs.Run.{Stage, ended, no_plan, find_plan, eliminate_in_unit, eliminate_mutual_left_recursion, sheet_after, filled}
+use Rattle.reference.specs.Run.{are_lent}
 use Rattle.reference.specs.Run.{outcome}
 use Rattle.laws.specs.Running.Leaves.{Told}
 use Rattle.laws.specs.Running.Stages.{sheet_after_lem, sheet_preserved, turn, turns_once, sheet_ends, valid_told}
@@ -72,5 +73,6 @@ module _ (limits : Limits) (c : Corners) where
         work = filled [] work;
       }
   again s v f ts run result trail work l =
-      still_outcome limits c (bytes (encode (sheet_after s ts))) result trail work (bytes_are (encode (sheet_after s ts))) (sheet_after s ts)
+      still_outcome limits c (bytes (encode (sheet_after s ts))) result trail work
+      (bytes_are (encode (sheet_after s ts))) (sheet_after s ts)
       (result_reads_back_lem s v f limits c ts run).found (again_ends s (valid_told s v) ts run) l

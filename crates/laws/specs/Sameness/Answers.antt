@@ -9,7 +9,8 @@ use Rattle.grammar.specs.Encode.{encode}
 use Rattle.grammar.specs.Corners.{Corners}
 use Rattle.grammar.specs.Tree.{Sheet}
 use Rattle.reference.specs.Substitute.{Limits}
-use Rattle.reference.specs.Run.{Stage, Run, ended, stopped, eliminate_mutual_left_recursion, sheet_with, sheet_after, steps_of, encode_entry}
+use Rattle.reference.specs.Run.{Stage, Run, ended, stopped, eliminate_mutual_left_recursion, sheet_with, sheet_after, steps_of}
+use Rattle.reference.specs.Run.{encode_entry}
 use Rattle.reference.specs.Run.{entries_of, Answer, refusal, answer, answer_run}
 use Rattle.laws.specs.Demands.Marks.{on_sheet}
 use Rattle.laws.specs.Sameness.Runs.{on_stage, on_run, sheet_on}

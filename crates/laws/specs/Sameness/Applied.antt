@@ -13,8 +13,10 @@ use Rattle.grammar.specs.Tree.{end_of_input, Element, leaf, block, AlternativeOf
 use Rattle.grammar.specs.Tree.{with_alternative_id, with_elements}
 use Rattle.reference.specs.Substitute.{Planned}
 use Rattle.reference.specs.Plan.{CyclePlan}
-use Rattle.reference.specs.Apply.{clone, boundary, Fresh, with_entries, unchanged, recording, ◌followed_by◌, fresh_each, past, renumber_label}
-use Rattle.reference.specs.Apply.{renumber_head, renumber_leaf, renumber_element, renumber_elements, renumber_alternative, renumber_block, placed}
+use Rattle.reference.specs.Apply.{clone, boundary, Fresh, with_entries, unchanged, recording, ◌followed_by◌, fresh_each, past}
+use Rattle.reference.specs.Apply.{renumber_label}
+use Rattle.reference.specs.Apply.{renumber_head, renumber_leaf, renumber_element, renumber_elements, renumber_alternative, renumber_block}
+use Rattle.reference.specs.Apply.{placed}
 use Rattle.reference.specs.Apply.{apply_alternative, with_body, apply_plan}
 use Rattle.laws.specs.Lists.Mapped.{keep_same}
 use Rattle.laws.specs.Demands.Marks.{on_label, on_head, on_leaf, on_element, on_alternative, on_rule, on_block}
@@ -73,7 +75,8 @@ module _ (f r : ℕ → ℕ) where
         → renumber_element renumber (on_element f r on_b x) c ≡ on_fresh (on_element f r on_b) (renumber_element renumber x c)
     unfolding renumber_element on_element
     element_fresh (leaf h l) c =
-        ap (λ (x : Fresh ElementHead). x followed_by λ h' c₁. renumber_leaf (on_leaf f r l) c₁ followed_by λ l' c₂. unchanged (leaf h' l') c₂)
+        ap (λ (x : Fresh ElementHead). x followed_by λ h' c₁. renumber_leaf (on_leaf f r l) c₁
+        followed_by λ l' c₂. unchanged (leaf h' l') c₂)
         (head_fresh h c)
         ∙ ap (λ (y : Fresh Leaf). on_fresh (on_head f r) (renumber_head h c) followed_by λ h' c₁. y followed_by λ l' c₂.
         unchanged (leaf h' l') c₂) (leaf_fresh l (renumber_head h c).counters)
@@ -84,20 +87,23 @@ module _ (f r : ℕ → ℕ) where
         unchanged (block h' b') c₂) (e b (renumber_head h c).counters)
 
     elements_fresh : (es : List (Element B)) (c : Counters)
-        → renumber_elements renumber (map (on_element f r on_b) es) c ≡ on_fresh (map (on_element f r on_b)) (renumber_elements renumber es c)
+        → renumber_elements renumber (map (on_element f r on_b) es) c
+        ≡ on_fresh (map (on_element f r on_b)) (renumber_elements renumber es c)
     unfolding renumber_elements
     elements_fresh es c =
         fresh_each_on (on_element f r on_b) (on_element f r on_b) (renumber_element renumber) (renumber_element renumber) element_fresh es c
 
     alternative_fresh : (a : AlternativeOf B) (c : Counters)
-        → renumber_alternative renumber (on_alternative f r on_b a) c ≡ on_fresh (on_alternative f r on_b) (renumber_alternative renumber a c)
+        → renumber_alternative renumber (on_alternative f r on_b a) c
+        ≡ on_fresh (on_alternative f r on_b) (renumber_alternative renumber a c)
     unfolding renumber_alternative
     alternative_fresh a c =
         ap (λ (x : Fresh (List (Element B))). recording (clone alternative_sort c.alternative a.id)
         (x followed_by λ es c₁. unchanged (with_alternative_id c.alternative (with_elements es (on_alternative f r on_b a))) c₁))
         (elements_fresh a.elements (past alternative_sort c))
 
-  block_fresh : (d : ℕ) (b : Block d) (c : Counters) → renumber_block d (on_block f r d b) c ≡ on_fresh (on_block f r d) (renumber_block d b c)
+  block_fresh : (d : ℕ) (b : Block d) (c : Counters)
+      → renumber_block d (on_block f r d b) c ≡ on_fresh (on_block f r d) (renumber_block d b c)
   unfolding renumber_block on_block
   block_fresh zero b c = absurd b
   block_fresh (suc d) as' c =
@@ -112,7 +118,8 @@ module _ (f r : ℕ → ℕ) (one : (a b : ℕ) → f a ≡ f b → a ≡ b) (d 
   on_bodied = on_alternative f r (on_block f r d)
 
   -- An alternative, and the rules with the hub's body, as a plan leaves them.
-  applied_on : (p : Planned d) (c : Counters) → apply_alternative d (on_planned f r one d p) c ≡ on_fresh on_bodied (apply_alternative d p c)
+  applied_on : (p : Planned d) (c : Counters)
+      → apply_alternative d (on_planned f r one d p) c ≡ on_fresh on_bodied (apply_alternative d p c)
   unfolding apply_alternative
   applied_on p c =
       either p.verbatim

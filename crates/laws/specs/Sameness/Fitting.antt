@@ -78,7 +78,8 @@ module _ (f r : ℕ → ℕ) (words : (n : ℕ) → W n ≡ true → W (r n) ≡
   label_same unlabelled = refl
   label_same (labelled i n) = refl
 
-  head_words_lem : (x : ElementHead) (k : ℕ) → AllOf (Good f r) (head_names x) → Wordy (encode_head x k) → Wordy (encode_head (on_head f r x) k)
+  head_words_lem : (x : ElementHead) (k : ℕ) → AllOf (Good f r) (head_names x) → Wordy (encode_head x k)
+      → Wordy (encode_head (on_head f r x) k)
   unfolding encode_head
   head_words_lem x k h =
       more x.id x.id _ _ (λ t. t)
@@ -133,7 +134,8 @@ module _ (f r : ℕ → ℕ) (words : (n : ℕ) → W n ≡ true → W (r n) ≡
         (subst (λ k. Wordy (encode_head (on_head f r h) k)) (sym (kind_same l))
         (head_words_lem h (leaf_kind l) (left_of (Good f r) (head_names h) (names_of_leaf l) n)
         (wordy_left (encode_head h (leaf_kind l)) (encode_leaf l) t)))
-        (leaf_words_lem l (right_of (Good f r) (head_names h) (names_of_leaf l) n) (wordy_right (encode_head h (leaf_kind l)) (encode_leaf l) t))
+        (leaf_words_lem l (right_of (Good f r) (head_names h) (names_of_leaf l) n)
+        (wordy_right (encode_head h (leaf_kind l)) (encode_leaf l) t))
     element_words_lem (block h b) n t =
         wordy_both (encode_head (on_head f r h) block_kind) (enc (on_b b))
         (head_words_lem h block_kind (left_of (Good f r) (head_names h) (of_b b) n) (wordy_left (encode_head h block_kind) (enc b) t))

@@ -7,7 +7,8 @@ use mathlib.Core.List.{List, [], ◌∷◌, ◌++◌, map, map-append, map-map}
 use Rattle.grammar.specs.Laws.Parse.{either}
 use Rattle.grammar.specs.Lists.{each, member}
 use Rattle.grammar.specs.Corners.{Corners}
-use Rattle.grammar.specs.Tree.{OptionDecl, ElementHead, Leaf, epsilon, action, predicate, call, token, terminal, end_of_input, Element, leaf}
+use Rattle.grammar.specs.Tree.{OptionDecl, ElementHead, Leaf, epsilon, action, predicate, call, token, terminal, end_of_input, Element}
+use Rattle.grammar.specs.Tree.{leaf}
 use Rattle.grammar.specs.Tree.{block, AlternativeOf, Block, Rule, Sheet, body_depth}
 use Rattle.reference.specs.Walks.{label_names}
 use Rattle.reference.specs.Substitute.{Limits}

@@ -69,7 +69,8 @@ module _ (f r : ℕ → ℕ) where
 
   module _ {B : Type 0} (of_b : B → List ℕ) (on_b : B → B) (ok : B → Bool)
       (e : (b : B) → AllOf Good (of_b b) → ok b ≡ true → ok (on_b b) ≡ true) where
-    element_good : (x : Element B) → AllOf Good (element_names of_b x) → ok_element ok x ≡ true → ok_element ok (on_element f r on_b x) ≡ true
+    element_good : (x : Element B) → AllOf Good (element_names of_b x) → ok_element ok x ≡ true
+        → ok_element ok (on_element f r on_b x) ≡ true
     unfolding ok_element on_element element_names
     element_good (leaf h l) n t =
         both_true (ok_head (on_head f r h)) _ (head_good h (left_of Good (head_names h) (names_of_leaf l) n) (left_true (ok_head h) _ t))
@@ -108,7 +109,8 @@ module _ (f r : ℕ → ℕ) where
 
   -- All the rules.
   pub rules_good : (rs : List Rule) → AllOf Good (each (λ (q : Rule). q.name ∷ block_names body_depth q.body) rs)
-      → all (ok_rule (ok_block body_depth)) rs ≡ true → all (ok_rule (ok_block body_depth)) (map (on_rule f r (on_block f r body_depth)) rs) ≡ true
+      → all (ok_rule (ok_block body_depth)) rs ≡ true
+      → all (ok_rule (ok_block body_depth)) (map (on_rule f r (on_block f r body_depth)) rs) ≡ true
   rules_good =
       let ok = ok_rule (ok_block body_depth) in
       each_good (λ (q : Rule). q.name ∷ block_names body_depth q.body) (on_rule f r (on_block f r body_depth)) ok ok rule_good

@@ -97,7 +97,8 @@ module _ (f r : ℕ → ℕ) (one : (a b : ℕ) → f a ≡ f b → a ≡ b) (d 
           external_on (fun_ext candidate_on)
 
   -- A satellite can be inlined where it could.
-  pub inlinable_on : (q : RuleOf (Block (suc d))) → satellite_is_inlinable d (on_rule f r (on_block f r (suc d)) q) ≡ satellite_is_inlinable d q
+  pub inlinable_on : (q : RuleOf (Block (suc d)))
+      → satellite_is_inlinable d (on_rule f r (on_block f r (suc d)) q) ≡ satellite_is_inlinable d q
   unfolding satellite_is_inlinable satellite_has_embedded_semantics on_block
   inlinable_on q =
       ap₂ (λ a b. eqb q.flags 0 && (a && not (not (is_empty b))))

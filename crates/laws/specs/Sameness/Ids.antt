@@ -45,4 +45,5 @@ module _ (f r : ℕ → ℕ) (sort : ℕ) where
       let ids = element_ids sort (block_ids sort d) in
       each_same (on_alternative f r (on_block f r d)) (alternative_ids sort (block_ids sort d)) (alternative_ids sort (block_ids sort d))
       (λ a. ap (λ l. only (eqb sort alternative_sort) a.id ++ l)
-      (each_same (on_element f r (on_block f r d)) ids ids (element_ids_lem (on_block f r d) (block_ids sort d) (block_ids_lem d)) a.elements)) as'
+      (each_same (on_element f r (on_block f r d)) ids ids
+      (element_ids_lem (on_block f r d) (block_ids sort d) (block_ids_lem d)) a.elements)) as'

@@ -37,7 +37,8 @@ module _ (f r : ℕ → ℕ) where
     element_length (block h b) =
         both_length (encode_head (on_head f r h) _) (enc (on_b b)) (encode_head h _) (enc b) (head_length h _ _) (e b)
 
-    alternative_length : (a : AlternativeOf B) → length (encode_alternative enc (on_alternative f r on_b a)) ≡ length (encode_alternative enc a)
+    alternative_length : (a : AlternativeOf B)
+        → length (encode_alternative enc (on_alternative f r on_b a)) ≡ length (encode_alternative enc a)
     unfolding encode_alternative
     alternative_length a =
         ap (λ n. suc (suc (suc (suc (suc n)))))
@@ -55,7 +56,8 @@ module _ (f r : ℕ → ℕ) where
       (alternative_length (on_block f r d) (encode_block d) (block_length d)) as')
 
   rule_length : (q : Rule)
-      → length (encode_rule (encode_block body_depth) (on_rule f r (on_block f r body_depth) q)) ≡ length (encode_rule (encode_block body_depth) q)
+      → length (encode_rule (encode_block body_depth) (on_rule f r (on_block f r body_depth) q))
+      ≡ length (encode_rule (encode_block body_depth) q)
   unfolding encode_rule
   rule_length q = ap (λ n. suc (suc (suc n))) (block_length body_depth q.body)
 

@@ -17,7 +17,8 @@ use Rattle.grammar.specs.Lists.{member, all, keep, first, rounds, sorted}
 use Rattle.grammar.specs.Tree.{Label, unlabelled, labelled, ElementHead, Call, with_label, Leaf, epsilon, action, predicate, call, token}
 use Rattle.grammar.specs.Tree.{terminal, end_of_input, Element, leaf, block, Block, RuleOf}
 use Rattle.reference.specs.Walks.{sort_of, is_end, is_optional, is_one, bare_reference}
-use Rattle.reference.specs.Analysis.{Name, Grammar, name_of, names_of, target, leaf_nullable, element_nullable, block_is_nullable, nullable_round}
+use Rattle.reference.specs.Analysis.{Name, Grammar, name_of, names_of, target, leaf_nullable, element_nullable, block_is_nullable}
+use Rattle.reference.specs.Analysis.{nullable_round}
 use Rattle.reference.specs.Analysis.{ids_of, nullable_rules, grammar_of, calls, is_stop, collect_left_corner_calls, block_corners, row_of}
 use Rattle.reference.specs.Analysis.{cycles_from, reach, left_corner_cycles}
 use Rattle.reference.specs.Substitute.{PlannedCorner, optional, satellite, blocked, settled, further, member_corner, planned_corner}
@@ -117,7 +118,8 @@ module _ (f r : ℕ → ℕ) (one : (a b : ℕ) → f a ≡ f b → a ≡ b) whe
     module _ (c : Corners) {B : Type 0} (on_b : B → B) (corners : B → List ℕ) (corners' : B → List ℕ) (test test' : B → Bool)
         (h : (b : B) → corners' (on_b b) ≡ corners b) (k : (b : B) → test' (on_b b) ≡ test b) where
       pub corners_on : (es : List (Element B))
-          → collect_left_corner_calls c (on_grammar g) corners' test' (map (on_element f r on_b) es) ≡ collect_left_corner_calls c g corners test es
+          → collect_left_corner_calls c (on_grammar g) corners' test' (map (on_element f r on_b) es)
+          ≡ collect_left_corner_calls c g corners test es
       unfolding collect_left_corner_calls on_element element_nullable
       corners_on [] = refl
       corners_on (leaf x l ∷ es) =

@@ -57,7 +57,8 @@ module _ (f g r : ℕ → ℕ) where
     element_agrees : (x : Element B) → Agree (element_names of_b x) → on_element f r on_b x ≡ on_element g r on_b' x
     unfolding element_names on_element
     element_agrees (leaf h l) t =
-        ap₂ leaf (head_agrees h (left_of Eq (head_names h) (names_of_leaf l) t)) (leaf_agrees l (right_of Eq (head_names h) (names_of_leaf l) t))
+        ap₂ leaf (head_agrees h (left_of Eq (head_names h) (names_of_leaf l) t))
+        (leaf_agrees l (right_of Eq (head_names h) (names_of_leaf l) t))
     element_agrees (block h b) t =
         ap₂ block (head_agrees h (left_of Eq (head_names h) (of_b b) t)) (e b (right_of Eq (head_names h) (of_b b) t))
 
@@ -80,6 +81,7 @@ module _ (f g r : ℕ → ℕ) where
   unfolding names_in on_sheet
   sheet_agrees s h =
       ap (λ rs. record { kind = s.kind; rules = rs; preserved = s.preserved; counters = s.counters })
-      (each_agrees (λ q. q.name ∷ block_names body_depth q.body) (on_rule f r (on_block f r body_depth)) (on_rule g r (on_block g r body_depth))
+      (each_agrees (λ q. q.name ∷ block_names body_depth q.body) (on_rule f r (on_block f r body_depth))
+      (on_rule g r (on_block g r body_depth))
       (λ q t. ap₂ (λ (n : ℕ) (b : Block body_depth). record { id = q.id; name = n; flags = q.flags; body = b }) t.0
       (block_agrees body_depth q.body t.1)) s.rules (all_members Eq (names_in s) h))

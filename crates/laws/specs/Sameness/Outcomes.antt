@@ -18,7 +18,8 @@ use Rattle.grammar.specs.Laws.Parse.{either}
 use Rattle.grammar.specs.Laws.Words.{AreBytes}
 use Rattle.grammar.specs.Laws.Codec.{accepted_valid}
 use Rattle.reference.specs.Substitute.{Limits}
-use Rattle.reference.specs.Run.{Stage, Run, ended, stopped, eliminate_mutual_left_recursion, sheet_after, steps_of, encode_entry, entries_of}
+use Rattle.reference.specs.Run.{Stage, Run, ended, stopped, eliminate_mutual_left_recursion, sheet_after, steps_of, encode_entry}
+use Rattle.reference.specs.Run.{entries_of}
 use Rattle.reference.specs.Run.{Answer, Outcome, refusal, answer, answer_run, answer_reading, answer_to, filled, are_lent, untouched}
 use Rattle.reference.specs.Run.{delivered, outcome}
 use Rattle.laws.specs.Demands.Table.{GoodLength, Lent}

@@ -15,7 +15,8 @@ use Rattle.reference.specs.Analysis.{Grammar, rule_with_id, collect_calls_in_ele
 use Rattle.reference.specs.Substitute.{Limits, decided, ◌and_then◌, require, found, Planned, Substituted, no_hub, hub_with_arguments}
 use Rattle.reference.specs.Substitute.{satellite_not_inlinable, no_steps, not_directly_rewritable, substitution_budget, substitute}
 use Rattle.reference.specs.Plan.{choose_hub, satellite_is_inlinable, planned_hub_is_directly_rewritable, calls_kept, removable_round}
-use Rattle.reference.specs.Plan.{removable_satellites, CyclePlan, as_it_is, as_they_are, satellites, plan_of, last_tests, substituting, with_rule}
+use Rattle.reference.specs.Plan.{removable_satellites, CyclePlan, as_it_is, as_they_are, satellites, plan_of, last_tests, substituting}
+use Rattle.reference.specs.Plan.{with_rule}
 use Rattle.reference.specs.Plan.{with_hub, plan_cycle}
 use Rattle.laws.specs.Lists.Mapped.{all_same, keep_same, each_same}
 use Rattle.laws.specs.Demands.Marks.{on_alternative, on_rule, on_block}
@@ -101,7 +102,8 @@ module _ (f r : ℕ → ℕ) (one : (a b : ℕ) → f a ≡ f b → a ≡ b) (d 
             ∙ then_on (on_substituted f r one d) on_plan (substitute d rs g cycle hub limits fuel 0 (as_they_are q.body))
             (last_tests limits c g d rs preserved cycle hub) (last_tests limits c g' d rs' preserved cycle hub) last_on
 
-        satellites_on : all (satellite_is_inlinable d) (satellites d rs' cycle hub) ≡ all (satellite_is_inlinable d) (satellites d rs cycle hub)
+        satellites_on : all (satellite_is_inlinable d) (satellites d rs' cycle hub)
+            ≡ all (satellite_is_inlinable d) (satellites d rs cycle hub)
         satellites_on =
             let test : RuleOf (Block (suc d)) → Bool = λ s. member s.id cycle && not (eqb s.id hub) in
             ap (all (satellite_is_inlinable d)) (keep_same on_whole test test (λ s. refl) rs)
@@ -113,7 +115,8 @@ module _ (f r : ℕ → ℕ) (one : (a b : ℕ) → f a ≡ f b → a ≡ b) (d 
         rule_plan_on q =
             require_on on_plan hub_with_arguments (eqb (q.flags % 2) 0) _ _
             (ap (λ b. require satellite_not_inlinable b λ _. substituting limits c g' d rs' preserved cycle hub (on_whole q)) satellites_on
-            ∙ require_on on_plan satellite_not_inlinable (all (satellite_is_inlinable d) (satellites d rs cycle hub)) _ _ (substituting_on q))
+            ∙ require_on on_plan satellite_not_inlinable
+            (all (satellite_is_inlinable d) (satellites d rs cycle hub)) _ _ (substituting_on q))
 
         hub_plan_on : with_hub limits c g' d rs' preserved cycle hub ≡ on_decided on_plan (with_hub limits c g d rs preserved cycle hub)
         hub_plan_on =

@@ -72,7 +72,8 @@ module _ (f r : ℕ → ℕ) (one : (a b : ℕ) → f a ≡ f b → a ≡ b) (d 
 
   -- Either sort of alternative.
   tail_on : (es : Elements d)
-      → all (element_nullable g' (block_is_nullable g' d)) (drop 1 (on_elements es)) ≡ all (element_nullable g (block_is_nullable g d)) (drop 1 es)
+      → all (element_nullable g' (block_is_nullable g' d)) (drop 1 (on_elements es))
+      ≡ all (element_nullable g (block_is_nullable g d)) (drop 1 es)
   tail_on es =
       ap (all (element_nullable g' (block_is_nullable g' d))) (drop_on (on f r one d) 1 es)
       ∙ elements_on f r one g (on_block f r d) (block_is_nullable g d) (block_is_nullable g' d) (block_on f r one g d) (drop 1 es)
@@ -96,7 +97,8 @@ module _ (f r : ℕ → ℕ) (one : (a b : ℕ) → f a ≡ f b → a ≡ b) (d 
     left_on : (es : Elements d) → left_corners c g' d (on_elements es) ≡ left_corners c g d es
     unfolding left_corners
     left_on es =
-        corners_on f r one g c (on_block f r d) (block_corners c g d) (block_corners c g' d) (block_is_nullable g d) (block_is_nullable g' d)
+        corners_on f r one g c (on_block f r d) (block_corners c g d) (block_corners c g' d)
+        (block_is_nullable g d) (block_is_nullable g' d)
         (block_corners_on f r one g c d) (block_on f r one g d) es
 
     primary_on : (es : Elements d) → is_primary c g' cycle hub d (on_elements es) ≡ is_primary c g cycle hub d es

@@ -17,7 +17,8 @@ use Rattle.reference.specs.Analysis.{Grammar, grammar_of, left_corner_cycles}
 use Rattle.reference.specs.Substitute.{Decided, decided, declined, overfull, Limits}
 use Rattle.reference.specs.Plan.{CyclePlan, plan_cycle}
 use Rattle.reference.specs.Apply.{Fresh, apply_plan}
-use Rattle.reference.specs.Run.{inner_depth, Stage, Search, no_plan, planned, too_large, Run, ended, stopped, preceded, search_cycles, find_plan}
+use Rattle.reference.specs.Run.{inner_depth, Stage, Search, no_plan, planned, too_large, Run, ended, stopped, preceded, search_cycles}
+use Rattle.reference.specs.Run.{find_plan}
 use Rattle.reference.specs.Run.{are_words, sheet_with, is_short, refusal_of, eliminate_in_unit, eliminate_mutual_left_recursion}
 use Rattle.laws.specs.Running.Stages.{Rest, turn, turns_once, applying}
 use Rattle.laws.specs.Demands.Marks.{on_rule, on_block, on_sheet}
@@ -64,14 +65,16 @@ module _ (f r : ℕ → ℕ) (one : (a b : ℕ) → f a ≡ f b → a ≡ b) whe
 
   module _ (limits : Limits) (c : Corners) (preserved : List ℕ) where
     search_on : (g : Grammar) (rs : List Rule) (cycles : List (List ℕ))
-        → search_cycles limits c preserved (on_grammar f r one g) (on_all rs) cycles ≡ on_search (search_cycles limits c preserved g rs cycles)
+        → search_cycles limits c preserved (on_grammar f r one g) (on_all rs) cycles
+        ≡ on_search (search_cycles limits c preserved g rs cycles)
     unfolding search_cycles
     search_on g rs [] = refl
     search_on g rs (cycle ∷ more) =
         rw (plan_on f r one inner_depth limits c g rs preserved cycle, search_cycles)
         (go (search_on g rs more) (plan_cycle limits c g inner_depth rs preserved cycle))
       where
-        go : search_cycles limits c preserved (on_grammar f r one g) (on_all rs) more ≡ on_search (search_cycles limits c preserved g rs more)
+        go : search_cycles limits c preserved (on_grammar f r one g) (on_all rs) more
+            ≡ on_search (search_cycles limits c preserved g rs more)
             → (x : Decided (CyclePlan inner_depth))
             → (elim (on_decided (on_plan f r one inner_depth) x) as (λ y. Search) [
               | decided plan ↦ planned cycle plan
@@ -90,7 +93,8 @@ module _ (f r : ℕ → ℕ) (one : (a b : ℕ) → f a ≡ f b → a ≡ b) whe
     find_on : (rs : List Rule) → find_plan limits c preserved (on_all rs) ≡ on_search (find_plan limits c preserved rs)
     unfolding find_plan
     find_on rs =
-        ap (λ g. search_cycles limits c preserved g (on_all rs) (left_corner_cycles c g body_depth (on_all rs))) (grammar_on f r one body_depth rs)
+        ap (λ g. search_cycles limits c preserved g (on_all rs) (left_corner_cycles c g body_depth (on_all rs)))
+        (grammar_on f r one body_depth rs)
         ∙ ap (search_cycles limits c preserved (on_grammar f r one (grammar_of body_depth rs)) (on_all rs))
         (cycles_on f r one (grammar_of body_depth rs) c body_depth rs)
         ∙ search_on (grammar_of body_depth rs) rs (left_corner_cycles c (grammar_of body_depth rs) body_depth rs)

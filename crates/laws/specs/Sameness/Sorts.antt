@@ -77,7 +77,8 @@ module _ (f r : ℕ → ℕ) where
   options_told (o ∷ os) = more_name (more_kept refl (options_told os))
 
   references_told : (os : List Reference)
-      → Told (flat_map reference_sorts os) (each encode_reference os) (each encode_reference (map (on_reference f r) os)) (map (λ o. o.name) os)
+      → Told (flat_map reference_sorts os) (each encode_reference os) (each encode_reference (map (on_reference f r) os))
+      (map (λ o. o.name) os)
   unfolding flat_map
   references_told [] = none
   references_told (o ∷ os) = more_kept refl (more_name (references_told os))
@@ -135,7 +136,8 @@ module _ (f r : ℕ → ℕ) where
   block_told (suc d) as' =
       more_kept (length-map as' (on_alternative f r (on_block f r d)))
       (told_each (alternative_sorts (block_sorts d)) (on_alternative f r (on_block f r d)) (encode_alternative (encode_block d))
-      (alternative_names (block_names d)) (alternative_told (block_sorts d) (on_block f r d) (encode_block d) (block_names d) (block_told d)) as')
+      (alternative_names (block_names d))
+      (alternative_told (block_sorts d) (on_block f r d) (encode_block d) (block_names d) (block_told d)) as')
 
   rule_told : (q : Rule)
       → Told (rule_sorts (block_sorts body_depth) q) (encode_rule (encode_block body_depth) q)

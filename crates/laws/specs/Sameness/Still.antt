@@ -14,7 +14,8 @@ use Rattle.grammar.specs.Laws.Words.{AreBytes, length_words, bytes_words}
 use Rattle.grammar.specs.Laws.Codec.{is_encoding_words}
 use Rattle.grammar.specs.Numbers.{most_bytes, least_bytes, bad_length}
 use Rattle.reference.specs.Substitute.{Limits}
-use Rattle.reference.specs.Run.{ended, eliminate_mutual_left_recursion, sheet_after, steps_of, entries_of, answer, answer_run, answer_reading}
+use Rattle.reference.specs.Run.{ended, eliminate_mutual_left_recursion, sheet_after, steps_of, entries_of, answer, answer_run}
+use Rattle.reference.specs.Run.{answer_reading}
 use Rattle.reference.specs.Run.{answer_to, filled, are_lent, delivered, outcome}
 
 module _ (limits : Limits) (c : Corners) where

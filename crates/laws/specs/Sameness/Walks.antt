@@ -7,7 +7,8 @@ use mathlib.Core.List.{List, [], ◌∷◌, ◌++◌, map, map-append, map-map}
 use Rattle.std.proofs.Math.Bool.{◌||◌}
 use Rattle.grammar.specs.Lists.{each, member, nothing, keep, meet}
 use Rattle.grammar.specs.Numbers.{qualified}
-use Rattle.grammar.specs.Tree.{Reference, Label, unlabelled, labelled, Leaf, epsilon, action, predicate, call, token, terminal, end_of_input}
+use Rattle.grammar.specs.Tree.{Reference, Label, unlabelled, labelled, Leaf, epsilon, action, predicate, call, token, terminal}
+use Rattle.grammar.specs.Tree.{end_of_input}
 use Rattle.grammar.specs.Tree.{Element, leaf, block, Block}
 use Rattle.reference.specs.Walks.{element_gives, block_gives, elements_give, label_names, leaf_names, references}
 use Rattle.reference.specs.Substitute.{without, remaining_actions_reference, collect_labels, action_reference_names, bindable_names}

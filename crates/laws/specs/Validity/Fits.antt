@@ -10,7 +10,8 @@ use Rattle.std.proofs.Math.Dec.{ltb}
 use borrow.Author.Tests.{leb-true, ltb-true, le-leb, lt-ltb}
 use Rattle.grammar.specs.Tree.{Leaf, epsilon, action, predicate, call, token, terminal, end_of_input, Element, leaf, block, AlternativeOf}
 use Rattle.grammar.specs.Tree.{Block, Rule, Counters, Sheet, body_depth}
-use Rattle.grammar.specs.Encode.{encode_option, encode_head, leaf_kind, encode_leaf, encode_element, encode_alternative, encode_rule, encode_block}
+use Rattle.grammar.specs.Encode.{encode_option, encode_head, leaf_kind, encode_leaf, encode_element, encode_alternative, encode_rule}
+use Rattle.grammar.specs.Encode.{encode_block}
 use Rattle.grammar.specs.Encode.{encode_rules, encode_counters, encode}
 use Rattle.grammar.specs.Lists.{each, only, below, all}
 use Rattle.grammar.specs.Read.{is_name}

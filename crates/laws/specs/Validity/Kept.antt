@@ -7,7 +7,8 @@ use Rattle.grammar.specs.Tree.{end_of_input, Element, leaf, block, AlternativeOf
 use Rattle.grammar.specs.Lists.{each, all}
 use Rattle.grammar.specs.Valid.{ok_label, ok_head, ok_leaf, ok_element, ok_alternative, ok_block}
 use Rattle.grammar.specs.Numbers.{alternative_sort, element_sort}
-use Rattle.reference.specs.Apply.{Fresh, fresh_each, past, renumber_label, renumber_head, renumber_leaf, renumber_element, renumber_elements}
+use Rattle.reference.specs.Apply.{Fresh, fresh_each, past, renumber_label, renumber_head, renumber_leaf, renumber_element}
+use Rattle.reference.specs.Apply.{renumber_elements}
 use Rattle.reference.specs.Apply.{renumber_alternative, renumber_block}
 use Rattle.laws.specs.Validity.Wordy.{leaf_words, head_words, element_words, alternative_words, block_words}
 
@@ -66,7 +67,8 @@ module _ {B : Type 0} (renumber : B → Counters → Fresh B) (ok : B → Bool)
   unfolding renumber_elements
   ok_elements = all_kept (renumber_element renumber) (ok_element ok) ok_element_lem
 
-  pub ok_alternative_lem : (a : AlternativeOf B) (c : Counters) → ok_alternative ok (renumber_alternative renumber a c).node ≡ ok_alternative ok a
+  pub ok_alternative_lem : (a : AlternativeOf B) (c : Counters)
+      → ok_alternative ok (renumber_alternative renumber a c).node ≡ ok_alternative ok a
   unfolding renumber_alternative ok_alternative
   ok_alternative_lem a c = rw (ok_elements a.elements (past alternative_sort c)) refl
 

@@ -17,7 +17,8 @@ use Rattle.grammar.specs.Valid.{ok_rules, valid}
 use Rattle.grammar.specs.Ids.{is_distinct, is_below}
 use Rattle.grammar.specs.Laws.Parse.{either}
 use Rattle.reference.specs.Walks.{label_names}
-use Rattle.laws.specs.Demands.Names.{ok_option_by, ok_reference_by, ok_label_by, ok_head_by, ok_leaf_by, ok_element_by, ok_alternative_by, ok_rule_by}
+use Rattle.laws.specs.Demands.Names.{ok_option_by, ok_reference_by, ok_label_by, ok_head_by, ok_leaf_by, ok_element_by, ok_alternative_by}
+use Rattle.laws.specs.Demands.Names.{ok_rule_by}
 use Rattle.laws.specs.Demands.Names.{ok_block_by, ok_rules_by, valid_by, up_to, NamesFitted}
 use Rattle.laws.specs.Demands.Marks.{option_names, head_names, names_of_leaf, element_names, alternative_names, block_names, names_in}
 

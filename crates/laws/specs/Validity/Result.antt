@@ -22,7 +22,8 @@ use Rattle.grammar.specs.Numbers.{word_end}
 use Rattle.reference.specs.Substitute.{Limits}
 use Rattle.reference.specs.Plan.{CyclePlan}
 use Rattle.reference.specs.Apply.{unchanged, apply_plan, Entry}
-use Rattle.reference.specs.Run.{inner_depth, Stage, planned, find_plan, ended, are_words, sheet_with, refusal_of, eliminate_mutual_left_recursion}
+use Rattle.reference.specs.Run.{inner_depth, Stage, planned, find_plan, ended, are_words, sheet_with, refusal_of}
+use Rattle.reference.specs.Run.{eliminate_mutual_left_recursion}
 use Rattle.reference.specs.Run.{sheet_after, entries_of, encode_entry}
 use Rattle.laws.specs.Lists.Lookup.{all_in}
 use Rattle.laws.specs.Demands.Answers.{ReadsBack, GoodAnswer}
@@ -182,10 +183,21 @@ module _ (limits : Limits) (corners : Corners) where
     stages_traced : (front : List Stage) (t : Stage) (rest : List Stage) {rs : List Rule} {c : Counters} {n : ℕ}
         → Stages limits corners kind preserved rs c n (front ++ (t ∷ rest)) → Good (sheet_by rs c)
         → Trail (counters_after c front) t.after.entries t.after.counters
-    stages_traced [] t rest (s_plan {rs = rs} {c = c} {plan = plan} f r x) g =
-        applied_trace inner_depth c rs (good_sound g) plan (plan_found preserved rs c f)
-    stages_traced (u ∷ front) t rest (s_plan {rs = rs} {c = c} {n = n} f r x) g =
-        stages_traced front t rest x (stage_good (sheet_by rs c) n f r g)
+    stages_traced [] t rest y g = here y g
+      where
+        here : {rs : List Rule} {c : Counters} {n : ℕ} {t : Stage} → Stages limits corners kind preserved rs c n (t ∷ rest)
+            → Good (sheet_by rs c)
+            → Trail c t.after.entries t.after.counters
+        here (s_plan {rs = rs} {c = c} {plan = plan} f r x) g =
+            applied_trace inner_depth c rs (good_sound g) plan (plan_found preserved rs c f)
+    stages_traced (u ∷ front) t rest y g = let z = behind y g in stages_traced front t rest z.0 z.1
+      where
+        behind : {rs : List Rule} {c : Counters} {n : ℕ} {u : Stage}
+            → Stages limits corners kind preserved rs c n (u ∷ (front ++ (t ∷ rest)))
+            → Good (sheet_by rs c)
+            → Stages limits corners kind preserved u.after.node u.after.counters (n + length u.after.entries) (front ++ (t ∷ rest))
+            × Good (sheet_by u.after.node u.after.counters)
+        behind (s_plan {rs = rs} {c = c} {n = n} f r x) g = (x, stage_good (sheet_by rs c) n f r g)
 
     pub stages_short : {rs : List Rule} {c : Counters} {n : ℕ} {ss : List Stage} → Stages limits corners kind preserved rs c n ss
         → n ≤ most_entries → n + length (entries_of ss) ≤ most_entries
@@ -206,7 +218,8 @@ module _ (limits : Limits) (corners : Corners) where
     stages_words (s_plan {rs = rs} {c = c} {n = n} {plan = plan} f r x) l =
         stages_words x (not_refused kind preserved (apply_plan inner_depth rs plan c) n r).short
 
-  pub run_good : (s : Sheet) {ss : List Stage} → eliminate_mutual_left_recursion limits corners s ≡ ended ss → Good s → Good (sheet_after s ss)
+  pub run_good : (s : Sheet) {ss : List Stage} → eliminate_mutual_left_recursion limits corners s ≡ ended ss → Good s
+      → Good (sheet_after s ss)
   run_good s {ss} e g = stages_good s.kind s.preserved (sheet_ends limits corners s ss e).0 g
 
   pub run_each : (s : Sheet) {ss : List Stage} → eliminate_mutual_left_recursion limits corners s ≡ ended ss → Good s → {t : Stage}

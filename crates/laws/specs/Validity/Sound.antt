@@ -106,7 +106,8 @@ module _ (d : ℕ) (c : Counters) where
         (both_true _ _ o (ok_elements (renumber_block d) (ok_block d) (ok_block_lem d) p.elements (past alternative_sort c₁)
         ∙ elements_ok))))
 
-    parts_words : (es : List (Element (Block d))) → each (element_words (block_words d)) es ≡ each (element_words (block_words d)) p.elements
+    parts_words : (es : List (Element (Block d)))
+        → each (element_words (block_words d)) es ≡ each (element_words (block_words d)) p.elements
         → (w : ℕ) → Memᴰ w (p.carried ∷ (option_words p.options ++ each (element_words (block_words d)) es)) → w < word_end
     parts_words es e w (Memᴰ.head q) = let x = h.slot.1 in omega arith
     parts_words es e w (Memᴰ.tail m) =
