@@ -186,11 +186,13 @@ pub record LeafSeen (v : View) (ws : List ℕ) (end kind p : ℕ) (skips : Bool)
 module _ (v : View) (ws : List ℕ) (end : ℕ) where
   abbrev pub OutermostWalked : ℕ → Seen → ℕ → Seen → Type 0
   OutermostWalked =
-      WalkedOne ws end (encode_alternative (encode_block inner_depth)) (ok_alternative (ok_block inner_depth)) (past_outermost v inner_depth)
+      WalkedOne ws end (encode_alternative (encode_block inner_depth)) (ok_alternative (ok_block inner_depth))
+      (past_outermost v inner_depth)
 
   abbrev pub BodyWalked : ℕ → ℕ → Seen → ℕ → Seen → Type 0
   BodyWalked =
-      WalkedMany ws end (encode_alternative (encode_block inner_depth)) (ok_alternative (ok_block inner_depth)) (past_outermost v inner_depth)
+      WalkedMany ws end (encode_alternative (encode_block inner_depth)) (ok_alternative (ok_block inner_depth))
+      (past_outermost v inner_depth)
 
 -- What a survey gives as what was seen of a whole rule.
 abbrev pub seen_by : Survey → Seen

@@ -54,14 +54,16 @@ module _ (ws : List ℕ) (end d : ℕ) where
   ElementsCopied = CopiedMany ws end (encode_element (encode_block d)) (ok_element (ok_block d)) (renumber_element (renumber_block d))
 
   abbrev pub AlternativeFits : (at : ℕ) (out t : List ℕ) (p : Pen) → Type 0
-  AlternativeFits = FitsOne ws end (encode_alternative (encode_block d)) (ok_alternative (ok_block d)) (renumber_alternative (renumber_block d))
+  AlternativeFits = FitsOne ws end (encode_alternative (encode_block d)) (ok_alternative (ok_block d))
+      (renumber_alternative (renumber_block d))
 
   abbrev pub AlternativeCopied : (at : ℕ) (out out' t t' : List ℕ) (p : Pen) (q : ℕ) (p' : Pen) → Type 0
   AlternativeCopied =
       CopiedOne ws end (encode_alternative (encode_block d)) (ok_alternative (ok_block d)) (renumber_alternative (renumber_block d))
 
   abbrev pub AlternativesFit : (n at : ℕ) (out t : List ℕ) (p : Pen) → Type 0
-  AlternativesFit = FitsMany ws end (encode_alternative (encode_block d)) (ok_alternative (ok_block d)) (renumber_alternative (renumber_block d))
+  AlternativesFit = FitsMany ws end (encode_alternative (encode_block d)) (ok_alternative (ok_block d))
+      (renumber_alternative (renumber_block d))
 
   abbrev pub AlternativesCopied : (n at : ℕ) (out out' t t' : List ℕ) (p : Pen) (q : ℕ) (p' : Pen) → Type 0
   AlternativesCopied =

@@ -5,6 +5,7 @@ use Rattle.std.specs.Prelude.{◌≡◌, ◌⊎◌, Bool, ◌&&◌, ◌||◌, le
 use Rattle.std.proofs.Math.Path.{refl, ap, subst}
 use Rattle.std.proofs.Common.{sym, ◌∙◌, ⊎_elim}
 use Rattle.std.proofs.Math.Logic.{inl, inr}
+use mathlib.Core.List.Memᴰ
 use mathlib.Core.List.{List, [], ◌∷◌, ◌++◌, map, Memᴰ}
 use mathlib.Core.List.{Sublistᴰ}
 use Rattle.std.proofs.Math.Bool.{true, false, or-true}
@@ -63,7 +64,7 @@ module _ (rows : List Row) where
   leads_if : {j : ℕ} (b : Bool) (r : Row) → Memᴰ j (elim b as (λ x. List ℕ) [ true ↦ r.to | false ↦ [] ])
       → (b ≡ true) × Memᴰ j r.to
   leads_if true r m = (refl, m)
-  leads_if false r m = absurd (mathlib.Core.List.Memᴰ.not-nil m)
+  leads_if false r m = absurd (Memᴰ.not-nil m)
 
   pub in_lead_from : (found : List ℕ) {j : ℕ} → Memᴰ j (lead_from rows found) → (i : ℕ) × Memᴰ i found × Edge rows i j
   unfolding lead_from
@@ -84,20 +85,20 @@ module _ (rows : List Row) where
   unfolding reach_round
   in_round found m =
       let (k, t) = in_keep (λ i. member i (found ++ lead_from rows found)) (row_ids rows) m in
-      (k, mathlib.Core.List.Memᴰ.append_cases found (member_in (found ++ lead_from rows found) t))
+      (k, Memᴰ.append_cases found (member_in (found ++ lead_from rows found) t))
 
   round_in : (found : List ℕ) {j : ℕ} → Memᴰ j (row_ids rows) → Memᴰ j found ⊎ Memᴰ j (lead_from rows found)
       → Memᴰ j (reach_round rows found)
   unfolding reach_round
   round_in found k m =
       keep_in (λ i. member i (found ++ lead_from rows found)) k
-      (in_member (⊎_elim (λ l. mathlib.Core.List.Memᴰ.append_left (lead_from rows found) l) (λ r. mathlib.Core.List.Memᴰ.append_right found r) m))
+      (in_member (⊎_elim (λ l. Memᴰ.append_left (lead_from rows found) l) (λ r. Memᴰ.append_right found r) m))
 
   grows : (xs : List ℕ) → Sublistᴰ xs (reach_round rows xs) → Sublistᴰ (reach_round rows xs) (reach_round rows (reach_round rows xs))
   unfolding reach_round
   grows xs s =
       keep_part _ _ (row_ids rows) λ i m t.
-      in_member (mathlib.Core.List.Memᴰ.append_left (lead_from rows (reach_round rows xs)) (keep_in (λ i. member i (xs ++ lead_from rows xs)) m t))
+      in_member (Memᴰ.append_left (lead_from rows (reach_round rows xs)) (keep_in (λ i. member i (xs ++ lead_from rows xs)) m t))
 
   bounded : (xs : List ℕ) → length (reach_round rows xs) ≤ length rows
   unfolding reach_round
@@ -114,7 +115,7 @@ module _ (rows : List Row) where
   unfolding reach_round
   starts found =
       keep_part _ _ (row_ids rows) λ i m t.
-      in_member (mathlib.Core.List.Memᴰ.append_left (lead_from rows (start found)) (keep_in (λ i. member i found) m t))
+      in_member (Memᴰ.append_left (lead_from rows (start found)) (keep_in (λ i. member i found) m t))
 
   reach_fixed : (found : List ℕ) → reach_round rows (reach_from rows found) ≡ reach_from rows found
   unfolding reach_from
@@ -161,7 +162,7 @@ module _ (rows : List Row) where
   pub edge_way : {i j : ℕ} → Edge (reach rows) i j → Way rows i j
   unfolding reach
   edge_way {i} {j} e =
-      let (r, k, q) = mathlib.Core.List.Memᴰ.of_map (reached rows) rows e.there in
+      let (r, k, q) = Memᴰ.of_map (reached rows) rows e.there in
       let l : Memᴰ j (reach_from rows r.to) = subst (λ x. Memᴰ j x.to) (sym q) e.leads in
       let (s, n, w) = reach_from_sound r.to l in
       edge_from (record { row = r; there = k; from = ap (λ x. x.id) q ∙ e.from; leads = n }) w
@@ -191,7 +192,7 @@ module _ (rows : List Row) where
   pub in_component : {i j : ℕ} → Memᴰ j (component rows i) → Memᴰ j (row_ids rows) × ((j ≡ i) ⊎ (Edge rows i j × Edge rows j i))
   unfolding component joined
   in_component {i} {j} m =
-      let (r, k, e) = mathlib.Core.List.Memᴰ.of_map (λ r. r.id) (keep (joined i) rows) (in_sorted (row_ids (keep (joined i) rows)) m) in
+      let (r, k, e) = Memᴰ.of_map (λ r. r.id) (keep (joined i) rows) (in_sorted (row_ids (keep (joined i) rows)) m) in
       let (n, t) = in_keep (joined i) rows k in (
         subst (λ x. Memᴰ x (row_ids rows)) e (in_map (λ r. r.id) n),
         either (eqb r.id i)
@@ -201,7 +202,7 @@ module _ (rows : List Row) where
             let both : (member r.id out && member i r.to) ≡ true = rw f at t in
             let (s, o, g) = in_lead_from (i ∷ []) (member_in out (left_true (member r.id out) _ both)) in
             inr (
-              subst (λ x. Edge rows x j) (mathlib.Core.List.Memᴰ.eq_of_singleton o) (subst (Edge rows s) e g),
+              subst (λ x. Edge rows x j) (Memᴰ.eq_of_singleton o) (subst (Edge rows s) e g),
               record { row = r; there = n; from = e; leads = member_in r.to (right_true (member r.id out) _ both) },
             )),
       )
@@ -209,7 +210,7 @@ module _ (rows : List Row) where
   pub component_in : {i j : ℕ} → Memᴰ j (row_ids rows) → (j ≡ i) ⊎ (Edge rows i j × Edge rows j i) → Memᴰ j (component rows i)
   unfolding component joined
   component_in {i} {j} m (inl e) =
-      let (r, k, q) = mathlib.Core.List.Memᴰ.of_map (λ r. r.id) rows m in
+      let (r, k, q) = Memᴰ.of_map (λ r. r.id) rows m in
       let t : joined i r ≡ true = rw (eq-eqb r.id i (q ∙ e)) refl in
       sorted_in (subst (λ x. Memᴰ x (row_ids (keep (joined i) rows))) q (in_map (λ r. r.id) (keep_in (joined i) k t)))
   component_in {i} {j} m (inr w) =
@@ -217,7 +218,7 @@ module _ (rows : List Row) where
       let r = e.row in
       let out = lead_from rows (i ∷ []) in
       let a : member r.id out ≡ true =
-      in_member (subst (λ x. Memᴰ x out) (sym e.from) (lead_from_in (i ∷ []) (mathlib.Core.List.Memᴰ.head refl) w.0)) in
+      in_member (subst (λ x. Memᴰ x out) (sym e.from) (lead_from_in (i ∷ []) (Memᴰ.head refl) w.0)) in
       let t : joined i r ≡ true = rw (both_true _ _ a (in_member e.leads)) (or-true (eqb r.id i)) in
       sorted_in (subst (λ x. Memᴰ x (row_ids (keep (joined i) rows))) e.from (in_map (λ r. r.id) (keep_in (joined i) e.there t)))
 

@@ -2,7 +2,8 @@
 use Rattle.std.specs.Prelude.{ℕ, ◌+◌, ◌%◌, ◌≤◌, ◌≡◌, List, [], ◌∷◌, ◌++◌, ◌&&◌, not, length, get_or, take, eqb}
 use Rattle.grammar.specs.Tree.{Rule}
 use Rattle.grammar.specs.Lists.{only}
-use Rattle.grammar.specs.Numbers.{alternative_sort, element_sort, label_sort, action_sort, predicate_sort, action_kind, predicate_kind, kind_end}
+use Rattle.grammar.specs.Numbers.{alternative_sort, element_sort, label_sort, action_sort, predicate_sort, action_kind, predicate_kind}
+use Rattle.grammar.specs.Numbers.{kind_end}
 use Rattle.grammar.specs.Ids.{head_ids, leaf_ids, body_ids}
 use Rattle.grammar.specs.Found.{RulesSpan}
 use Rattle.grammar.specs.Fold.{Steps}

@@ -1,7 +1,8 @@
 -- What one walk over all bodies tells of the ids: how many, how far they reach, and whether they rise.
 use Rattle.std.specs.Prelude.{ℕ, ◌+◌, ◌%◌, ◌≡◌, List, ◌++◌, Bool, true, false, ◌&&◌, not, length, get_or, eqb, leb}
 use Rattle.grammar.specs.Tree as tree
-use Rattle.grammar.specs.Numbers.{alternative_sort, element_sort, label_sort, action_sort, predicate_sort, action_kind, predicate_kind, kind_end}
+use Rattle.grammar.specs.Numbers.{alternative_sort, element_sort, label_sort, action_sort, predicate_sort, action_kind, predicate_kind}
+use Rattle.grammar.specs.Numbers.{kind_end}
 use Rattle.grammar.specs.Lists.{only, distinct, below}
 use Rattle.grammar.specs.Ids.{body_ids, is_below}
 use Rattle.grammar.specs.Found.{FoundRules}

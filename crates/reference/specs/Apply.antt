@@ -3,7 +3,8 @@
 use Rattle.std.specs.Prelude.{ℕ, zero, suc, Bool, true, false, not, ◌&&◌, eqb}
 use mathlib.Core.List.{List, [], ◌∷◌, ◌++◌, map, foldl}
 use Rattle.grammar.specs.Tree.{Label, unlabelled, labelled, ElementHead, Leaf, epsilon, action, predicate, call, token, terminal}
-use Rattle.grammar.specs.Tree.{end_of_input, Element, leaf, block, AlternativeOf, Block, RuleOf, Counters, with_action_id, with_predicate_id}
+use Rattle.grammar.specs.Tree.{end_of_input, Element, leaf, block, AlternativeOf, Block, RuleOf, Counters, with_action_id}
+use Rattle.grammar.specs.Tree.{with_predicate_id}
 use Rattle.grammar.specs.Tree.{with_head_id, with_label, with_alternative_id, with_elements, with_rule_body}
 use Rattle.grammar.specs.Lists.{member, keep, any}
 use Rattle.grammar.specs.Numbers.{rule_sort, alternative_sort, element_sort, label_sort, action_sort, predicate_sort}

@@ -32,7 +32,8 @@ unfolding Lists.member Lists.distinct Lists.below Lists.any Lists.keep Lists.fir
     Valid.fits
     Reading.is_trailer Reading.preserved_ids Reading.counters_of Reading.rules_of Reading.sheet_of Reading.judge Reading.read_words
     Reading.read
-    Walks.sort_of Walks.is_end Walks.is_epsilon_only Walks.bare_reference Walks.element_gives Walks.block_gives Walks.elements_give Walks.leaf_names
+    Walks.sort_of Walks.is_end Walks.is_epsilon_only Walks.bare_reference Walks.element_gives Walks.block_gives Walks.elements_give
+    Walks.leaf_names
     Walks.references
     Analysis.names_of Analysis.rule_with_id Analysis.target Analysis.calls Analysis.collect_calls_in_elements Analysis.collect_calls_into
     Analysis.leaf_nullable Analysis.element_nullable Analysis.block_is_nullable Analysis.nullable_round Analysis.nullable_rules

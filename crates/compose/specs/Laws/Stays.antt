@@ -12,11 +12,14 @@ use Rattle.grammar.specs.Corners.{Corners}
 use Rattle.grammar.specs.Lists.{member, keep, push, rounds, all}
 use Rattle.grammar.specs.Laws.Parse.{either}
 use Rattle.reference.specs.Analysis.{Grammar, rule_with_id}
-use Rattle.reference.specs.Substitute.{Clause, no_hub, hub_with_arguments, satellite_not_inlinable, no_steps, not_directly_rewritable, Decided}
+use Rattle.reference.specs.Substitute.{Clause, no_hub, hub_with_arguments, satellite_not_inlinable, no_steps, not_directly_rewritable}
+use Rattle.reference.specs.Substitute.{Decided}
 use Rattle.reference.specs.Substitute.{decided, declined, overfull, ◌and_then◌, require, found, Planned, Limits, Substituted}
 use Rattle.reference.specs.Substitute.{substitute, substitution_budget}
-use Rattle.reference.specs.Plan.{CyclePlan, plan_cycle, choose_hub, with_hub, with_rule, inlinable, substituting, last_tests, plan_of, satellites}
-use Rattle.reference.specs.Plan.{satellite_is_inlinable, planned_hub_is_directly_rewritable, as_they_are, removable_round, removable_satellites}
+use Rattle.reference.specs.Plan.{CyclePlan, plan_cycle, choose_hub, with_hub, with_rule, inlinable, substituting, last_tests, plan_of}
+use Rattle.reference.specs.Plan.{satellites}
+use Rattle.reference.specs.Plan.{satellite_is_inlinable, planned_hub_is_directly_rewritable, as_they_are, removable_round}
+use Rattle.reference.specs.Plan.{removable_satellites}
 
 -- What is not in a list is in no part of it.
 module _ (x : ℕ) where

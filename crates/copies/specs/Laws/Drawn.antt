@@ -82,7 +82,8 @@ told_one g = record { told = g.told; to = g.to; trail = g.trail; counters = g.co
 
 -- Only entries, one behind the other; then words.
 module _ {es : List Entry} {c : Counters} {t t' : List ℕ} {p p' : Pen} (d : Told es c t t' p p') where
-  pub told_then : {es' : List Entry} {c' : Counters} {t'' : List ℕ} {p'' : Pen} → Told es' c' t' t'' p' p'' → Told (es ++ es') c' t t'' p p''
+  pub told_then : {es' : List Entry} {c' : Counters} {t'' : List ℕ} {p'' : Pen} → Told es' c' t' t'' p' p''
+      → Told (es ++ es') c' t t'' p p''
   told_then {es'} {c'} {t''} {p''} e =
       let a = each_append encode_entry es es' in
       let l = length-append (each encode_entry es) (each encode_entry es') in

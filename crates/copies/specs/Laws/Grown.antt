@@ -8,7 +8,8 @@ use Rattle.grammar.specs.Tree.{leaf, block, Block, Counters}
 use Rattle.grammar.specs.Lists.{all}
 use Rattle.grammar.specs.Laws.Parse.{both_true, left_true, right_true}
 use Rattle.reference.specs.Numbers.{counter_end}
-use Rattle.reference.specs.Apply.{Fresh, fresh_each, past, renumber_label, renumber_head, renumber_leaf, renumber_element, renumber_elements}
+use Rattle.reference.specs.Apply.{Fresh, fresh_each, past, renumber_label, renumber_head, renumber_leaf, renumber_element}
+use Rattle.reference.specs.Apply.{renumber_elements}
 use Rattle.reference.specs.Apply.{renumber_alternative, renumber_block}
 use Rattle.reference.specs.Run.{are_words}
 

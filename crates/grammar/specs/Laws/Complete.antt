@@ -16,7 +16,8 @@ use Rattle.grammar.specs.Encode.{encode_option, encode_reference, encode_head, l
 use Rattle.grammar.specs.Encode.{encode_rule, encode_block, encode_rules}
 use Rattle.grammar.specs.Lists.{each, all}
 use Rattle.grammar.specs.Parse.{Got, got, given}
-use Rattle.grammar.specs.Read.{is_name, is_label, label_of, action_of, predicate_of, room, option_at, reference_at, body_at, call_at, token_at}
+use Rattle.grammar.specs.Read.{is_name, is_label, label_of, action_of, predicate_of, room, option_at, reference_at, body_at, call_at}
+use Rattle.grammar.specs.Read.{token_at}
 use Rattle.grammar.specs.Read.{leaf_at, is_head, head_at, payload_at, element_at, alternative_at, rule_at, block_at, rules_at}
 use Rattle.grammar.specs.Valid.{ok_option, ok_reference, ok_label, ok_head, ok_leaf, ok_element, ok_alternative, ok_rule, ok_block}
 use Rattle.grammar.specs.Laws.Stands.{run_stands, stands_head, stands_length, stands_split}
@@ -63,7 +64,8 @@ module _ (ws : List ℕ) (end : ℕ) where
       (sym w.1.1.0 i)
 
   body_complete : (make : ℕ → List Reference → Leaf) (i : ℕ) (rs : List Reference) (at q : ℕ)
-      → Stands ws end (i ∷ length rs ∷ each encode_reference rs) at q → all ok_reference rs ≡ true → body_at ws end make at ≡ got (make i rs) q
+      → Stands ws end (i ∷ length rs ∷ each encode_reference rs) at q → all ok_reference rs ≡ true
+      → body_at ws end make at ≡ got (make i rs) q
   unfolding body_at
   body_complete make i rs at q s t =
       let l = stands_length s in
@@ -188,7 +190,8 @@ module _ (ws : List ℕ) (end : ℕ) where
       (record { stands = run_stands at 1 s.stands.run.1; fine = s.fine }))
 
   -- Rules up to the end, if they are not too many.
-  pub rules_complete : (n at : ℕ) (rs : List Rule) → length rs ≤ n → Spans ws end encode_rules (all (ok_rule (ok_block body_depth))) at rs end
+  pub rules_complete : (n at : ℕ) (rs : List Rule) → length rs ≤ n
+      → Spans ws end encode_rules (all (ok_rule (ok_block body_depth))) at rs end
       → rules_at ws end n at ≡ got rs end
   unfolding rules_at all encode_rule
   rules_complete zero at [] h s =

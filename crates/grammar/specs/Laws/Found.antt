@@ -23,7 +23,8 @@ leaf_size (suc (suc (suc zero))) n = 2
 leaf_size (suc (suc (suc (suc zero)))) n = 1
 leaf_size (suc (suc (suc (suc (suc k))))) n = 0
 
-leaf_size_lem : {ws : List ℕ} {end p q : ℕ} (l : Leaf) → Stands ws end (encode_leaf l) p q → q ≡ p + leaf_size (leaf_kind l) (get_or ws (p + 1) 0)
+leaf_size_lem : {ws : List ℕ} {end p q : ℕ} (l : Leaf) → Stands ws end (encode_leaf l) p q
+    → q ≡ p + leaf_size (leaf_kind l) (get_or ws (p + 1) 0)
 unfolding leaf_size leaf_kind encode_leaf
 leaf_size_lem epsilon s = let l = stands_length s in omega arith
 leaf_size_lem (action a) s = let l = stands_length s in let m = references_length a.references in let w = s.run.1.0 in omega arith
@@ -104,7 +105,8 @@ module _ (d : ℕ) {ws : List ℕ} {end at : ℕ} where
       let l = stands_length w.elements_span.stands in
       omega arith
 
-  pub alternative_at_lem : {c n p : ℕ} → FoundAlternative ws end d at → c ≡ get_or ws (at + 4) 0 → n ≡ get_or ws (at + 3) 0 → p ≡ at + 5 + 2 * n
+  pub alternative_at_lem : {c n p : ℕ} → FoundAlternative ws end d at → c ≡ get_or ws (at + 4) 0 → n ≡ get_or ws (at + 3) 0
+      → p ≡ at + 5 + 2 * n
       → AlternativeAt ws end at c p
   alternative_at_lem {c} {n} {p} f e g i =
       let w = alternative_words_lem d f.spans in

@@ -124,7 +124,8 @@ pub record AlternativeWords (ws : List ℕ) (end d at : ℕ) (a : AlternativeOf 
   pub counted : get_or ws (at + 3) 0 ≡ length a.options
   pub options_stand : Stands ws end (each encode_option a.options) (at + 5) (at + 5 + 2 * get_or ws (at + 3) 0)
   pub count : get_or ws (at + 4) 0 ≡ length a.elements
-  pub elements_span : Spans ws end (each (encode_element (encode_block d))) (all (ok_element (ok_block d))) (at + 5 + 2 * get_or ws (at + 3) 0)
+  pub elements_span : Spans ws end (each (encode_element (encode_block d))) (all (ok_element (ok_block d)))
+      (at + 5 + 2 * get_or ws (at + 3) 0)
       a.elements q
 
 pub alternative_words_lem : (d : ℕ) {ws : List ℕ} {end at : ℕ} {a : AlternativeOf (Block d)} {q : ℕ} → AlternativeSpans ws end d at a q

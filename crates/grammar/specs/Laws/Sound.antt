@@ -13,7 +13,8 @@ use Rattle.grammar.specs.Encode.{encode_option, encode_reference, encode_head, l
 use Rattle.grammar.specs.Encode.{encode_rule, encode_block, encode_rules}
 use Rattle.grammar.specs.Lists.{each, all}
 use Rattle.grammar.specs.Parse.{Got, given}
-use Rattle.grammar.specs.Read.{is_name, is_label, action_of, predicate_of, room, option_at, reference_at, body_at, call_at, token_at, leaf_at}
+use Rattle.grammar.specs.Read.{is_name, is_label, action_of, predicate_of, room, option_at, reference_at, body_at, call_at, token_at}
+use Rattle.grammar.specs.Read.{leaf_at}
 use Rattle.grammar.specs.Read.{is_head, head_at, payload_at, element_at, alternative_at, rule_at, block_at, rules_at}
 use Rattle.grammar.specs.Valid.{ok_option, ok_reference, ok_head, ok_leaf, ok_element, ok_alternative, ok_rule, ok_block}
 use Rattle.grammar.specs.Laws.Stands.{first, stands_none, stands_two, stands_run, stands_length, stands_append}

@@ -142,7 +142,8 @@ module _ (ws : List ℕ) where
   pub words_sound : trailer_words ≤ length ws → Reads IsSheet (read_words ws)
   unfolding read_words member
   words_sound h =
-      either (is_trailer ws) (λ t. rw (t, read_words) (judge_reads rules_of_sound (sheet_found h t))) (λ t. rw (t, read_words) (refuses refl))
+      either (is_trailer ws) (λ t. rw (t, read_words) (judge_reads rules_of_sound (sheet_found h t)))
+      (λ t. rw (t, read_words) (refuses refl))
 
   -- Where the parts of an encoded sheet stand.
   record Placed (s : Sheet) : Type 0 where

@@ -1,6 +1,7 @@
 -- A cycle that the definition lists is one as the decision wants it: rising ids, each of a rule that has an alternative.
 use Prim.Native.Nat.{ℕ}
 use mathlib.Core.Path.{◌≡◌, sym, ap, ◌∙◌, subst}
+use mathlib.Core.List.Memᴰ
 use mathlib.Core.List.{List, [], map, Memᴰ}
 use mathlib.Core.Bool.{true}
 use Rattle.grammar.specs.Tree.{Rule, body_depth}
@@ -43,12 +44,12 @@ module _ {ws : List ℕ} {end : ℕ} {rules : Rules} (s : Standing ws end rules)
   leads : {i : ℕ} (a : Among rs i) {j : ℕ} → Edge rows a.rule.id j → a.rule.body ≡ [] → ⊥
   unfolding block_corners
   leads a {j} e z =
-      let (r, m, same) = mathlib.Core.List.Memᴰ.of_map (row_of c g body_depth) rs e.there in
+      let (r, m, same) = Memᴰ.of_map (row_of c g body_depth) rs e.there in
       let own : r ≡ a.rule = one_with (λ t. t.id) rs s.ids m (is_among a) (ap (λ w. w.id) same ∙ e.from) in
       let to : Memᴰ j (block_corners c g body_depth r.body) = subst (λ w. Memᴰ j w.to) (sym same) e.leads in
       let none : Memᴰ j (block_corners c g body_depth []) =
       subst (λ b. Memᴰ j (block_corners c g body_depth b)) (ap (λ t. t.body) own ∙ z) to in
-      mathlib.Core.List.Memᴰ.not-nil none
+      Memᴰ.not-nil none
 
   pub listed_cycle : {cycle members : List ℕ} → RowOf rules.ids rules.n cycle members
       → Memᴰ cycle (left_corner_cycles c g body_depth rs) → IsCycle ws end rules s cycle members

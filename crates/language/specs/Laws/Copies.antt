@@ -4,7 +4,8 @@ use Rattle.std.specs.Prelude.{◌≡◌, refl, List, [], ◌∷◌, map}
 use Rattle.std.proofs.Common.{sym, ap₂, ◌∙◌}
 use Rattle.std.proofs.Math.Path.{ap}
 use Rattle.grammar.specs.Tree.{Label, unlabelled, labelled, ElementHead, Leaf, epsilon, action, predicate, call, token, terminal}
-use Rattle.grammar.specs.Tree.{end_of_input, Element, leaf, block, AlternativeOf, Block, with_action_id, with_predicate_id, with_head_id, with_label}
+use Rattle.grammar.specs.Tree.{end_of_input, Element, leaf, block, AlternativeOf, Block, with_action_id, with_predicate_id, with_head_id}
+use Rattle.grammar.specs.Tree.{with_label}
 use Rattle.grammar.specs.Tree.{with_alternative_id, with_elements}
 use Rattle.language.specs.Shape.{Shape, seqs, alts, erase_leaf, erase_element, erase_elements, erase_block}
 

@@ -23,7 +23,8 @@ module _ {c : Corners} {G : Shapes} where
   -- The quantifier of an element does not change its left corners, nor whether it is a symbol.
   pub corner_quantified : (q : ℕ) (s : Shape) {n : ℕ} → Corner c G (quantified q s) n ↔ Corner c G s n
   corner_quantified q s {n} =
-      quantified_cases (λ o t. Corner c G t n ↔ Corner c G s n) q s (λ k. k, λ k. k) (from_opt, c_opt) (from_star, c_star) (from_plus, c_plus)
+      quantified_cases (λ o t. Corner c G t n ↔ Corner c G s n) q s (λ k. k, λ k. k) (from_opt, c_opt) (from_star, c_star)
+      (from_plus, c_plus)
     where
       from_opt : Corner c G (opt s) n → Corner c G s n
       from_opt (c_opt k) = k

@@ -2,6 +2,7 @@
 use Rattle.std.specs.Prelude.{ℕ, ◌≤◌, ◌≡◌, refl, ◌↔◌, ◌⊎◌, true, length}
 use Rattle.std.proofs.Math.Path.{sym, subst}
 use Rattle.std.proofs.Common.{ap, ◌∙◌, ⊎_elim, arith, eqb-true, eq-eqb}
+use mathlib.Core.List.Memᴰ
 use mathlib.Core.List.{List, [], ◌∷◌, map, Memᴰ, Sublistᴰ}
 use Rattle.std.proofs.Math.Option.{some, some-injective}
 use Rattle.std.proofs.lemmas.Bool.{false≢true}
@@ -56,7 +57,7 @@ cycle_of i (x ∷ y ∷ ys) l e = eq-eqb i x (sym e)
 
 pub least_in : (c : List ℕ) → 2 ≤ length c → Memᴰ (least c) c
 least_in [] l = absurd (omega arith)
-least_in (x ∷ xs) l = mathlib.Core.List.Memᴰ.head refl
+least_in (x ∷ xs) l = Memᴰ.head refl
 
 pub reaches_found : {c : Corners} {G : Shapes} {n m : ℕ} → Reaches c G n m → (b : Shape) × (find G n ≡ some b)
 reaches_found (r_last l) = (l.body, l.found)
@@ -74,7 +75,7 @@ module _ (c : Corners) (d : ℕ) (rs : List (RuleOf (Block d))) (ids : distinct 
   edge_corner : {i j : ℕ} → Edge rows i j → (r : RuleOf (Block d)) × Memᴰ r rs × (r.id ≡ i)
       × CornerRule c d rs (erase_block d r.body) j
   edge_corner {i} {j} e =
-      let (r, m, q) = mathlib.Core.List.Memᴰ.of_map row rs e.there in
+      let (r, m, q) = Memᴰ.of_map row rs e.there in
       let l : Memᴰ j (block_corners c (grammar_of d rs) d r.body) = subst (λ x. Memᴰ j x.to) (sym q) e.leads in
       (r, m, ap (λ x. x.id) q ∙ e.from, (block_corners_lem c d rs ids names d r.body j).0 (in_member l))
 

@@ -2,6 +2,7 @@
 use Rattle.std.specs.Prelude.{ℕ, ◌≡◌, ◌↔◌, true}
 use Rattle.std.proofs.Common.{sym, ap}
 use Rattle.std.proofs.Math.Path.{subst}
+use mathlib.Core.List.Memᴰ
 use mathlib.Core.List.{List, map, Memᴰ}
 use Rattle.std.proofs.Math.Option.{Option, none, some}
 use Rattle.grammar.specs.Laws.Lists.{in_member, member_in}
@@ -22,8 +23,8 @@ use Rattle.laws.specs.Analysis.Empty.{empty_exact}
 use Rattle.laws.specs.Analysis.Corners.{to_id, elements_list, block_list}
 
 in_to_id : {i : ℕ} (o : Option ℕ) → Memᴰ i (to_id o) → o ≡ some i
-in_to_id none m = absurd (mathlib.Core.List.Memᴰ.not-nil m)
-in_to_id (some t) m = ap some (sym (mathlib.Core.List.Memᴰ.eq_of_singleton m))
+in_to_id none m = absurd (Memᴰ.not-nil m)
+in_to_id (some t) m = ap some (sym (Memᴰ.eq_of_singleton m))
 
 module _ (c : Corners) (d : ℕ) (rs : List (RuleOf (Block d))) (ids : distinct (map (λ r. r.id) rs) ≡ true)
     (names : distinct (map (λ r. r.name) rs) ≡ true) where
@@ -57,7 +58,7 @@ module _ (c : Corners) (d : ℕ) (rs : List (RuleOf (Block d))) (ids : distinct 
       let t =
       (by_name names r.there (looked d rs (nullable_rules d rs) n)
       (ap is_missing (rule_found d (λ r. r.name) rs names r.there))).1 in
-      let o : Memᴰ i (to_id (target (grammar_of d rs) n)) = rw t (mathlib.Core.List.Memᴰ.head (sym r.id)) in
+      let o : Memᴰ i (to_id (target (grammar_of d rs) n)) = rw t (Memᴰ.head (sym r.id)) in
       in_each (λ n. to_id (target (grammar_of d rs) n)) k o
 
   -- Of the elements of an alternative, nested at any depth.

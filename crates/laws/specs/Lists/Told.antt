@@ -1,6 +1,7 @@
 -- The words about lists of numbers say what Demands.Lists promises of them.
 use Rattle.std.specs.Prelude.{ℕ, zero, suc, ◌≤◌, ◌<◌, ◌≡◌, refl, true, not, ltb}
 use Rattle.std.proofs.Common.{sym, ap, ◌∙◌, subst, inl, inr, true≢false, arith, ltb-true, lt-ltb}
+use mathlib.Core.List.Memᴰ
 use mathlib.Core.List.{List, [], ◌∷◌, ◌++◌, Memᴰ}
 use Rattle.std.proofs.lemmas.Bool.{not-true}
 use Rattle.grammar.specs.Lists.{member, distinct, below, rising, total, AllOf, AnyOf}
@@ -11,17 +12,17 @@ use Rattle.laws.specs.Demands.Lists.{NoTwo, Low, Rises, ListsTold}
 
 -- A member, and what is in front of it.
 cut_at : {x : ℕ} {xs : List ℕ} → Memᴰ x xs → (front : List ℕ) × (rest : List ℕ) × (front ++ (x ∷ rest) ≡ xs)
-cut_at (mathlib.Core.List.Memᴰ.head {xs = xs} e) = ([], xs, ap (λ y. y ∷ xs) e)
-cut_at (mathlib.Core.List.Memᴰ.tail {x = y} m) = let (front, rest, w) = cut_at m in (y ∷ front, rest, ap (λ l. y ∷ l) w)
+cut_at (Memᴰ.head {xs = xs} e) = ([], xs, ap (λ y. y ∷ xs) e)
+cut_at (Memᴰ.tail {x = y} m) = let (front, rest, w) = cut_at m in (y ∷ front, rest, ap (λ l. y ∷ l) w)
 
 apart : (xs : List ℕ) → distinct xs ≡ true → NoTwo xs
 unfolding distinct
-apart [] t [] middle rest x e = mathlib.Core.List.Memᴰ.not-nil (subst (Memᴰ x) e (mathlib.Core.List.Memᴰ.head refl))
-apart [] t (y ∷ front) middle rest x e = mathlib.Core.List.Memᴰ.not-nil (subst (Memᴰ y) e (mathlib.Core.List.Memᴰ.head refl))
+apart [] t [] middle rest x e = Memᴰ.not-nil (subst (Memᴰ x) e (Memᴰ.head refl))
+apart [] t (y ∷ front) middle rest x e = Memᴰ.not-nil (subst (Memᴰ y) e (Memᴰ.head refl))
 apart (y ∷ ys) t [] middle rest x e =
     let same : x ≡ y = cc in
     let behind : middle ++ (x ∷ rest) ≡ ys = cc in
-    let m : Memᴰ x ys = subst (Memᴰ x) behind (mathlib.Core.List.Memᴰ.append_right middle (mathlib.Core.List.Memᴰ.head refl)) in
+    let m : Memᴰ x ys = subst (Memᴰ x) behind (Memᴰ.append_right middle (Memᴰ.head refl)) in
     true≢false (sym (in_member (subst (λ z. Memᴰ z ys) same m)) ∙ not-true (member y ys) (left_true (not (member y ys)) _ t))
 apart (y ∷ ys) t (z ∷ front) middle rest x e =
     let behind : front ++ (x ∷ (middle ++ (x ∷ rest))) ≡ ys = cc in
@@ -39,16 +40,16 @@ kept_apart (y ∷ ys) h =
 
 low : (c : ℕ) (xs : List ℕ) → below c xs ≡ true → Low c xs
 unfolding below
-low c (y ∷ ys) t x (mathlib.Core.List.Memᴰ.head e) = ltb-true x c (ap (λ z. ltb z c) e ∙ left_true (ltb y c) _ t)
-low c (y ∷ ys) t x (mathlib.Core.List.Memᴰ.tail m) = low c ys (right_true (ltb y c) _ t) x m
+low c (y ∷ ys) t x (Memᴰ.head e) = ltb-true x c (ap (λ z. ltb z c) e ∙ left_true (ltb y c) _ t)
+low c (y ∷ ys) t x (Memᴰ.tail m) = low c ys (right_true (ltb y c) _ t) x m
 low c [] t x x4 = elim x4 [ ]
 
 kept_low : (c : ℕ) (xs : List ℕ) → Low c xs → below c xs ≡ true
 unfolding below
 kept_low c [] h = refl
 kept_low c (y ∷ ys) h =
-    both_true (ltb y c) (below c ys) (lt-ltb y c (h y (mathlib.Core.List.Memᴰ.head refl)))
-    (kept_low c ys (λ x m. h x (mathlib.Core.List.Memᴰ.tail m)))
+    both_true (ltb y c) (below c ys) (lt-ltb y c (h y (Memᴰ.head refl)))
+    (kept_low c ys (λ x m. h x (Memᴰ.tail m)))
 
 rises : (xs : List ℕ) → rising xs ≡ true → Rises xs
 unfolding rising
@@ -66,33 +67,33 @@ kept_rising (x ∷ y ∷ ys) h =
     (kept_rising (y ∷ ys) (λ front rest a b e. h (x ∷ front) rest a b (ap (λ l. x ∷ l) e)))
 
 all_low : (c : ℕ) (xs : List ℕ) → AllOf (λ x. x < c) xs → Low c xs
-all_low c (y ∷ ys) h x (mathlib.Core.List.Memᴰ.head e) = subst (λ z. z < c) (sym e) h.0
-all_low c (y ∷ ys) h x (mathlib.Core.List.Memᴰ.tail m) = all_low c ys h.1 x m
+all_low c (y ∷ ys) h x (Memᴰ.head e) = subst (λ z. z < c) (sym e) h.0
+all_low c (y ∷ ys) h x (Memᴰ.tail m) = all_low c ys h.1 x m
 all_low c [] h x x4 = elim x4 [ ]
 
 low_all : (c : ℕ) (xs : List ℕ) → Low c xs → AllOf (λ x. x < c) xs
 low_all c [] h = tt
-low_all c (y ∷ ys) h = (h y (mathlib.Core.List.Memᴰ.head refl), low_all c ys (λ x m. h x (mathlib.Core.List.Memᴰ.tail m)))
+low_all c (y ∷ ys) h = (h y (Memᴰ.head refl), low_all c ys (λ x m. h x (Memᴰ.tail m)))
 
 any_one : (c : ℕ) (xs : List ℕ) → AnyOf (λ x. c ≤ x) xs → (x : ℕ) × Memᴰ x xs × (c ≤ x)
-any_one c (y ∷ ys) (inl l) = (y, mathlib.Core.List.Memᴰ.head refl, l)
-any_one c (y ∷ ys) (inr h) = let (x, m, l) = any_one c ys h in (x, mathlib.Core.List.Memᴰ.tail m, l)
+any_one c (y ∷ ys) (inl l) = (y, Memᴰ.head refl, l)
+any_one c (y ∷ ys) (inr h) = let (x, m, l) = any_one c ys h in (x, Memᴰ.tail m, l)
 any_one c [] x' = elim x' [ ]
 
 one_any : (c : ℕ) {x : ℕ} {xs : List ℕ} → Memᴰ x xs → c ≤ x → AnyOf (λ x. c ≤ x) xs
-one_any c (mathlib.Core.List.Memᴰ.head e) l = inl (subst (λ z. c ≤ z) e l)
-one_any c (mathlib.Core.List.Memᴰ.tail m) l = inr (one_any c m l)
+one_any c (Memᴰ.head e) l = inl (subst (λ z. c ≤ z) e l)
+one_any c (Memᴰ.tail m) l = inr (one_any c m l)
 
 bytes_low : (bs : List ℕ) → AreBytes bs → Low 256 bs
-bytes_low (b ∷ bs) h x (mathlib.Core.List.Memᴰ.head e) = subst (λ z. z < 256) (sym e) (h 0)
-bytes_low (b ∷ bs) h x (mathlib.Core.List.Memᴰ.tail m) = bytes_low bs (λ i. h (suc i)) x m
+bytes_low (b ∷ bs) h x (Memᴰ.head e) = subst (λ z. z < 256) (sym e) (h 0)
+bytes_low (b ∷ bs) h x (Memᴰ.tail m) = bytes_low bs (λ i. h (suc i)) x m
 bytes_low [] h x x4 = elim x4 [ ]
 
 low_bytes : (bs : List ℕ) → Low 256 bs → AreBytes bs
 low_bytes [] h zero = omega arith
 low_bytes [] h (suc i) = omega arith
-low_bytes (b ∷ bs) h zero = h b (mathlib.Core.List.Memᴰ.head refl)
-low_bytes (b ∷ bs) h (suc i) = low_bytes bs (λ x m. h x (mathlib.Core.List.Memᴰ.tail m)) i
+low_bytes (b ∷ bs) h zero = h b (Memᴰ.head refl)
+low_bytes (b ∷ bs) h (suc i) = low_bytes bs (λ x m. h x (Memᴰ.tail m)) i
 
 pub lists_told_lem : ListsTold
 unfolding total

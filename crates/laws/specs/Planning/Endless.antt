@@ -2,6 +2,7 @@
 -- so work would be left for ever.
 use Rattle.std.specs.Prelude.{ℕ, suc, ◌≡◌, refl, true, not, length}
 use Rattle.std.proofs.Common.{sym, ap, ◌∙◌, subst, subst₂, ⊎_elim, arith}
+use mathlib.Core.List.Memᴰ
 use mathlib.Core.List.{List, [], ◌∷◌, ◌++◌, Memᴰ}
 use Rattle.std.proofs.Math.Option.{some-injective}
 use Rattle.std.proofs.lemmas.Bool.{false≢true}
@@ -50,10 +51,10 @@ same_call (f ∷ front) (f' ∷ front') rest rest' h h' c c' s s' e =
 spliced_of : {d : ℕ} {p : Planned d} {front rest : Elements d} {as' : List (AlternativeOf (Block d))} {qs : List (Planned d)}
     → Spliced d p front rest as' qs
     → {a : AlternativeOf (Block d)} → Memᴰ a as' → (q : Planned d) × Memᴰ q qs × (q.elements ≡ front ++ (a.elements ++ rest))
-spliced_of spliced_none m = absurd (mathlib.Core.List.Memᴰ.not-nil m)
-spliced_of {front = front} {rest = rest} (spliced_one o s) (mathlib.Core.List.Memᴰ.head e) =
-    (_, mathlib.Core.List.Memᴰ.head refl, ap (λ a. front ++ (a.elements ++ rest)) (sym e))
-spliced_of (spliced_one o s) (mathlib.Core.List.Memᴰ.tail m) = let (q, n, e) = spliced_of s m in (q, mathlib.Core.List.Memᴰ.tail n, e)
+spliced_of spliced_none m = absurd (Memᴰ.not-nil m)
+spliced_of {front = front} {rest = rest} (spliced_one o s) (Memᴰ.head e) =
+    (_, Memᴰ.head refl, ap (λ a. front ++ (a.elements ++ rest)) (sym e))
+spliced_of (spliced_one o s) (Memᴰ.tail m) = let (q, n, e) = spliced_of s m in (q, Memᴰ.tail n, e)
 
 module _ {d : ℕ} {rs : List (RuleOf (Block (suc d)))} {g : Grammar} (k : Known (suc d) rs g) (cycle : List ℕ) (hub : ℕ) where
   -- An alternative of a planned list calls a rule plainly in front.
@@ -120,15 +121,15 @@ module _ {d : ℕ} {rs : List (RuleOf (Block (suc d)))} {g : Grammar} (k : Known
     stuck_step {ps} {qs} t s =
         subst (Stuck r) t.result
         (⊎_elim
-        (λ m. at (mathlib.Core.List.Memᴰ.append_left (t.made ++ t.rest) m))
+        (λ m. at (Memᴰ.append_left (t.made ++ t.rest) m))
         (λ m.
         ⊎_elim
         (λ e.
-        stuck_in (λ p n. mathlib.Core.List.Memᴰ.append_right t.front (mathlib.Core.List.Memᴰ.append_left t.rest n))
+        stuck_in (λ p n. Memᴰ.append_right t.front (Memᴰ.append_left t.rest n))
         (stuck_made (subst (λ p. MadeFrom d rs g cycle hub p t.made) (sym e) t.is_made) s.corner s.plain))
-        (λ n. at (mathlib.Core.List.Memᴰ.append_right t.front (mathlib.Core.List.Memᴰ.append_right t.made n)))
-        (mathlib.Core.List.Memᴰ.cases_cons m))
-        (mathlib.Core.List.Memᴰ.append_cases t.front (subst (Memᴰ s.alternative) (sym t.whole) s.there)))
+        (λ n. at (Memᴰ.append_right t.front (Memᴰ.append_right t.made n)))
+        (Memᴰ.cases_cons m))
+        (Memᴰ.append_cases t.front (subst (Memᴰ s.alternative) (sym t.whole) s.there)))
       where
         at : Memᴰ s.alternative (t.front ++ (t.made ++ t.rest)) → Stuck r (t.front ++ (t.made ++ t.rest))
         at m = record { alternative = s.alternative; there = m; index = s.index; corner = s.corner; plain = s.plain }
@@ -176,6 +177,6 @@ module _ {d : ℕ} {rs : List (RuleOf (Block (suc d)))} {g : Grammar} (k : Known
     steps_among (one_more {ps = ps} {qs = qs} e w t) h =
         let s = stepped d rs g cycle hub ps qs e in
         let slot : Memᴰ s.slot ps =
-        subst (Memᴰ s.slot) s.whole (mathlib.Core.List.Memᴰ.append_right s.front (mathlib.Core.List.Memᴰ.head refl)) in
+        subst (Memᴰ s.slot) s.whole (Memᴰ.append_right s.front (Memᴰ.head refl)) in
         onward (subst₂ (StepTo d others) s.whole s.result
         (step_at d others g cycle hub s.front s.rest (among (one_more e w t) h slot s.is_made))) (steps_among t h)

@@ -1,6 +1,7 @@
 -- What one recording adds, in any index.
 use Rattle.std.specs.Prelude.{ℕ, ◌<◌, ◌≡◌, refl, true, false, eqb}
 use Rattle.std.proofs.Common.{sym, ap, ◌∙◌, subst, ⊎_elim, arith, eqb-true, eq-eqb, ne_eqb}
+use mathlib.Core.List.Memᴰ
 use mathlib.Core.List.{List, [], ◌∷◌, ◌++◌, map, append_assoc, append-nil, Memᴰ}
 use Rattle.std.proofs.lemmas.Bool.{eqb-false}
 use Rattle.grammar.specs.Lists.{any}
@@ -75,10 +76,10 @@ same_owner o p t = ap (λ n. n.id) (same_node_lem o.owner p.owner (right_true (e
 
 apart_at : (have os : List Origin) (o : Origin) → Distinct (map owner_id (have ++ (o ∷ os))) → {p : Origin} → Memᴰ p have
     → owner_id p ≡ owner_id o → ⊥
-apart_at (q ∷ have) os o h {p} (mathlib.Core.List.Memᴰ.head d) e =
-    let m : Memᴰ o (have ++ (o ∷ os)) = mathlib.Core.List.Memᴰ.append_right have (mathlib.Core.List.Memᴰ.head refl) in
+apart_at (q ∷ have) os o h {p} (Memᴰ.head d) e =
+    let m : Memᴰ o (have ++ (o ∷ os)) = Memᴰ.append_right have (Memᴰ.head refl) in
     h.0 (subst (λ x. Memᴰ x (map owner_id (have ++ (o ∷ os)))) (sym e ∙ ap owner_id d) (in_map owner_id m))
-apart_at (q ∷ have) os o h (mathlib.Core.List.Memᴰ.tail m) e = apart_at have os o h.1 m e
+apart_at (q ∷ have) os o h (Memᴰ.tail m) e = apart_at have os o h.1 m e
 apart_at [] os o h {p = p} x3 e = elim x3 [ ]
 
 -- Origins with different owners are all added.
@@ -115,15 +116,15 @@ recorded_so_lem index e =
 
 pub distinct_snoc : (os : List Origin) (o : Origin) → Distinct (map owner_id os) → ((p : Origin) → Memᴰ p os → owner_id p < owner_id o)
     → Distinct (map owner_id (os ++ (o ∷ [])))
-distinct_snoc [] o h l = (λ m. mathlib.Core.List.Memᴰ.not-nil m, tt)
+distinct_snoc [] o h l = (λ m. Memᴰ.not-nil m, tt)
 distinct_snoc (q ∷ os) o h l = (
   λ m.
-      let (p, k, e) = mathlib.Core.List.Memᴰ.of_map owner_id (os ++ (o ∷ [])) m in
+      let (p, k, e) = Memᴰ.of_map owner_id (os ++ (o ∷ [])) m in
       ⊎_elim (λ n. h.0 (subst (λ x. Memᴰ x (map owner_id os)) e (in_map owner_id n)))
       (λ n.
-      let low = l q (mathlib.Core.List.Memᴰ.head refl) in
-      let same = ap owner_id (mathlib.Core.List.Memᴰ.eq_of_singleton n) in
+      let low = l q (Memᴰ.head refl) in
+      let same = ap owner_id (Memᴰ.eq_of_singleton n) in
       omega arith)
-      (mathlib.Core.List.Memᴰ.append_cases os k),
-  distinct_snoc os o h.1 (λ p m. l p (mathlib.Core.List.Memᴰ.tail m)),
+      (Memᴰ.append_cases os k),
+  distinct_snoc os o h.1 (λ p m. l p (Memᴰ.tail m)),
 )

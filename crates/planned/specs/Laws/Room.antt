@@ -9,7 +9,8 @@ use Rattle.reference.specs.Substitute.{Planned, standard, is_within}
 use Rattle.planned.specs.Layout.{settled, stack}
 use Rattle.planned.specs.List.{alternatives_in, elements_in, options_in, Laid, HasRoom, Movable, InHand}
 use Rattle.planned.specs.Moves.{Took}
-use Rattle.planned.specs.Laws.Counts.{elements_all, options_all, elements_all_lem, options_all_lem, alternatives_in_lem, elements_in_lem, options_in_lem}
+use Rattle.planned.specs.Laws.Counts.{elements_all, options_all, elements_all_lem, options_all_lem, alternatives_in_lem, elements_in_lem}
+use Rattle.planned.specs.Laws.Counts.{options_in_lem}
 use Rattle.planned.specs.declared.list.Sizes.{Sizes}
 use Rattle.planned.specs.declared.list.Listed.{Listed}
 

@@ -44,7 +44,14 @@ module _ {before after : List ℕ} (s : SameList before after) where
     pub same_ends : SameEnds before after l l
     same_ends =
         kept {a = l.outa} {b = l.outa} {x = l.oute} {z = l.oute} {y = l.outo} {w = l.outo} laid
-        (record { out_a = omega arith; out_e = omega arith; out_o = omega arith; top_a = laid.out_a; top_e = laid.out_e; top_o = laid.out_o })
+        (record {
+          out_a = omega arith;
+          out_e = omega arith;
+          out_o = omega arith;
+          top_a = laid.out_a;
+          top_e = laid.out_e;
+          top_o = laid.out_o;
+        })
         (record {
           heads = λ j h g m. same_half j (omega arith);
           elements = λ j h m. same_half j (omega arith);

@@ -29,8 +29,10 @@ module _ {A : Type 0} (shape_of : A → Shape) where
         let γ : B → List Shape = λ b. map shape_of (items_of b) in
         let each = map-map (λ γ. seqs (map shape_of α ++ (γ ++ map shape_of β))) γ bs in
         let found = f ∙ ap (λ l. some (alts l)) (sym (map-map seqs γ bs)) in
-        subst₂ (LocalPairs H G) (cut_at α β p) (each ∙ ap (λ g. map g bs) (fun_ext λ b. cut_twice α (items_of b) β))
-        (splice_pairs S (map γ bs) ne found (map shape_of α) (map shape_of β), splice S (map γ bs) ne found (map shape_of α) (map shape_of β))
+        subst₂ (LocalPairs H G) (cut_at α β p) (each ∙ ap (λ g. map g bs) (fun_ext λ b. cut_twice α (items_of b) β)) (
+          splice_pairs S (map γ bs) ne found (map shape_of α) (map shape_of β),
+          splice S (map γ bs) ne found (map shape_of α) (map shape_of β),
+        )
 
     -- Split, of x, which is the optional y.
     pub split_items : (α β : List A) {x y : A} → shape_of x ≡ opt (shape_of y)

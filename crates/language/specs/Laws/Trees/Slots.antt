@@ -45,7 +45,8 @@ module _ {X : Shapes} where
   in_slot (there p) x = t_right (in_slot p x)
 
   -- Every tree of a choice is one of an alternative, in its slot.
-  pub some_slot_lem : (as' : List Shape) (z : Tree X (alts as')) → (k : ℕ) × (a : Shape) × (p : At k a as') × (x : Tree X a) × (z ≡ in_slot p x)
+  pub some_slot_lem : (as' : List Shape) (z : Tree X (alts as'))
+      → (k : ℕ) × (a : Shape) × (p : At k a as') × (x : Tree X a) × (z ≡ in_slot p x)
   unfolding in_slot
   some_slot_lem [] z = absurd (fails z)
   some_slot_lem (a ∷ as') (t_left x) = (0, a, here, x, refl)
@@ -88,7 +89,8 @@ module _ {X : Shapes} where
       ⊎ (((x : Tree X a) × (z ≡ in_slot (behind front here) x))
       ⊎ ((k : ℕ) × (r : Shape) × (p : At k r rest) × (x : Tree X r) × (z ≡ in_slot (behind front (there p)) x)))
 
-  pub some_place_lem : (front : List Shape) (a : Shape) (rest : List Shape) (z : Tree X (alts (front ++ (a ∷ rest)))) → Stands front a rest z
+  pub some_place_lem : (front : List Shape) (a : Shape) (rest : List Shape) (z : Tree X (alts (front ++ (a ∷ rest))))
+      → Stands front a rest z
   unfolding in_slot in_front behind
   some_place_lem [] a rest (t_left x) = inr (inl (x, refl))
   some_place_lem [] a rest (t_right z) = let (k, r, p, x, e) = some_slot_lem rest z in inr (inr (k, r, p, x, ap t_right e))

@@ -76,7 +76,8 @@ module _ {G : Shapes} where
       (told_apart_lem (tree_of d) (tree_of e) h))
       ∙ i.linv e
 
-  derived_moved : {b c : Shape} {w : Word} (q : b ≡ c) (x : Der G b w) → choices (tree_of (subst (λ s. Der G s w) q x)) ≡ choices (tree_of x)
+  derived_moved : {b c : Shape} {w : Word} (q : b ≡ c) (x : Der G b w)
+      → choices (tree_of (subst (λ s. Der G s w) q x)) ≡ choices (tree_of x)
   derived_moved {w = w} q x =
       path_j (λ c q. choices (tree_of (subst (λ s. Der G s w) q x)) ≡ choices (tree_of x))
       (ap (λ d. choices (tree_of d)) (subst_refl (λ s. Der G s w) x)) q
