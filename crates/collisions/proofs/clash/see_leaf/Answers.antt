@@ -1,0 +1,24 @@
+use Rattle.std.proofs.Common.{rules, ◌≡◌, ◌+◌, ◌≤◌, ℕ, ◌-◌, ◌*◌, ◌<◌, length, ◌/◌, ◌%◌, Bool, true, false, nat_eq, nat_lt, List, [], ◌∷◌, ◌++◌, slice_index_or, slice_set, bit_and, bit_or, Fits, w8, w32, w64, Bor, MutBor}
+use Rattle.grammar.specs.Numbers.{block_kind}
+use Rattle.grammar.specs.Tree.{inner_depth}
+use Rattle.grammar.specs.Words.{words}
+use Rattle.grammar.specs.Found.{FoundElement, FoundElements, FoundAlternative, FoundAlternatives, HeadAt}
+use Rattle.grammar.specs.Fold.{ElementWalked, ElementsWalked, AlternativeWalked, AlternativesWalked}
+use Rattle.words.specs.Room.{Room}
+use Rattle.collisions.specs.Names.{labels_bit, references_bit, has_name, Ordered}
+use Rattle.collisions.specs.Walks.{LabelSeen, LeafSeen}
+use Rattle.collisions.specs.Clash.{clash_label, clash_leaf, comparing, NameBound, ClashesAt}
+use Rattle.collisions.proofs.clash.see_leaf.Goals as goal
+use Rattle.collisions.proofs.Laws.Clash.{clashes}
+
+-- src/clash.rt:78:9
+pub returns-then-kind-eq-CALL : goal.returns-then-kind-eq-CALL
+returns-then-kind-eq-CALL c = search (rules, clashes)
+
+-- src/clash.rt:81:9
+pub returns-then-kind-eq-TOKEN : goal.returns-then-kind-eq-TOKEN
+returns-then-kind-eq-TOKEN c = search (rules, clashes)
+
+-- src/clash.rt:62:1
+pub returns : goal.returns
+returns c = search (rules, clashes)
