@@ -1,0 +1,26 @@
+use Rattle.std.proofs.Common.{rules, ◌≡◌, ◌+◌, ◌<◌, ◌≤◌, ◌^◌, ℕ, ◌-◌, ◌*◌, length, ◌/◌, ◌%◌, Bool, true, false, nat_eq, nat_lt, List, [], ◌∷◌, ◌++◌, slice_index_or, slice_set, bit_and, bit_or, Fits, w8, w32, w64, Bor, MutBor}
+use Rattle.grammar.specs.Numbers.{most_words}
+use Rattle.grammar.specs.Tree.{inner_depth}
+use Rattle.grammar.specs.Words.{words}
+use Rattle.grammar.specs.Found.{FoundAlternative, FoundRule}
+use Rattle.words.specs.Room.{Room}
+use Rattle.planned.specs.List.{Located, ListedIn}
+use Rattle.steps.specs.Decide.{Searchable, CollisionAt, OneAt, IsCounted, SmallSize, HandFits, AlternativeCounted, RuleSized}
+use Rattle.steps.proofs.decide.collision.Goals as goal
+use Rattle.steps.proofs.Laws.Decide.{collides}
+
+-- src/decide.rt:70:9
+pub returns-then-quiet : goal.returns-then-quiet
+returns-then-quiet c = search (rules, collides)
+
+-- src/decide.rt:74:9
+pub returns-then-c : goal.returns-then-c
+returns-then-c c = search (rules, collides)
+
+-- src/decide.rt:77:9
+pub returns-then-c-2 : goal.returns-then-c-2
+returns-then-c-2 c = search (rules, collides)
+
+-- src/decide.rt:64:1
+pub returns : goal.returns
+returns c = search (rules, collides)
