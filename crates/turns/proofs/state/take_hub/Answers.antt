@@ -1,0 +1,23 @@
+use Rattle.std.proofs.Common.{rules, ◌≡◌, true, ◌≤◌, ℕ, ◌+◌, ◌-◌, ◌*◌, ◌<◌, length, ◌/◌, ◌%◌, Bool, false, nat_eq, nat_lt, List, [], ◌∷◌, ◌++◌, slice_index_or, slice_set, bit_and, bit_or, Fits, w8, w32, w64, Bor, MutBor}
+use Rattle.grammar.specs.Numbers.{most_words}
+use Rattle.grammar.specs.Words.{words}
+use Rattle.words.specs.Room.{Room}
+use Rattle.planned.specs.List.{Laid, HasTop, HasRoom, Located, Movable}
+use Rattle.planned.specs.Moves.{IsDrained}
+use Rattle.turns.specs.Midway.{IsStandard, Shut, Ready, HasNext, StackTaken, TakenFrom, PutSettled}
+use Rattle.turns.proofs.state.take_hub.Goals as goal
+use Rattle.turns.proofs.Laws.Midway.{taking}
+
+-- src/state.rt:94:9
+pub hub_in_hand-x-requires-clause-found_alternative :
+    goal.hub_in_hand-x-requires-clause-found_alternative
+hub_in_hand-x-requires-clause-found_alternative c = search (rules, taking)
+
+-- src/state.rt:95:9
+pub alternative_end-at-requires-clause-found_alternative :
+    goal.alternative_end-at-requires-clause-found_alternative
+alternative_end-at-requires-clause-found_alternative c = search (rules, taking)
+
+-- src/state.rt:87:1
+pub returns : goal.returns
+returns c = search (rules, taking)
