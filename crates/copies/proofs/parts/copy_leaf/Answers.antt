@@ -1,0 +1,20 @@
+use Rattle.std.proofs.Common.{rules, ◌≡◌, ◌∷◌, ◌+◌, ◌-◌, ◌*◌, ◌≤◌, length, get_or, take, drop, ℕ, ◌<◌, ◌/◌, ◌%◌, Bool, true, false, nat_eq, nat_lt, List, [], ◌++◌, slice_set, bit_and, bit_or, Fits, w8, w32, w64, Bor, MutBor}
+use Rattle.grammar.specs.Numbers.{alternative_sort, action_sort, predicate_sort}
+use Rattle.grammar.specs.Words.{words}
+use Rattle.words.specs.Room.{Room}
+use Rattle.writing.specs.Wrote.{Wrote}
+use Rattle.copies.specs.Heads.{LabelRoom, LabelGiven, HeadRoom, HeadCopied, packed_if, MarkedRoom, BehindRoom, CopiedBehind, MarkedCopied, LeafRoom, LeafCopied, CountCopied}
+use Rattle.copies.proofs.parts.copy_leaf.Goals as goal
+use Rattle.copies.proofs.Laws.Leaves.{leaves}
+
+-- src/parts.rt:183:9
+pub returns-then-kind-eq-ACTION : goal.returns-then-kind-eq-ACTION
+returns-then-kind-eq-ACTION c = search (rules, leaves)
+
+-- src/parts.rt:186:9
+pub returns-then-kind-eq-PREDICATE : goal.returns-then-kind-eq-PREDICATE
+returns-then-kind-eq-PREDICATE c = search (rules, leaves)
+
+-- src/parts.rt:168:1
+pub returns : goal.returns
+returns c = search (rules, leaves)
