@@ -1,0 +1,26 @@
+use Rattle.std.proofs.Common.{rules, ◌<◌, ◌≤◌, ◌≡◌, ℕ, ◌+◌, ◌-◌, ◌*◌, length, ◌/◌, ◌%◌, Bool, true, false, nat_eq, nat_lt, List, [], ◌∷◌, ◌++◌, slice_index_or, slice_set, bit_and, bit_or, Fits, w8, w32, w64, Bor, MutBor}
+use Rattle.grammar.specs.Tree.{inner_depth}
+use Rattle.grammar.specs.Words.{words}
+use Rattle.words.specs.Room.{Room}
+use Rattle.analysis.specs.Facts.{Standing}
+use Rattle.planned.specs.List.{Laid, AllIn}
+use Rattle.drafts.specs.Draft.{Open}
+use Rattle.compose.specs.Hub.{NewHubFits, NewHubAdded, NewRulesFit, NewRulesAdded}
+use Rattle.compose.proofs.rules.add_hub.Goals as goal
+use Rattle.compose.proofs.Laws.Rules.{hubs}
+
+-- src/rules.rt:41:9
+pub write_hub-behind-requires-clause-room : goal.write_hub-behind-requires-clause-room
+write_hub-behind-requires-clause-room c = search (rules, hubs)
+
+-- src/rules.rt:41:9
+pub write_hub-behind-requires-clause-hub_fits : goal.write_hub-behind-requires-clause-hub_fits
+write_hub-behind-requires-clause-hub_fits c = search (rules, hubs)
+
+-- src/rules.rt:42:9
+pub add_row-with-requires : goal.add_row-with-requires
+add_row-with-requires c = search (rules, hubs)
+
+-- src/rules.rt:19:1
+pub returns : goal.returns
+returns c = search (rules, hubs)
