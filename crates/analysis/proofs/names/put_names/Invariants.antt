@@ -1,5 +1,5 @@
 use Prim.Native.Nat.{◌-◌}
-use Rattle.analysis.proofs.Laws.Names.{Putting, puts}
+use Rattle.analysis.proofs.Laws.Names.{Putting}
 use Rattle.analysis.proofs.names.put_names.Given as goal
 
 abbrev pub invariant-loop-i : goal.invariant-loop-i

@@ -1,9 +1,6 @@
-use Rattle.std.proofs.Common.{rules, ◌≡◌, ◌<◌, ◌≤◌, ◌%◌, length, ℕ, ◌+◌, ◌-◌, ◌*◌, ◌/◌, Bool, true, false, nat_eq, nat_lt, List, [], ◌∷◌, ◌++◌, slice_index_or, slice_set, bit_and, bit_or, Fits, w8, w32, w64, Bor, MutBor}
-use Rattle.grammar.specs.Numbers.{rule_limit}
-use Rattle.analysis.specs.Names.{Told, Tabled, IsTarget, table_with, slots}
+use Rattle.std.proofs.Common.{rules}
 use Rattle.analysis.proofs.names.scan.Goals as goal
-use Prim.Native.Nat.{◌-◌}
-use Rattle.analysis.proofs.Laws.Names.{Scanning, scans}
+use Rattle.analysis.proofs.Laws.Names.{scans}
 
 -- src/names.rt:64:13
 pub returns-then-names-i : goal.returns-then-names-i

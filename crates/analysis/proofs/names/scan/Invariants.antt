@@ -1,5 +1,5 @@
 use Prim.Native.Nat.{◌-◌}
-use Rattle.analysis.proofs.Laws.Names.{Scanning, scans}
+use Rattle.analysis.proofs.Laws.Names.{Scanning}
 use Rattle.analysis.proofs.names.scan.Given as goal
 
 abbrev pub invariant-loop-i : goal.invariant-loop-i

@@ -1,6 +1,6 @@
 use Rattle.grammar.specs.Words.{words}
 use Rattle.reach.specs.Rows.{Behind}
-use Rattle.analysis.proofs.Laws.Rounded.{Finding, finding}
+use Rattle.analysis.proofs.Laws.Rounded.{Finding}
 use Rattle.analysis.proofs.rounds.rounds.Given as goal
 
 abbrev pub invariant-loop-left : goal.invariant-loop-left

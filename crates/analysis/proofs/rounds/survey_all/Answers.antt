@@ -1,21 +1,6 @@
-use Rattle.std.proofs.lemmas.Grind.{common_steps}
-use Rattle.std.proofs.Common.{rules, ◌≡◌, ◌<◌, ◌≤◌, length, ℕ, ◌+◌, ◌-◌, ◌*◌, ◌/◌, ◌%◌, Bool, true, false, nat_eq, nat_lt, List, [], ◌∷◌, ◌++◌, slice_index_or, slice_set, bit_and, bit_or, Fits, w8, w32, w64, Bor, MutBor}
-use Rattle.grammar.specs.Numbers.{rule_limit, work_bytes}
-use Rattle.grammar.specs.Words.{words}
-use Rattle.words.specs.Room.{Room}
-use Rattle.records.specs.Rules.{FoundRows}
-use Rattle.analysis.specs.Names.{Tabled, table_with}
-use Rattle.analysis.specs.Survey.{view_of}
-use Rattle.analysis.specs.Rounds.{one_if, Marked, Recording}
-use Rattle.analysis.specs.Facts.{Standing, FactsFound}
-use Rattle.reach.specs.Rows.{Behind}
+use Rattle.std.proofs.Common.{rules}
 use Rattle.analysis.proofs.rounds.survey_all.Goals as goal
-use Prim.Native.Nat.{◌-◌, ◌≤◌}
 use native.Mathlib.Omega.{arith}
-use Rattle.grammar.specs.Words.{words}
-use Rattle.grammar.specs.Numbers.{rule_limit}
-use Rattle.analysis.specs.Survey.{view_of}
-use Rattle.analysis.specs.Rounds.{Recording}
 use Rattle.analysis.proofs.Laws.Standing.{standing}
 use Rattle.analysis.proofs.Laws.Rounds.{record_more, recording}
 

@@ -1,11 +1,8 @@
 use Prim.Native.Nat.{◌-◌, ◌≤◌}
-use native.Mathlib.Omega.{arith}
 use Rattle.grammar.specs.Words.{words}
 use Rattle.grammar.specs.Numbers.{rule_limit}
 use Rattle.analysis.specs.Survey.{view_of}
 use Rattle.analysis.specs.Rounds.{Recording}
-use Rattle.analysis.proofs.Laws.Standing.{standing}
-use Rattle.analysis.proofs.Laws.Rounds.{record_more, recording}
 use Rattle.analysis.proofs.rounds.survey_all.Given as goal
 
 abbrev pub invariant-loop-i : goal.invariant-loop-i

@@ -1,9 +1,8 @@
 use mathlib.Core.Path.{◌≡◌}
 use lib.ListN.{length}
 use Rattle.grammar.specs.Words.{words}
-use Rattle.grammar.specs.Laws.Fold.{folding}
 use Rattle.analysis.specs.Survey.{view_of, seen_of}
-use Rattle.analysis.proofs.Laws.Walks.{BodyFolding, body_room}
+use Rattle.analysis.proofs.Laws.Walks.{BodyFolding}
 use Rattle.analysis.proofs.survey.body.Given as goal
 
 abbrev pub invariant-loop-i : goal.invariant-loop-i

@@ -1,20 +1,7 @@
-use Rattle.std.proofs.Common.{rules, ◌≤◌, length, ◌≡◌, ℕ, ◌+◌, ◌-◌, ◌*◌, ◌<◌, ◌/◌, ◌%◌, Bool, true, false, nat_eq, nat_lt, List, [], ◌∷◌, ◌++◌, slice_index_or, slice_set, bit_and, bit_or, Fits, w8, w32, w64, Bor, MutBor}
-use Rattle.grammar.specs.Numbers.{rule_limit}
-use Rattle.grammar.specs.Words.{words}
-use Rattle.grammar.specs.Found.{FoundElement, FoundElements, FoundAlternative, FoundAlternatives}
-use Rattle.grammar.specs.Fold.{ElementWalked, ElementsWalked, AlternativeWalked, AlternativesWalked}
-use Rattle.words.specs.Room.{Room}
-use Rattle.analysis.specs.Names.{Tabled}
-use Rattle.analysis.specs.Survey.{view_of, seen_of, surveying}
+use Rattle.std.proofs.Common.{rules}
 use Rattle.analysis.proofs.walk.+tree.Goals as goal
-use native.Mathlib.Omega.{arith}
-use mathlib.Core.Path.{◌≡◌}
-use Prim.Native.Nat.{ℕ, ◌<◌, ◌+◌, ◌*◌}
-use lib.ListN.{length}
-use Rattle.grammar.specs.Words.{words}
 use Rattle.grammar.specs.Laws.Found.{rooms, inner}
-use Rattle.grammar.specs.Laws.Fold.{ElementsFolding, AlternativesFolding, folding}
-use Rattle.analysis.specs.Survey.{view_of, seen_of, surveying}
+use Rattle.grammar.specs.Laws.Fold.{folding}
 use Rattle.analysis.proofs.Laws.Walks.{surveys, block_lower}
 
 -- src/walk.rt:175:9
@@ -28,7 +15,7 @@ alternative-elements-e-requires t c = search (rules, inner, rooms, surveys, fold
 
 -- src/walk.rt:156:1
 pub alternative-returns : goal.alternative-returns
-alternative-returns t c = search (rules, inner, rooms, surveys, folding, block_lower)
+alternative-returns t c = search (rules, inner, rooms, surveys, folding)
 
 -- src/walk.rt:213:13
 pub alternatives-alternative-q-requires : goal.alternatives-alternative-q-requires
@@ -40,7 +27,7 @@ alternatives-loop-i-preserved t c = search (rules, inner, rooms, surveys, foldin
 
 -- src/walk.rt:188:1
 pub alternatives-returns : goal.alternatives-returns
-alternatives-returns t c = search (rules, inner, rooms, surveys, folding, block_lower)
+alternatives-returns t c = search (rules, inner, rooms, surveys, folding)
 
 -- src/walk.rt:44:9
 pub element-element_head-head-requires-clause-room :
@@ -49,7 +36,7 @@ element-element_head-head-requires-clause-room t c = search (rules, inner, rooms
 
 -- src/walk.rt:49:9
 pub element-returns-then-head-eq-TOKEN : goal.element-returns-then-head-eq-TOKEN
-element-returns-then-head-eq-TOKEN t c = search (rules, inner, rooms, surveys, folding, block_lower)
+element-returns-then-head-eq-TOKEN t c = search (rules, inner, rooms, surveys, folding)
 
 -- src/walk.rt:142:13
 pub elements-element-q-requires : goal.elements-element-q-requires
@@ -61,7 +48,7 @@ elements-loop-i-preserved t c = search (rules, inner, rooms, surveys, folding, b
 
 -- src/walk.rt:117:1
 pub elements-returns : goal.elements-returns
-elements-returns t c = search (rules, inner, rooms, surveys, folding, block_lower)
+elements-returns t c = search (rules, inner, rooms, surveys, folding)
 
 -- src/walk.rt:78:9
 pub other_element-element_head-head-requires-clause-room :
@@ -70,7 +57,7 @@ other_element-element_head-head-requires-clause-room t c = search (rules, inner,
 
 -- src/walk.rt:87:13
 pub other_element-overflow_sub-depth : goal.other_element-overflow_sub-depth
-other_element-overflow_sub-depth t c = search (rules, inner, rooms, surveys, folding, block_lower)
+other_element-overflow_sub-depth t c = search (rules, inner, rooms, surveys, folding)
 
 -- src/walk.rt:84:13
 pub other_element-alternatives-b-requires : goal.other_element-alternatives-b-requires
@@ -78,8 +65,8 @@ other_element-alternatives-b-requires t c = search (rules, inner, rooms, surveys
 
 -- src/walk.rt:98:9
 pub other_element-returns-then-kind-eq-BLOCK : goal.other_element-returns-then-kind-eq-BLOCK
-other_element-returns-then-kind-eq-BLOCK t c = search (rules, inner, rooms, surveys, folding, block_lower)
+other_element-returns-then-kind-eq-BLOCK t c = search (rules, inner, rooms, surveys, folding)
 
 -- src/walk.rt:59:1
 pub other_element-returns : goal.other_element-returns
-other_element-returns t c = search (rules, inner, rooms, surveys, folding, block_lower)
+other_element-returns t c = search (rules, inner, rooms, surveys, folding)

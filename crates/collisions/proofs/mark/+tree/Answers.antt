@@ -1,25 +1,9 @@
-use Rattle.std.proofs.Common.{rules, ◌≡◌, ◌+◌, ◌<◌, ◌≤◌, ℕ, ◌-◌, ◌*◌, length, ◌/◌, ◌%◌, Bool, true, false, nat_eq, nat_lt, List, [], ◌∷◌, ◌++◌, slice_index_or, slice_set, bit_and, bit_or, Fits, w8, w32, w64, Bor, MutBor}
-use Rattle.grammar.specs.Numbers.{block_kind, most_words}
-use Rattle.grammar.specs.Tree.{inner_depth}
-use Rattle.grammar.specs.Words.{words}
-use Rattle.grammar.specs.Found.{FoundElement, FoundElements, FoundAlternative, FoundAlternatives, HeadAt}
-use Rattle.grammar.specs.Fold.{ElementWalked, ElementsWalked, AlternativeWalked, AlternativesWalked}
-use Rattle.words.specs.Room.{Room}
-use Rattle.planned.specs.Layout.{meaning}
-use Rattle.planned.specs.List.{Located, ListedIn}
-use Rattle.collisions.specs.Names.{Ordered, Kept}
-use Rattle.collisions.specs.Walks.{LeafSeen, FoundReference, FoundReferences, ItemsWalked}
-use Rattle.collisions.specs.Mark.{marks_of, mark_leaf, marking, LabelMarked, ReferenceMarked, ReferencesMarked, MarkedAround}
+use Rattle.std.proofs.Common.{rules}
 use Rattle.collisions.proofs.mark.+tree.Goals as goal
-use native.Mathlib.Omega.{arith}
-use Rattle.grammar.specs.Words.{words}
 use Rattle.grammar.specs.Laws.Found.{rooms, inner}
-use Rattle.grammar.specs.Laws.Fold.{ElementsFolding, AlternativesFolding, folding}
-use Rattle.collisions.specs.Names.{Kept}
-use Rattle.collisions.specs.Mark.{marks_of, marking}
+use Rattle.grammar.specs.Laws.Fold.{folding}
 use Rattle.collisions.proofs.Laws.Walks.{notes}
 use Rattle.collisions.proofs.Laws.Mark.{marks, same}
-use Prim.Native.Nat.{ℕ, ◌<◌, ◌+◌, ◌*◌}
 
 -- src/mark.rt:177:9
 pub alternative-alternative_head-head-requires-clause-room :

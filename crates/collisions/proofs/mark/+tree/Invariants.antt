@@ -1,12 +1,8 @@
-use native.Mathlib.Omega.{arith}
 use Rattle.grammar.specs.Words.{words}
-use Rattle.grammar.specs.Laws.Found.{rooms, inner}
-use Rattle.grammar.specs.Laws.Fold.{ElementsFolding, AlternativesFolding, folding}
+use Rattle.grammar.specs.Laws.Fold.{ElementsFolding, AlternativesFolding}
 use Rattle.collisions.specs.Names.{Kept}
 use Rattle.collisions.specs.Mark.{marks_of, marking}
-use Rattle.collisions.proofs.Laws.Walks.{notes}
-use Rattle.collisions.proofs.Laws.Mark.{marks, same}
-use Prim.Native.Nat.{ℕ, ◌<◌, ◌+◌, ◌*◌}
+use Prim.Native.Nat.{◌+◌, ◌*◌}
 use Rattle.collisions.proofs.mark.+tree.Given as goal
 
 abbrev pub decreases-alternative : goal.decreases-alternative

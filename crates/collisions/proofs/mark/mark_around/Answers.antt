@@ -1,24 +1,12 @@
-use Rattle.std.proofs.Common.{rules, ◌≡◌, ◌+◌, ◌<◌, ◌≤◌, ℕ, ◌-◌, ◌*◌, length, ◌/◌, ◌%◌, Bool, true, false, nat_eq, nat_lt, List, [], ◌∷◌, ◌++◌, slice_index_or, slice_set, bit_and, bit_or, Fits, w8, w32, w64, Bor, MutBor}
-use Rattle.grammar.specs.Numbers.{block_kind, most_words}
-use Rattle.grammar.specs.Tree.{inner_depth}
-use Rattle.grammar.specs.Words.{words}
-use Rattle.grammar.specs.Found.{FoundElement, FoundElements, FoundAlternative, FoundAlternatives, HeadAt}
-use Rattle.grammar.specs.Fold.{ElementWalked, ElementsWalked, AlternativeWalked, AlternativesWalked}
-use Rattle.words.specs.Room.{Room}
-use Rattle.planned.specs.Layout.{meaning}
-use Rattle.planned.specs.List.{Located, ListedIn}
-use Rattle.collisions.specs.Names.{Ordered, Kept}
-use Rattle.collisions.specs.Walks.{LeafSeen, FoundReference, FoundReferences, ItemsWalked}
-use Rattle.collisions.specs.Mark.{marks_of, mark_leaf, marking, LabelMarked, ReferenceMarked, ReferencesMarked, MarkedAround}
+use Rattle.std.proofs.Common.{rules}
 use Rattle.collisions.proofs.mark.mark_around.Goals as goal
-use native.Mathlib.Omega.{arith}
-use Rattle.collisions.proofs.Laws.Around.{clear_ordered, clear_located, clear_listed, later_located, later_listed, around_done}
+use Rattle.collisions.proofs.Laws.Around.{clear_ordered, clear_listed, around_done}
 use Rattle.collisions.proofs.Laws.Mark.{same}
 
 -- src/mark.rt:263:9
 pub mark_items-before-requires-clause-ordered : goal.mark_items-before-requires-clause-ordered
-mark_items-before-requires-clause-ordered c = search (rules, clear_located, clear_ordered, clear_listed, later_located, same, later_listed, around_done)
+mark_items-before-requires-clause-ordered c = search (rules, clear_ordered, clear_listed, same)
 
 -- src/mark.rt:248:1
 pub returns : goal.returns
-returns c = search (rules, clear_located, clear_ordered, clear_listed, later_located, same, later_listed, around_done)
+returns c = search (rules, same, around_done)

@@ -1,13 +1,10 @@
-use native.Mathlib.Omega.{arith}
 use Prim.Native.Nat.{◌-◌}
 use Rattle.grammar.specs.Tree.{inner_depth}
 use Rattle.grammar.specs.Words.{words}
 use Rattle.planned.specs.Layout.{meaning}
 use Rattle.collisions.specs.Names.{Kept}
 use Rattle.collisions.specs.Mark.{marks_of, marking}
-use Rattle.collisions.proofs.Laws.Items.{Itemizing, itemizing}
-use Rattle.collisions.proofs.Laws.Mark.{same}
-use Rattle.collisions.proofs.Laws.Around.{kept_located, marked_found, marking_more}
+use Rattle.collisions.proofs.Laws.Items.{Itemizing}
 use Rattle.collisions.proofs.mark.mark_items.Given as goal
 
 abbrev pub invariant-loop-i : goal.invariant-loop-i

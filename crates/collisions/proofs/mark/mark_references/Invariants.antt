@@ -1,10 +1,8 @@
 use Prim.Native.Nat.{◌<◌}
-use native.Mathlib.Omega.{arith}
 use Rattle.grammar.specs.Words.{words}
-use Rattle.grammar.specs.Laws.Fold.{folding}
 use Rattle.collisions.specs.Names.{Kept}
 use Rattle.collisions.specs.Mark.{marks_of}
-use Rattle.collisions.proofs.Laws.Mark.{ReferencesFolding, next_room, references_done, same}
+use Rattle.collisions.proofs.Laws.Mark.{ReferencesFolding}
 use Rattle.collisions.proofs.mark.mark_references.Given as goal
 
 abbrev pub invariant-loop-i : goal.invariant-loop-i

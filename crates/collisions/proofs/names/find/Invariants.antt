@@ -1,6 +1,6 @@
 use Prim.Native.Nat.{◌-◌}
 use Rattle.grammar.specs.Words.{words}
-use Rattle.collisions.proofs.Laws.Find.{Halving, halving}
+use Rattle.collisions.proofs.Laws.Find.{Halving}
 use Rattle.collisions.proofs.names.find.Given as goal
 
 abbrev pub invariant-loop-low : goal.invariant-loop-low

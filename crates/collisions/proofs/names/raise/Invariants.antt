@@ -1,5 +1,5 @@
 use Prim.Native.Nat.{◌-◌}
-use Rattle.collisions.proofs.Laws.Insert.{Raising, raising}
+use Rattle.collisions.proofs.Laws.Insert.{Raising}
 use Rattle.collisions.proofs.names.raise.Given as goal
 
 abbrev pub invariant-loop-i : goal.invariant-loop-i

@@ -1,10 +1,7 @@
-use native.Mathlib.Omega.{arith}
 use Rattle.grammar.specs.Words.{words}
-use Rattle.grammar.specs.Laws.Found.{rooms, inner}
-use Rattle.grammar.specs.Laws.Fold.{ElementsFolding, AlternativesFolding, folding}
+use Rattle.grammar.specs.Laws.Fold.{ElementsFolding, AlternativesFolding}
 use Rattle.collisions.specs.Quiet.{listening}
-use Rattle.collisions.proofs.Laws.Walks.{notes}
-use Prim.Native.Nat.{ℕ, ◌<◌, ◌+◌, ◌*◌}
+use Prim.Native.Nat.{◌+◌, ◌*◌}
 use Rattle.collisions.proofs.quiet.+tree.Given as goal
 
 abbrev pub decreases-alternative : goal.decreases-alternative

@@ -4,8 +4,7 @@ use Rattle.grammar.specs.Tree.{inner_depth}
 use Rattle.grammar.specs.Words.{words}
 use Rattle.planned.specs.Layout.{meaning}
 use Rattle.collisions.specs.Quiet.{listening}
-use Rattle.collisions.proofs.Laws.Items.{Itemizing, itemizing}
-use Rattle.collisions.proofs.Laws.Quiet.{quiet_done}
+use Rattle.collisions.proofs.Laws.Items.{Itemizing}
 use Rattle.collisions.proofs.quiet.is_quiet.Given as goal
 
 abbrev pub invariant-loop-i : goal.invariant-loop-i

@@ -1,17 +1,11 @@
-use Rattle.std.proofs.lemmas.Grind.{common_steps}
-use Rattle.std.proofs.Common.{rules, ◌≤◌, ◌≡◌, ℕ, ◌+◌, ◌-◌, ◌*◌, ◌<◌, length, ◌/◌, ◌%◌, Bool, true, false, nat_eq, nat_lt, List, [], ◌∷◌, ◌++◌, slice_index_or, slice_set, bit_and, bit_or, Fits, w8, w32, w64, Bor, MutBor}
-use Rattle.grammar.specs.Words.{words}
-use Rattle.words.specs.Room.{Room}
-use Rattle.copies.specs.Copy.{ElementFits, ElementCopied, ElementsFit, ElementsCopied, AlternativeFits, AlternativeCopied, AlternativesFit, AlternativesCopied}
+use Rattle.std.proofs.Common.{rules}
 use Rattle.copies.proofs.copy.+tree.Goals as goal
 use native.Mathlib.Omega.{arith}
-use Prim.Native.Nat.{ℕ, ◌<◌, ◌+◌, ◌*◌}
-use Rattle.grammar.specs.Words.{words}
 use Rattle.grammar.specs.Laws.Found.{rooms, inner}
 use Rattle.copies.specs.Laws.Grown.{growth}
-use Rattle.copies.proofs.Laws.Copying.{ElementsCopying, AlternativesCopying, copying, copying_fits}
-use Rattle.copies.proofs.Laws.Elements.{elementary, leaf_room, alternatives_fit, element_block}
-use Rattle.copies.proofs.Laws.Alternatives.{alternating, alternative_copied}
+use Rattle.copies.proofs.Laws.Copying.{copying, copying_fits}
+use Rattle.copies.proofs.Laws.Elements.{elementary}
+use Rattle.copies.proofs.Laws.Alternatives.{alternating}
 
 -- src/copy.rt:100:9
 pub copy_alternative-alternative_head-head-requires-clause-room :

@@ -1,11 +1,6 @@
-use native.Mathlib.Omega.{arith}
-use Prim.Native.Nat.{ℕ, ◌<◌, ◌+◌, ◌*◌}
+use Prim.Native.Nat.{◌+◌, ◌*◌}
 use Rattle.grammar.specs.Words.{words}
-use Rattle.grammar.specs.Laws.Found.{rooms, inner}
-use Rattle.copies.specs.Laws.Grown.{growth}
-use Rattle.copies.proofs.Laws.Copying.{ElementsCopying, AlternativesCopying, copying, copying_fits}
-use Rattle.copies.proofs.Laws.Elements.{elementary, leaf_room, alternatives_fit, element_block}
-use Rattle.copies.proofs.Laws.Alternatives.{alternating, alternative_copied}
+use Rattle.copies.proofs.Laws.Copying.{ElementsCopying, AlternativesCopying}
 use Rattle.copies.proofs.copy.+tree.Given as goal
 
 abbrev pub decreases-copy_alternative : goal.decreases-copy_alternative

@@ -1,10 +1,4 @@
-use Rattle.std.proofs.Common.{rules, ◌<◌, ◌≤◌, ◌≡◌, ℕ, ◌+◌, ◌-◌, ◌*◌, length, ◌/◌, ◌%◌, Bool, true, false, nat_eq, nat_lt, List, [], ◌∷◌, ◌++◌, slice_index_or, slice_set, bit_and, bit_or, Fits, w8, w32, w64, Bor, MutBor}
-use Rattle.grammar.specs.Numbers.{rule_limit}
-use Rattle.grammar.specs.Words.{words}
-use Rattle.words.specs.Room.{Room}
-use Rattle.analysis.specs.Facts.{Standing}
-use Rattle.drafts.specs.Draft.{Open}
-use Rattle.drafts.specs.Kept.{PlaceEnds, RulesFit, RulesAdded}
+use Rattle.std.proofs.Common.{rules}
 use Rattle.drafts.proofs.kept.copy_rules.Goals as goal
 use Rattle.drafts.proofs.kept.copy_rules.Goals.{then-not-has, else-not-has}
 use mathlib.Core.Path.{refl, ap}
@@ -13,25 +7,25 @@ use Rattle.drafts.proofs.Laws.Kept.{rule_gone, Spans, rule_spans, rule_added, co
 pub overflow_sub-long : goal.overflow_sub-long
 overflow_sub-long c =
     let z : Spans c.args.end c.index-at.result c.rule_end.result c.loop-i.to = rule_spans c.requires.room.1 (search rules) (c.rule_end.ensures.is _ refl refl) c.index-at.ensures c.if-not-has.true
-        (copying_fits _ _ _ _ _ _ _ _ c.loop-i.invariant c.loop-i-test.true c.has.ensures) in
+    (copying_fits _ _ _ _ _ _ _ _ c.loop-i.invariant c.loop-i-test.true c.has.ensures) in
     z.past
 
 pub copy_words-requires : goal.copy_words-requires
 copy_words-requires c =
     let z : Spans c.args.end c.index-at.result c.rule_end.result c.loop-i.to = rule_spans c.requires.room.1 (search rules) (c.rule_end.ensures.is _ refl refl) c.index-at.ensures c.if-not-has.true
-        (copying_fits _ _ _ _ _ _ _ _ c.loop-i.invariant c.loop-i-test.true c.has.ensures) in
+    (copying_fits _ _ _ _ _ _ _ _ c.loop-i.invariant c.loop-i-test.true c.has.ensures) in
     (search rules, search (rules, copying))
 
 pub overflow_cast-made : goal.overflow_cast-made
 overflow_cast-made c =
     let z : Spans c.args.end c.index-at.result c.rule_end.result c.loop-i.to = rule_spans c.requires.room.1 (search rules) (c.rule_end.ensures.is _ refl refl) c.index-at.ensures c.if-not-has.true
-        (copying_fits _ _ _ _ _ _ _ _ c.loop-i.invariant c.loop-i-test.true c.has.ensures) in
+    (copying_fits _ _ _ _ _ _ _ _ c.loop-i.invariant c.loop-i-test.true c.has.ensures) in
     search rules
 
 pub overflow_add-to : goal.overflow_add-to
 overflow_add-to c =
     let z : Spans c.args.end c.index-at.result c.rule_end.result c.loop-i.to = rule_spans c.requires.room.1 (search rules) (c.rule_end.ensures.is _ refl refl) c.index-at.ensures c.if-not-has.true
-        (copying_fits _ _ _ _ _ _ _ _ c.loop-i.invariant c.loop-i-test.true c.has.ensures) in
+    (copying_fits _ _ _ _ _ _ _ _ c.loop-i.invariant c.loop-i-test.true c.has.ensures) in
     search rules
 
 -- With its row, or as before.

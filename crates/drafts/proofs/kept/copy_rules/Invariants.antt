@@ -1,9 +1,6 @@
-use borrow.Author.Tests.{not-true, not-false}
 use Prim.Native.Nat.{◌-◌}
-use mathlib.Core.Path.{refl, ap}
-use mathlib.Core.Logic.{⊎_elim}
 use Rattle.grammar.specs.Words.{words}
-use Rattle.drafts.proofs.Laws.Kept.{drawn, rule_gone, Spans, rule_spans, rule_added, Copying, copying_fits, copying_more, copying}
+use Rattle.drafts.proofs.Laws.Kept.{drawn, Copying}
 use Rattle.drafts.proofs.kept.copy_rules.Given as goal
 
 abbrev pub invariant-loop-i : goal.invariant-loop-i

@@ -1,6 +1,6 @@
 use Prim.Native.Nat.{◌-◌}
 use Rattle.grammar.specs.Words.{words}
-use Rattle.heads.proofs.Laws.Options.{OptionsTo, options}
+use Rattle.heads.proofs.Laws.Options.{OptionsTo}
 use Rattle.heads.proofs.head.write_options.Given as goal
 
 abbrev pub invariant-loop-i : goal.invariant-loop-i

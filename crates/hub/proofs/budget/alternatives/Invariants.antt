@@ -1,7 +1,5 @@
 use Prim.Native.Nat.{◌-◌, ◌≤◌}
 use Rattle.grammar.specs.Words.{words}
-use Rattle.analysis.proofs.Laws.Standing.{standing}
-use Rattle.hub.proofs.Laws.Budget.{summing}
 use Rattle.hub.specs.Budget.{Summed}
 use Rattle.hub.proofs.budget.alternatives.Given as goal
 

@@ -1,5 +1,4 @@
 use Prim.Native.Nat.{◌-◌, ◌≤◌}
-use Rattle.hub.proofs.Laws.Calls.{calling}
 use Rattle.hub.specs.Calls.{CallsFrom}
 use Rattle.hub.proofs.calls.calls_from.Given as goal
 

@@ -1,6 +1,6 @@
 use Rattle.grammar.specs.Words.{words}
 use Rattle.grammar.specs.Tree.{inner_depth}
-use Rattle.hub.proofs.Laws.Able.{Trying, trying}
+use Rattle.hub.proofs.Laws.Able.{Trying}
 use Rattle.hub.proofs.corner.any_settled.Given as goal
 
 abbrev pub invariant-loop-i : goal.invariant-loop-i

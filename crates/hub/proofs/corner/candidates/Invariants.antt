@@ -1,8 +1,5 @@
-use native.Mathlib.Omega.{arith}
 use Prim.Native.Nat.{◌-◌, ◌≤◌}
 use Rattle.grammar.specs.Words.{words}
-use Rattle.analysis.proofs.Laws.Standing.{standing}
-use Rattle.hub.proofs.Laws.Able.{collecting}
 use Rattle.hub.specs.Corner.{Candidates}
 use Rattle.hub.proofs.corner.candidates.Given as goal
 

@@ -1,16 +1,6 @@
-use Rattle.std.proofs.Common.{rules, ◌≡◌, ◌+◌, ◌<◌, ◌≤◌, ℕ, ◌-◌, ◌*◌, length, ◌/◌, ◌%◌, Bool, true, false, nat_eq, nat_lt, List, [], ◌∷◌, ◌++◌, slice_index_or, slice_set, bit_and, bit_or, Fits, w8, w32, w64, Bor, MutBor}
-use Rattle.grammar.specs.Numbers.{rule_limit}
-use Rattle.grammar.specs.Tree.{inner_depth}
-use Rattle.grammar.specs.Words.{words}
-use Rattle.grammar.specs.Found.{FoundElements, FoundAlternatives, FoundRule}
-use Rattle.words.specs.Room.{Room}
-use Rattle.analysis.specs.Names.{Told}
-use Rattle.analysis.specs.Facts.{Standing}
-use Rattle.hub.specs.Corner.{NameSettles, Settles, AnySettles, IsCandidate, Candidates}
+use Rattle.std.proofs.Common.{rules}
 use Rattle.hub.proofs.corner.settled_outside.Goals as goal
-use native.Mathlib.Omega.{arith}
-use Rattle.grammar.specs.Words.{words}
-use Rattle.hub.proofs.Laws.Corner.{Seeking, seeking}
+use Rattle.hub.proofs.Laws.Corner.{seeking}
 
 -- src/corner.rt:60:13
 pub element_head-head-requires-clause-room : goal.element_head-head-requires-clause-room

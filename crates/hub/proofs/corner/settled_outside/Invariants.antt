@@ -1,6 +1,5 @@
-use native.Mathlib.Omega.{arith}
 use Rattle.grammar.specs.Words.{words}
-use Rattle.hub.proofs.Laws.Corner.{Seeking, seeking}
+use Rattle.hub.proofs.Laws.Corner.{Seeking}
 use Rattle.hub.proofs.corner.settled_outside.Given as goal
 
 abbrev pub invariant-loop-i : goal.invariant-loop-i

@@ -1,12 +1,6 @@
-use Rattle.std.proofs.Common.{rules, ◌≡◌, true, ◌*◌, ◌<◌, ◌≤◌, length, ℕ, ◌+◌, ◌-◌, ◌/◌, ◌%◌, Bool, false, nat_eq, nat_lt, List, [], ◌∷◌, ◌++◌, slice_index_or, slice_set, bit_and, bit_or, Fits, w8, w32, w64, Bor, MutBor}
-use Rattle.grammar.specs.Numbers.{rule_limit}
-use Rattle.grammar.specs.Words.{words}
-use Rattle.grammar.specs.Lists.{member, rising}
-use Rattle.reach.specs.Rows.{RowOf}
-use Rattle.hub.specs.Preserved.{between}
+use Rattle.std.proofs.Common.{rules}
 use Rattle.hub.proofs.preserved.is_preserved.Goals as goal
-use Prim.Native.Nat.{◌-◌}
-use Rattle.hub.proofs.Laws.Preserved.{Halving, halving}
+use Rattle.hub.proofs.Laws.Preserved.{halving}
 
 -- src/preserved.rt:25:13
 pub returns-then-w-id : goal.returns-then-w-id

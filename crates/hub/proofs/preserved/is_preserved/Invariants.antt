@@ -1,5 +1,5 @@
 use Prim.Native.Nat.{◌-◌}
-use Rattle.hub.proofs.Laws.Preserved.{Halving, halving}
+use Rattle.hub.proofs.Laws.Preserved.{Halving}
 use Rattle.hub.proofs.preserved.is_preserved.Given as goal
 
 abbrev pub invariant-loop-low : goal.invariant-loop-low

@@ -2,7 +2,6 @@ use Prim.Native.Nat.{◌-◌, ◌≤◌}
 use Rattle.grammar.specs.Words.{words}
 use Rattle.reach.specs.Rows.{RowOf}
 use Rattle.hub.specs.Preserved.{between}
-use Rattle.hub.proofs.Laws.Preserved.{rowing}
 use Rattle.hub.proofs.preserved.preserved_rows.Given as goal
 
 abbrev pub invariant-loop-i : goal.invariant-loop-i

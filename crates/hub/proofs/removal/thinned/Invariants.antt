@@ -1,7 +1,7 @@
 use Rattle.grammar.specs.Numbers.{rule_limit}
 use Rattle.reach.specs.Rows.{bit}
 use Rattle.analysis.specs.Rounds.{count_below}
-use Rattle.hub.proofs.Laws.Removal.{Thinning, thinning}
+use Rattle.hub.proofs.Laws.Removal.{Thinning}
 use Rattle.hub.proofs.removal.thinned.Given as goal
 
 abbrev pub invariant-loop-planned : goal.invariant-loop-planned

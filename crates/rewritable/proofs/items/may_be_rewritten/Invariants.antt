@@ -1,6 +1,6 @@
 use Prim.Native.Nat.{◌-◌}
 use Rattle.grammar.specs.Words.{words}
-use Rattle.rewritable.proofs.Laws.Listed.{Testing, test_more, testing}
+use Rattle.rewritable.proofs.Laws.Listed.{Testing}
 use Rattle.rewritable.proofs.items.may_be_rewritten.Given as goal
 
 abbrev pub invariant-loop-i : goal.invariant-loop-i

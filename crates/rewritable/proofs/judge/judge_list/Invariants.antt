@@ -1,7 +1,7 @@
 use Prim.Native.Nat.{◌-◌}
 use Rattle.grammar.specs.Words.{words}
 use Rattle.analysis.specs.Survey.{view_of}
-use Rattle.rewritable.proofs.Laws.Settled.{Judging, judging}
+use Rattle.rewritable.proofs.Laws.Settled.{Judging}
 use Rattle.rewritable.proofs.judge.judge_list.Given as goal
 
 abbrev pub invariant-loop-c : goal.invariant-loop-c

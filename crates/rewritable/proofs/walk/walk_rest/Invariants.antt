@@ -3,7 +3,7 @@ use Prim.Native.Nat.{◌-◌}
 use lib.ListN.{length}
 use Rattle.grammar.specs.Words.{words}
 use Rattle.analysis.specs.Survey.{view_of, seen_of}
-use Rattle.rewritable.proofs.Laws.Walks.{Resting, rest_more, resting}
+use Rattle.rewritable.proofs.Laws.Walks.{Resting}
 use Rattle.rewritable.proofs.walk.walk_rest.Given as goal
 
 abbrev pub invariant-loop-i : goal.invariant-loop-i

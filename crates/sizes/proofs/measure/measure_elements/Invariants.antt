@@ -1,6 +1,6 @@
 use Prim.Native.Nat.{◌-◌}
 use Rattle.grammar.specs.Words.{words}
-use Rattle.sizes.proofs.Laws.Elements.{Adding, adding}
+use Rattle.sizes.proofs.Laws.Elements.{Adding}
 use Rattle.sizes.proofs.measure.measure_elements.Given as goal
 
 abbrev pub invariant-loop-i : goal.invariant-loop-i

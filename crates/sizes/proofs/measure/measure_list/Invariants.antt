@@ -1,6 +1,6 @@
 use Prim.Native.Nat.{◌-◌}
 use Rattle.grammar.specs.Words.{words}
-use Rattle.sizes.proofs.Laws.Settled.{Measuring, measuring_falls, measuring}
+use Rattle.sizes.proofs.Laws.Settled.{Measuring}
 use Rattle.sizes.proofs.measure.measure_list.Given as goal
 
 abbrev pub invariant-loop-c : goal.invariant-loop-c

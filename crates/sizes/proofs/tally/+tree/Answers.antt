@@ -1,17 +1,8 @@
-use Rattle.std.proofs.Common.{rules, ◌≡◌, ◌+◌, ◌*◌, ◌<◌, ◌≤◌, ◌^◌, length, ℕ, ◌-◌, ◌/◌, ◌%◌, Bool, true, false, nat_eq, nat_lt, List, [], ◌∷◌, ◌++◌, slice_index_or, slice_set, bit_and, bit_or, Fits, w8, w32, w64, Bor, MutBor}
-use Rattle.grammar.specs.Words.{words}
-use Rattle.grammar.specs.Found.{FoundElement, FoundElements, FoundAlternative, FoundAlternatives}
-use Rattle.grammar.specs.Fold.{ElementWalked, ElementsWalked, AlternativeWalked, AlternativesWalked}
-use Rattle.words.specs.Room.{Room}
-use Rattle.sizes.specs.Tally.{one_if, ids_in, counting, OwnCounted, AlternativeCounted}
+use Rattle.std.proofs.Common.{rules}
 use Rattle.sizes.proofs.tally.+tree.Goals as goal
-use native.Mathlib.Omega.{arith}
-use Rattle.grammar.specs.Words.{words}
 use Rattle.grammar.specs.Laws.Found.{rooms, inner}
-use Rattle.grammar.specs.Laws.Fold.{ElementsFolding, AlternativesFolding, folding}
-use Rattle.sizes.specs.Tally.{ids_in, counting}
+use Rattle.grammar.specs.Laws.Fold.{folding}
 use Rattle.sizes.proofs.Laws.Counting.{counts}
-use Prim.Native.Nat.{ℕ, ◌<◌, ◌≤◌, ◌+◌, ◌*◌}
 
 -- src/tally.rt:118:9
 pub alternative-alternative_head-inner-requires-clause-room :

@@ -1,6 +1,6 @@
 use Prim.Native.Nat.{◌-◌}
 use Rattle.grammar.specs.Words.{words}
-use Rattle.splices.proofs.Laws.Options.{UnmetListed, listing}
+use Rattle.splices.proofs.Laws.Options.{UnmetListed}
 use Rattle.splices.proofs.options.meets_listed.Given as goal
 
 abbrev pub invariant-loop-i : goal.invariant-loop-i

@@ -1,6 +1,6 @@
 use Prim.Native.Nat.{◌-◌}
 use Rattle.grammar.specs.Words.{words}
-use Rattle.splices.proofs.Laws.Options.{UnmetStanding, standing}
+use Rattle.splices.proofs.Laws.Options.{UnmetStanding}
 use Rattle.splices.proofs.options.meets_standing.Given as goal
 
 abbrev pub invariant-loop-i : goal.invariant-loop-i

@@ -1,9 +1,7 @@
 use Prim.Native.Nat.{◌-◌}
-use mathlib.Core.Logic.{⊎_elim}
 use Rattle.grammar.specs.Words.{words}
-use Rattle.grammar.specs.Laws.Found.{rooms}
 use Rattle.planned.specs.Layout.{options_from}
-use Rattle.splices.proofs.Laws.OptionsAdded.{Adding, adding}
+use Rattle.splices.proofs.Laws.OptionsAdded.{Adding}
 use Rattle.splices.proofs.options.options_added.Given as goal
 
 abbrev pub invariant-loop-j : goal.invariant-loop-j

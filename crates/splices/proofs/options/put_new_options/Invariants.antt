@@ -1,7 +1,6 @@
 use Prim.Native.Nat.{◌-◌}
 use Rattle.grammar.specs.Words.{words}
-use Rattle.grammar.specs.Laws.Found.{rooms}
-use Rattle.splices.proofs.Laws.OptionsPut.{Putting, putting}
+use Rattle.splices.proofs.Laws.OptionsPut.{Putting}
 use Rattle.splices.proofs.options.put_new_options.Given as goal
 
 abbrev pub invariant-loop-j : goal.invariant-loop-j

@@ -1,9 +1,4 @@
-use Rattle.std.proofs.Common.{rules, ◌+◌, ◌*◌, ◌≤◌, length, ◌≡◌, ℕ, ◌-◌, ◌<◌, ◌/◌, ◌%◌, Bool, true, false, nat_eq, nat_lt, List, [], ◌∷◌, ◌++◌, slice_index_or, slice_set, bit_and, bit_or, Fits, w8, w32, w64, Bor, MutBor}
-use Rattle.grammar.specs.Numbers.{most_words}
-use Rattle.grammar.specs.Words.{words}
-use Rattle.grammar.specs.Found.{FoundElements, FoundAlternative}
-use Rattle.words.specs.Room.{Room}
-use Rattle.splices.specs.Places.{PlacesPut, OptionPlacesPut, OptionCount, PartsAt}
+use Rattle.std.proofs.Common.{rules}
 use Rattle.splices.proofs.places.option_count.Goals as goal
 use Rattle.splices.proofs.Laws.Places.{counted}
 

@@ -1,5 +1,5 @@
 use Prim.Native.Nat.{◌-◌}
-use Rattle.splices.proofs.Laws.Places.{OptionPlacing, option_placing}
+use Rattle.splices.proofs.Laws.Places.{OptionPlacing}
 use Rattle.splices.proofs.places.put_option_places.Given as goal
 
 abbrev pub invariant-loop-i : goal.invariant-loop-i

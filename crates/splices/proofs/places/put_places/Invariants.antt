@@ -1,5 +1,5 @@
 use Rattle.grammar.specs.Words.{words}
-use Rattle.splices.proofs.Laws.Places.{Placing, placing}
+use Rattle.splices.proofs.Laws.Places.{Placing}
 use Rattle.splices.proofs.places.put_places.Given as goal
 
 abbrev pub invariant-loop-i : goal.invariant-loop-i

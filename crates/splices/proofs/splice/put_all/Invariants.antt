@@ -1,5 +1,5 @@
 use Rattle.grammar.specs.Words.{words}
-use Rattle.splices.proofs.Laws.SpliceAll.{Splicing, splicing}
+use Rattle.splices.proofs.Laws.SpliceAll.{Splicing}
 use Rattle.splices.proofs.splice.put_all.Given as goal
 
 abbrev pub invariant-loop-k : goal.invariant-loop-k

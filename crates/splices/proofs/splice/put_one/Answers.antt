@@ -1,15 +1,6 @@
-use Rattle.std.proofs.Common.{rules, ◌≡◌, ◌+◌, ◌-◌, ◌<◌, ◌≤◌, ℕ, ◌*◌, length, ◌/◌, ◌%◌, Bool, true, false, nat_eq, nat_lt, List, [], ◌∷◌, ◌++◌, slice_index_or, slice_set, bit_and, bit_or, Fits, w8, w32, w64, Bor, MutBor}
-use Rattle.grammar.specs.Numbers.{most_words}
-use Rattle.grammar.specs.Tree.{inner_depth}
-use Rattle.grammar.specs.Words.{words}
-use Rattle.grammar.specs.Found.{FoundElements, FoundAlternative, FoundRule}
-use Rattle.words.specs.Room.{Room}
-use Rattle.planned.specs.List.{Laid, HasRoom, Located}
-use Rattle.splices.specs.Moves.{Spliceable, PushedSplice}
-use Rattle.planned.specs.Laws.Kept.{with_top}
-use Rattle.splices.specs.Splice.{ElementsPut, HandIn, PartsFit, PartsPut, OneFits, OnePut, AllFit, AllPut}
+use Rattle.std.proofs.Common.{rules}
 use Rattle.splices.proofs.splice.put_one.Goals as goal
-use Rattle.splices.proofs.Laws.SpliceOne.{one_spliced, one_put}
+use Rattle.splices.proofs.Laws.SpliceOne.{one_spliced}
 
 -- src/splice.rt:91:1
 pub returns-clause-one_put : goal.returns-clause-one_put

@@ -1,7 +1,7 @@
 use Prim.Native.Nat.{◌-◌}
 use Rattle.grammar.specs.Tree.{inner_depth}
 use Rattle.grammar.specs.Words.{words}
-use Rattle.steps.proofs.Laws.Seeking.{Seeking, seeking}
+use Rattle.steps.proofs.Laws.Seeking.{Seeking}
 use Rattle.steps.proofs.corner.find_corner.Given as goal
 
 abbrev pub invariant-loop-i : goal.invariant-loop-i

@@ -1,16 +1,7 @@
-use Rattle.std.proofs.Common.{rules, ◌≡◌, ◌+◌, ◌<◌, ◌≤◌, ◌^◌, ℕ, ◌-◌, ◌*◌, length, ◌/◌, ◌%◌, Bool, true, false, nat_eq, nat_lt, List, [], ◌∷◌, ◌++◌, slice_index_or, slice_set, bit_and, bit_or, Fits, w8, w32, w64, Bor, MutBor}
-use Rattle.grammar.specs.Numbers.{most_words}
-use Rattle.grammar.specs.Tree.{inner_depth}
-use Rattle.grammar.specs.Words.{words}
-use Rattle.grammar.specs.Found.{FoundAlternative, FoundRule}
-use Rattle.words.specs.Room.{Room}
-use Rattle.planned.specs.List.{Located, ListedIn}
-use Rattle.steps.specs.Decide.{Searchable, CollisionAt, OneAt, IsCounted, SmallSize, HandFits, AlternativeCounted, RuleSized}
+use Rattle.std.proofs.Common.{rules}
 use Rattle.steps.proofs.decide.splice_size.Goals as goal
-use Rattle.grammar.specs.Tree.{inner_depth}
-use Rattle.grammar.specs.Words.{words}
 use Rattle.grammar.specs.Laws.Fold.{bodies}
-use Rattle.steps.proofs.Laws.Sizing.{Sizing, sizing}
+use Rattle.steps.proofs.Laws.Sizing.{sizing}
 
 -- src/decide.rt:133:5
 pub loop-i-init : goal.loop-i-init

@@ -1,7 +1,6 @@
 use Rattle.grammar.specs.Tree.{inner_depth}
 use Rattle.grammar.specs.Words.{words}
-use Rattle.grammar.specs.Laws.Fold.{bodies}
-use Rattle.steps.proofs.Laws.Sizing.{Sizing, sizing}
+use Rattle.steps.proofs.Laws.Sizing.{Sizing}
 use Rattle.steps.proofs.decide.splice_size.Given as goal
 
 abbrev pub invariant-loop-i : goal.invariant-loop-i

@@ -1,5 +1,5 @@
 use Rattle.grammar.specs.Words.{words}
-use Rattle.substitution.proofs.Laws.Looking.{Looking, looking, looking_found}
+use Rattle.substitution.proofs.Laws.Looking.{Looking}
 use Rattle.substitution.proofs.over.look_all.Given as goal
 
 abbrev pub invariant-loop-i : goal.invariant-loop-i

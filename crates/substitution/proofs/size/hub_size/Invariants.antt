@@ -1,7 +1,6 @@
 use Rattle.grammar.specs.Tree.{inner_depth}
 use Rattle.grammar.specs.Words.{words}
-use Rattle.grammar.specs.Laws.Fold.{bodies}
-use Rattle.substitution.proofs.Laws.Size.{Counting, counting}
+use Rattle.substitution.proofs.Laws.Size.{Counting}
 use Rattle.substitution.proofs.size.hub_size.Given as goal
 
 abbrev pub invariant-loop-i : goal.invariant-loop-i

@@ -1,10 +1,4 @@
-use Rattle.std.proofs.Common.{rules, ◌+◌, ◌≤◌, length, get_or, ◌≡◌, ℕ, ◌-◌, ◌*◌, ◌<◌, ◌/◌, ◌%◌, Bool, true, false, nat_eq, nat_lt, List, [], ◌∷◌, ◌++◌, slice_set, bit_and, bit_or, Fits, w8, w32, w64, Bor, MutBor}
-use Rattle.grammar.specs.Numbers.{most_words, work_bytes}
-use Rattle.grammar.specs.Words.{words}
-use Rattle.words.specs.Room.{Room}
-use Rattle.turns.specs.Ground.{Ground}
-use Rattle.turns.specs.Midway.{LimitsFit, Shut, Ready, NextIs, Begun}
-use Rattle.substitution.specs.Run.{Going, MadeOf}
+use Rattle.std.proofs.Common.{rules}
 use Rattle.substitution.proofs.turning.run.Goals as goal
 use Rattle.substitution.proofs.Laws.Begin.{begun_ready, begun_going, beginning}
 use Rattle.substitution.proofs.Laws.Looking.{unstored}

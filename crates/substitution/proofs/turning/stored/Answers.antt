@@ -1,17 +1,5 @@
-use Rattle.std.proofs.Common.{rules, ◌+◌, ◌≤◌, length, get_or, ◌≡◌, ℕ, ◌-◌, ◌*◌, ◌<◌, ◌/◌, ◌%◌, Bool, true, false, nat_eq, nat_lt, List, [], ◌∷◌, ◌++◌, slice_set, bit_and, bit_or, Fits, w8, w32, w64, Bor, MutBor}
-use Rattle.grammar.specs.Numbers.{most_words, work_bytes}
-use Rattle.grammar.specs.Words.{words}
-use Rattle.words.specs.Room.{Room}
-use Rattle.turns.specs.Ground.{Ground}
-use Rattle.turns.specs.Midway.{LimitsFit, Shut, Ready, NextIs, Begun}
-use Rattle.substitution.specs.Run.{Going, MadeOf}
+use Rattle.std.proofs.Common.{rules}
 use Rattle.substitution.proofs.turning.stored.Goals as goal
-use mathlib.Core.Path.{◌≡◌}
-use lib.ListN.{length}
-use Rattle.grammar.specs.Words.{words}
-use Rattle.turns.specs.Midway.{Shut, Ready}
-use Rattle.turns.specs.Turn.{turns_left}
-use Rattle.substitution.specs.Run.{Going}
 use Rattle.substitution.proofs.Laws.Run.{running}
 
 -- src/turning.rt:82:5

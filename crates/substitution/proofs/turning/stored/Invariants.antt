@@ -4,7 +4,6 @@ use Rattle.grammar.specs.Words.{words}
 use Rattle.turns.specs.Midway.{Shut, Ready}
 use Rattle.turns.specs.Turn.{turns_left}
 use Rattle.substitution.specs.Run.{Going}
-use Rattle.substitution.proofs.Laws.Run.{running}
 use Rattle.substitution.proofs.turning.stored.Given as goal
 
 abbrev pub invariant-loop-c : goal.invariant-loop-c

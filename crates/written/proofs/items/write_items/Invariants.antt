@@ -1,6 +1,6 @@
 use Prim.Native.Nat.{◌-◌}
 use Rattle.grammar.specs.Words.{words}
-use Rattle.written.proofs.Laws.Items.{Drawing, items}
+use Rattle.written.proofs.Laws.Items.{Drawing}
 use Rattle.written.proofs.items.write_items.Given as goal
 
 abbrev pub invariant-loop-i : goal.invariant-loop-i

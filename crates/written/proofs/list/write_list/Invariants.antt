@@ -1,6 +1,6 @@
 use Prim.Native.Nat.{◌-◌}
 use Rattle.grammar.specs.Words.{words}
-use Rattle.written.proofs.Laws.Listing.{Listing, listing}
+use Rattle.written.proofs.Laws.Listing.{Listing}
 use Rattle.written.proofs.list.write_list.Given as goal
 
 abbrev pub invariant-loop-c : goal.invariant-loop-c
