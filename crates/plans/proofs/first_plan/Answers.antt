@@ -1,8 +1,4 @@
-use Rattle.std.proofs.lemmas.Grind.{common_steps}
-use Rattle.std.proofs.Common.{rules, ◌≡◌, length, ℕ, ◌+◌, ◌-◌, ◌*◌, ◌<◌, ◌≤◌, ◌/◌, ◌%◌, Bool, true, false, nat_eq, nat_lt, List, [], ◌∷◌, ◌++◌, slice_index_or, slice_set, bit_and, bit_or, Fits, w8, w32, w64, Bor, MutBor}
-use Rattle.sheet.specs.Answer.{read_lent, work_after}
-use Rattle.facts.specs.Told.{reading_of}
-use Rattle.plans.specs.Told.{NthTold, FirstTold}
+use Rattle.std.proofs.Common.{rules}
 use Rattle.plans.proofs.first_plan.Goals as goal
 use Rattle.facts.proofs.Laws.Told as facts
 use Rattle.plans.proofs.Laws.Ground.{readings}

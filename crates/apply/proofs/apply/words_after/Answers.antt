@@ -1,11 +1,4 @@
-use Rattle.std.proofs.Common.{rules, ◌≡◌, ◌≤◌, length, ℕ, ◌+◌, ◌-◌, ◌*◌, ◌<◌, ◌/◌, ◌%◌, Bool, true, false, nat_eq, nat_lt, List, [], ◌∷◌, ◌++◌, slice_index_or, slice_set, bit_and, bit_or, Fits, w8, w32, w64, Bor, MutBor}
-use Rattle.grammar.specs.Numbers.{most_words}
-use Rattle.grammar.specs.Tree.{inner_depth}
-use Rattle.grammar.specs.Words.{words}
-use Rattle.reference.specs.Numbers.{most_entries}
-use Rattle.planned.specs.Layout.{settled}
-use Rattle.sizes.specs.Sized.{Measured}
-use Rattle.apply.specs.Applied.{Buffers, Applicable, AppliedOf, WordsAfter, EntriesAfter, RefusedBy}
+use Rattle.std.proofs.Common.{rules}
 use Rattle.apply.proofs.apply.words_after.Goals as goal
 use Rattle.apply.proofs.Laws.Done.{applicables}
 use Rattle.apply.proofs.Laws.Sizes.{words_after_lem}

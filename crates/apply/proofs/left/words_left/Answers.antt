@@ -1,19 +1,10 @@
-use Rattle.std.proofs.lemmas.Grind.{common_steps}
-use Rattle.std.proofs.Common.{rules, ◌≤◌, ◌^◌, ◌≡◌, ℕ, ◌+◌, ◌-◌, ◌*◌, ◌<◌, length, ◌/◌, ◌%◌, Bool, true, false, nat_eq, nat_lt, List, [], ◌∷◌, ◌++◌, slice_index_or, slice_set, bit_and, bit_or, Fits, w8, w32, w64, Bor, MutBor}
-use Rattle.grammar.specs.Numbers.{most_words}
-use Rattle.grammar.specs.Words.{words}
-use Rattle.analysis.specs.Facts.{Standing}
-use Rattle.apply.specs.Left.{LeftTake}
+use Rattle.std.proofs.Common.{rules, ◌≤◌}
 use Rattle.apply.proofs.left.words_left.Goals as goal
 use Rattle.apply.proofs.left.words_left.Goals.{then-not-has, else-not-has}
-use borrow.Author.Tests.{not-true, not-false}
 use native.Mathlib.Omega.{arith}
-use Prim.Native.Nat.{◌-◌, ◌≤◌}
+use Prim.Native.Nat.{◌≤◌}
 use mathlib.Core.Path.{refl}
-use mathlib.Core.Logic.{⊎_elim}
-use Rattle.grammar.specs.Numbers.{rule_limit}
-use Rattle.grammar.specs.Words.{words}
-use Rattle.apply.proofs.Laws.Left.{none_taken, ends_within, rule_taken, Counting, counting_more, countings}
+use Rattle.apply.proofs.Laws.Left.{none_taken, ends_within, rule_taken, counting_more, countings}
 
 -- src/left.rt:30:22
 pub overflow_sub-total : goal.overflow_sub-total

@@ -1,11 +1,7 @@
-use borrow.Author.Tests.{not-true, not-false}
-use native.Mathlib.Omega.{arith}
 use Prim.Native.Nat.{◌-◌, ◌≤◌}
-use mathlib.Core.Path.{refl}
-use mathlib.Core.Logic.{⊎_elim}
 use Rattle.grammar.specs.Numbers.{rule_limit}
 use Rattle.grammar.specs.Words.{words}
-use Rattle.apply.proofs.Laws.Left.{none_taken, ends_within, rule_taken, Counting, counting_more, countings}
+use Rattle.apply.proofs.Laws.Left.{Counting}
 use Rattle.apply.proofs.left.words_left.Given as goal
 
 abbrev pub invariant-loop-i : goal.invariant-loop-i

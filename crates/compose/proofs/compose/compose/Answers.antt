@@ -1,8 +1,4 @@
-use Rattle.std.proofs.Common.{rules, ◌≡◌, ◌≤◌, ℕ, ◌+◌, ◌-◌, ◌*◌, ◌<◌, length, ◌/◌, ◌%◌, Bool, true, false, nat_eq, nat_lt, List, [], ◌∷◌, ◌++◌, slice_index_or, slice_set, bit_and, bit_or, Fits, w8, w32, w64, Bor, MutBor}
-use Rattle.grammar.specs.Words.{words}
-use Rattle.words.specs.Room.{Room}
-use Rattle.heads.specs.Front.{compose_at}
-use Rattle.compose.specs.Compose.{Applies, ComposedAs}
+use Rattle.std.proofs.Common.{rules}
 use Rattle.compose.proofs.compose.compose.Goals as goal
 use Rattle.compose.proofs.Laws.Compose.{composings}
 

@@ -1,11 +1,4 @@
-use Rattle.std.proofs.Common.{rules, ◌<◌, ◌≤◌, ◌≡◌, ℕ, ◌+◌, ◌-◌, ◌*◌, length, ◌/◌, ◌%◌, Bool, true, false, nat_eq, nat_lt, List, [], ◌∷◌, ◌++◌, slice_index_or, slice_set, bit_and, bit_or, Fits, w8, w32, w64, Bor, MutBor}
-use Rattle.grammar.specs.Tree.{inner_depth}
-use Rattle.grammar.specs.Words.{words}
-use Rattle.words.specs.Room.{Room}
-use Rattle.analysis.specs.Facts.{Standing}
-use Rattle.planned.specs.List.{Laid, AllIn}
-use Rattle.drafts.specs.Draft.{Open}
-use Rattle.compose.specs.Hub.{NewHubFits, NewHubAdded, NewRulesFit, NewRulesAdded}
+use Rattle.std.proofs.Common.{rules}
 use Rattle.compose.proofs.rules.add_hub.Goals as goal
 use Rattle.compose.proofs.Laws.Rules.{hubs}
 

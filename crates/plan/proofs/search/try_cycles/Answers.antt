@@ -1,27 +1,15 @@
-use Rattle.std.proofs.lemmas.Grind.{common_steps}
-use Rattle.std.proofs.Common.{rules, ◌≡◌, ◌≤◌, length, ℕ, ◌+◌, ◌-◌, ◌*◌, ◌<◌, ◌/◌, ◌%◌, Bool, true, false, nat_eq, nat_lt, List, [], ◌∷◌, ◌++◌, slice_index_or, slice_set, bit_and, bit_or, Fits, w8, w32, w64, Bor, MutBor}
-use Rattle.grammar.specs.Numbers.{rule_limit, most_words, work_bytes}
-use Rattle.grammar.specs.Words.{words}
-use Rattle.words.specs.Room.{Room}
-use Rattle.turns.specs.Midway.{LimitsFit}
-use Rattle.plan.specs.Search.{IsNone, Ended, RulesKnown, FoundOf, JoinedKnown, TriedOf}
+use Rattle.std.proofs.Common.{rules}
 use Rattle.plan.proofs.search.try_cycles.Goals as goal
 use Rattle.plan.proofs.search.try_cycles.Goals.{else-loop-k-test, then-loop-k-test+then-ahead}
-use Prim.Native.Nat.{◌-◌}
-use mathlib.Core.Path.{◌≡◌}
-use mathlib.Core.Logic.{⊎_elim}
-use native.Mathlib.Omega.{arith}
-use lib.ListN.{length}
-use Rattle.grammar.specs.Words.{words}
-use Rattle.plan.proofs.Laws.Search.{Trying, trying, cycle_known, try_full, try_done}
+use Rattle.plan.proofs.Laws.Search.{trying, cycle_known, try_full, try_done}
 
 -- src/search.rt:90:5
 pub loop-k-init : goal.loop-k-init
-loop-k-init c = search (rules, trying, cycle_known, try_full, try_done)
+loop-k-init c = search (rules, trying)
 
 -- src/search.rt:96:15
 pub plan_cycle-requires-clause-cycle_known : goal.plan_cycle-requires-clause-cycle_known
-plan_cycle-requires-clause-cycle_known c = search (rules, trying, cycle_known, try_full, try_done)
+plan_cycle-requires-clause-cycle_known c = search (rules, trying, cycle_known)
 
 -- src/search.rt:90:5
 pub loop-k-preserved : goal.loop-k-preserved
@@ -29,11 +17,11 @@ loop-k-preserved c = search (rules, trying, cycle_known, try_full, try_done)
 
 -- src/search.rt:110:17
 pub returns-in-Planned : goal.returns-in-Planned
-returns-in-Planned c = search (rules, trying, cycle_known, try_full, try_done)
+returns-in-Planned c = search (rules, trying, try_full, try_done)
 
 -- src/search.rt:112:35
 pub returns-in-Overfull : goal.returns-in-Overfull
-returns-in-Overfull c = search (rules, trying, cycle_known, try_full, try_done)
+returns-in-Overfull c = search (rules, trying, try_full, try_done)
 
 -- src/search.rt:66:1
 pub returns : goal.returns

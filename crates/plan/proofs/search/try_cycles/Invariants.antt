@@ -1,10 +1,8 @@
 use Prim.Native.Nat.{◌-◌}
 use mathlib.Core.Path.{◌≡◌}
-use mathlib.Core.Logic.{⊎_elim}
-use native.Mathlib.Omega.{arith}
 use lib.ListN.{length}
 use Rattle.grammar.specs.Words.{words}
-use Rattle.plan.proofs.Laws.Search.{Trying, trying, cycle_known, try_full, try_done}
+use Rattle.plan.proofs.Laws.Search.{Trying}
 use Rattle.plan.proofs.search.try_cycles.Given as goal
 
 abbrev pub invariant-loop-k : goal.invariant-loop-k

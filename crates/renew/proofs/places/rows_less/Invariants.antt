@@ -1,6 +1,5 @@
 use Prim.Native.Nat.{◌-◌}
-use native.Mathlib.Omega.{arith}
-use Rattle.renew.proofs.Laws.Less.{Lessening, lessen_more, lessening}
+use Rattle.renew.proofs.Laws.Less.{Lessening}
 use Rattle.renew.proofs.places.rows_less.Given as goal
 
 abbrev pub invariant-loop-i : goal.invariant-loop-i

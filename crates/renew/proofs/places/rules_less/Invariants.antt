@@ -1,4 +1,4 @@
-use Rattle.renew.proofs.Laws.Fewer.{Dropping, dropping}
+use Rattle.renew.proofs.Laws.Fewer.{Dropping}
 use Rattle.renew.proofs.places.rules_less.Given as goal
 
 abbrev pub invariant-loop-k : goal.invariant-loop-k
