@@ -1,12 +1,4 @@
-use Rattle.std.proofs.Common.{rules, ◌≡◌, [], ◌∷◌, ◌+◌, ◌≤◌, ◌<◌, length, ℕ, ◌-◌, ◌*◌, ◌/◌, ◌%◌, Bool, true, false, nat_eq, nat_lt, List, ◌++◌, slice_index_or, slice_set, bit_and, bit_or, Fits, w8, w32, w64, Bor, MutBor}
-use Rattle.grammar.specs.Numbers.{rule_limit, most_words, work_bytes, word_end}
-use Rattle.grammar.specs.Words.{words}
-use Rattle.words.specs.Room.{Room}
-use Rattle.renew.specs.Renewed.{Renewable}
-use Rattle.turns.specs.Midway.{LimitsFit, limits_of}
-use Rattle.apply.specs.Applied.{Buffers}
-use Rattle.run.specs.Midst.{Going}
-use Rattle.run.specs.Turn.{Small, UpToDate, Advancing, AdvancedOf, TurnedOf}
+use Rattle.std.proofs.Common.{rules}
 use Rattle.run.proofs.turn.advance.Goals as goal
 use Rattle.run.proofs.Laws.More.{advances}
 

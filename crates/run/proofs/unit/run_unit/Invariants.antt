@@ -1,8 +1,7 @@
 use Prim.Native.Nat.{suc, ◌-◌}
 use mathlib.Core.Path.{◌≡◌}
 use lib.ListN.{length}
-use Rattle.run.proofs.Laws.Start.{begins}
-use Rattle.run.proofs.Laws.Loop.{Looping, loops, looping_start, looping_whole}
+use Rattle.run.proofs.Laws.Loop.{Looping}
 use Rattle.run.proofs.unit.run_unit.Given as goal
 
 abbrev pub invariant-loop-limits : goal.invariant-loop-limits
