@@ -1,16 +1,15 @@
 -- The returns of a call: each hands back the definition's outcome.
-use Prim.Native.Nat.{ℕ, zero, suc, ◌+◌, ◌-◌, ◌*◌, ◌≤◌, ◌<◌}
-use mathlib.Core.Path.{◌≡◌, refl, sym, ap, ap₂, ◌∙◌, subst}
-use mathlib.Core.List.{List, [], ◌∷◌, ◌++◌}
-use mathlib.Core.Bool.{Bool, true, false, not, ◌&&◌}
+use Prim.Native.Nat.{ℕ, ◌*◌}
+use mathlib.Core.Path.{◌≡◌, refl, sym, ◌∙◌, subst}
+use mathlib.Core.List.{List}
+use mathlib.Core.Bool.{Bool, true, false, not}
 use native.Mathlib.Omega.{arith}
-use lib.ListN.{length, take, replicate}
+use lib.ListN.{length}
 use lib.Dec.{leb}
 use borrow.Author.Tests.{leb-true, le-leb, not-true, not-false}
 use Rattle.grammar.specs.Numbers.{bad_length, short_buffer, result_bytes, trail_bytes, work_bytes}
 use Rattle.grammar.specs.Corners.{Corners}
 use Rattle.grammar.specs.Lists.{member}
-use Rattle.grammar.specs.Words.{bytes}
 use Rattle.grammar.specs.Reading.{is_length}
 use Rattle.grammar.specs.Laws.Words.{AreBytes}
 use Rattle.grammar.specs.Laws.Stands.{stands_length}
@@ -23,7 +22,7 @@ use Rattle.laws.specs.Demands.Kept.{EveryCall}
 use Rattle.laws.specs.Demands.Refusals.{RefusedSo, by_reader, by_run, Stops, too_large, no_id_left, too_long}
 use Rattle.laws.specs.Proved.Kept.{every_call_lem}
 use Rattle.laws.specs.Proved.All.{theorems}
-use Rattle.run.specs.Ended.{Front, AnswerIs}
+use Rattle.run.specs.Ended.{AnswerIs}
 use Rattle.run.specs.declared.state.Ended.{Ended}
 use Rattle.apply.specs.Applied.{Buffers}
 use Rattle.pass.specs.declared.answer.Answer.{Answer}

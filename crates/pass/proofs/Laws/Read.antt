@@ -1,17 +1,16 @@
 -- From what the reader answers to the run: a refusal, a unit of another kind, or a parser's sheet in the result.
-use Prim.Native.Nat.{ℕ, zero, suc, ◌+◌, ◌-◌, ◌*◌, ◌/◌, ◌≤◌, ◌<◌}
-use mathlib.Core.Path.{◌≡◌, refl, sym, ap, ap₂, ◌∙◌, subst}
-use mathlib.Core.List.{List, [], ◌∷◌, ◌++◌}
-use mathlib.Core.Bool.{Bool, true, false}
+use Prim.Native.Nat.{ℕ, ◌+◌, ◌*◌, ◌/◌, ◌≤◌}
+use mathlib.Core.Path.{◌≡◌, refl, sym, ap, ◌∙◌, subst}
+use mathlib.Core.List.{List, []}
+use mathlib.Core.Bool.{Bool, true}
 use native.Mathlib.Omega.{arith}
-use lib.ListN.{length, get_or, take, drop}
+use lib.ListN.{length, take, drop}
 use lib.Seq.{take-length}
-use lib.Dec.{leb, eqb}
+use lib.Dec.{leb}
 use borrow.Author.Tests.{leb-true}
 use Rattle.grammar.specs.Numbers.{parser, trailer_words, least_bytes, most_bytes, most_words, result_bytes}
 use Rattle.grammar.specs.Tree as tree
 use Rattle.grammar.specs.Words.{words}
-use Rattle.grammar.specs.Lists.{each}
 use Rattle.grammar.specs.Stands.{Stands}
 use Rattle.grammar.specs.Encode.{encode, encode_rules}
 use Rattle.grammar.specs.Reading as reading
@@ -21,7 +20,7 @@ use Rattle.grammar.specs.Laws.Parse.{left_true, right_true}
 use Rattle.grammar.specs.Laws.Stands.{stands_none}
 use Rattle.grammar.specs.Laws.Codec.{accepted_valid, is_encoding_words}
 use Rattle.reference.specs.Substitute.{standard}
-use Rattle.reference.specs.Run.{ended, answer, refusal, answer_run, answer_reading, answer_to, eliminate_mutual_left_recursion}
+use Rattle.reference.specs.Run.{answer, refusal, answer_run, answer_reading, answer_to, eliminate_mutual_left_recursion}
 use Rattle.laws.specs.Proved.OtherUnits.{other_answer}
 use Rattle.writing.specs.Wrote.{Wrote}
 use Rattle.writing.specs.Laws.Wrote.{wrote_stands}
@@ -37,9 +36,8 @@ use Rattle.sheet.specs.declared.answer.Parts.{Parts}
 use Rattle.sheet.specs.declared.answer.Answer.TheVariants.{Refused, Sheet}
 use Rattle.sheet.proofs.Laws.Lent.{lent_all}
 use Rattle.apply.specs.Applied.{Buffers}
-use Rattle.apply.specs.Held.{Held}
 use Rattle.apply.specs.Laws.Held.{encode_long}
-use Rattle.run.specs.Ended.{Front, AnswerIs, Short}
+use Rattle.run.specs.Ended.{Front, AnswerIs}
 use Rattle.run.specs.Midst.{Begun}
 use Rattle.run.specs.Turn.{Small, RunOf}
 use Rattle.run.specs.declared.state.Ended.{Ended}

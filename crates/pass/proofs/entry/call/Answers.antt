@@ -1,8 +1,4 @@
-use Rattle.std.proofs.Common.{rules, ◌≤◌, length, ◌≡◌, ℕ, ◌+◌, ◌-◌, ◌*◌, ◌<◌, ◌/◌, ◌%◌, Bool, true, false, nat_eq, nat_lt, List, [], ◌∷◌, ◌++◌, slice_index_or, slice_set, bit_and, bit_or, Fits, w8, w32, w64, Bor, MutBor}
-use Rattle.grammar.specs.Corners.{rust, textbook}
-use Rattle.grammar.specs.Laws.Words.{AreBytes}
-use Rattle.analysis.specs.Survey.{reading}
-use Rattle.pass.specs.Handed.{ClearedFrom, Handed, Lent}
+use Rattle.std.proofs.Common.{rules}
 use Rattle.pass.proofs.entry.call.Goals as goal
 use Rattle.pass.proofs.Laws.Outcome.{outcomes, call_lent}
 
