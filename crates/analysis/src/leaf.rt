@@ -126,7 +126,7 @@ pub fn see_leaf(
 ) -> Passing
     requires room { Room s.now end × (known.n ≤ rule_limit) × (5 ≤ length t.old) }
     requires tabled { Tabled names.now known.n table.now }
-    requires head_at_lem { HeadAt (words s.now) end at kind payload × (kind ≡ block_kind → ⊥) × FoundElement (words s.now) end depth at }
+    requires head_at { HeadAt (words s.now) end at kind payload × (kind ≡ block_kind → ⊥) × FoundElement (words s.now) end depth at }
     ensures { LeafSeen (view_of names.now known) (words s.now) end kind payload skips
         (seen_of t.old p.seeks p.null) (seen_of t.new result.seeks result.null) }
 {

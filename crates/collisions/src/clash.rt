@@ -70,7 +70,7 @@ fn see_leaf(
     c: Clash,
 ) -> Clash
     requires room { Room s.now end × Ordered (words s.now) end work.now }
-    requires head_at_lem { HeadAt (words s.now) end at kind payload × (kind ≡ block_kind → ⊥) × FoundElement (words s.now) end depth at }
+    requires head_at { HeadAt (words s.now) end at kind payload × (kind ≡ block_kind → ⊥) × FoundElement (words s.now) end depth at }
     ensures { LeafSeen (words s.now) end kind payload
         (clash_leaf (has_name (words s.now) work.now references_bit)) c result }
 {

@@ -104,7 +104,7 @@ fn mark_leaf(
     dangling: bool,
 ) -> bool
     requires room { Room s.now end × Ordered (words s.now) end work.old }
-    requires head_at_lem { HeadAt (words s.now) end at kind payload × (kind ≡ block_kind → ⊥) × FoundElement (words s.now) end depth at }
+    requires head_at { HeadAt (words s.now) end at kind payload × (kind ≡ block_kind → ⊥) × FoundElement (words s.now) end depth at }
     ensures { Kept (words s.now) end work.old work.new × LeafSeen
         (words s.now) end kind payload (mark_leaf name) (marks_of (words s.now) work.old dangling)
         (marks_of (words s.now) work.new result) }

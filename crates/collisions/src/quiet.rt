@@ -42,7 +42,7 @@ fn see_leaf(
     noisy: bool,
 ) -> bool
     requires room { Room s.now end }
-    requires head_at_lem { HeadAt (words s.now) end at kind payload × (kind ≡ block_kind → ⊥) × FoundElement (words s.now) end depth at }
+    requires head_at { HeadAt (words s.now) end at kind payload × (kind ≡ block_kind → ⊥) × FoundElement (words s.now) end depth at }
     ensures { LeafSeen (words s.now) end kind payload noisy_leaf noisy result }
 {
     noisy | (reference_count(s, end, depth, at, kind, payload) != 0)
@@ -59,7 +59,7 @@ fn leaf(
     noisy: bool,
 ) -> Place
     requires room { Room s.now end }
-    requires head_at_lem { HeadAt (words s.now) end at kind payload × (kind ≡ block_kind → ⊥) × FoundElement (words s.now) end depth at }
+    requires head_at { HeadAt (words s.now) end at kind payload × (kind ≡ block_kind → ⊥) × FoundElement (words s.now) end depth at }
     ensures { ElementWalked listening (words s.now) end depth at noisy result.at result.noisy }
 {
     let there = leaf_end(s, end, depth, at, kind, payload);

@@ -19,7 +19,7 @@ pub fn reference_count(
     payload: usize,
 ) -> u32
     requires room { Room s.now end }
-    requires head_at_lem { HeadAt (words s.now) end at kind payload × (kind ≡ block_kind → ⊥) × FoundElement (words s.now) end depth at }
+    requires head_at { HeadAt (words s.now) end at kind payload × (kind ≡ block_kind → ⊥) × FoundElement (words s.now) end depth at }
     ensures { Refers (words s.now) end kind payload result }
 {
     if kind == Kind::ACTION {

@@ -53,7 +53,7 @@ pub fn alternative_head(s: &[u8], end: usize, depth: u32, at: usize) -> Elements
 // Where an element that is no block ends.
 pub fn leaf_end(s: &[u8], end: usize, depth: u32, at: usize, kind: u32, payload: usize) -> usize
     requires room { Room s.now end }
-    requires head_at_lem { (HeadAt (words s.now) end at kind payload) × (kind ≡ block_kind → ⊥) }
+    requires head_at { (HeadAt (words s.now) end at kind payload) × (kind ≡ block_kind → ⊥) }
     requires found_element { FoundElement (words s.now) end depth at }
     ensures { LeafEnd (words s.now) end depth at payload result }
 {
