@@ -37,9 +37,13 @@ class Room:
         head = HEAD.read_text().replace('IMPORTS', imports(place / 'crates', names, NAMES))
         self.head = head.replace('OPENED', opened(place / 'crates', names))
 
+    def given(self, name):
+        """The words by which a crate is given those below it: as they are built here."""
+        return kit.of_libraries(self.place, self.used, name)
+
     def rattle(self, verb, name, *more):
-        """A check or a build of a crate over those below it as they are built here."""
-        words = kit.words(self.place, name, kit.of_libraries(self.place, self.used, name))
+        """A check or a build of a crate."""
+        words = kit.words(self.place, name, self.given(name))
         return subprocess.run([kit.rattle(), verb, *words, *more], cwd=self.place / 'crates' / name, capture_output=True, text=True)
 
     def prepare(self):
@@ -71,7 +75,7 @@ class Room:
         done = self.rattle('check', CHECKED)
         said = done.stdout + done.stderr
         wrong, large = {}, {}
-        for line, message in re.findall(r'Checks\.antt:(\d+):\d+: (.*)', said):
+        for line, message in re.findall(r'Checks\.antt:(\d+):\d+: error: (.*)', said):
             before = [asked.name for asked, start in zip(batch, at) if start <= int(line)]
             if not before:
                 self.failed = f'the checks cannot be read:\n{message}'
