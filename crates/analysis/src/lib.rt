@@ -1,8 +1,8 @@
 // What is found out about a grammar before anything is planned (SPECIFICATION 6), as the definition in `reference` has it.
 // By theorems of `laws` these are the textbook's notions: a rule is nullable exactly if it derives the empty string
-// (`emptyDerivation`); left corners are those of the derivations (`leftCornersListed`, and `textbookCorners` for the
+// (`empty_derivation`); left corners are those of the derivations (`left_corners_listed`, and `textbook_corners` for the
 // textbook's reading); the cycles are the largest sets of several rules that reach each other, in the order of their least
-// ids (`cyclesListed`). What plans leave of them is `factsStay`.
+// ids (`cycles_listed`). What plans leave of them is `facts_stay`.
 #![tactic(auto)]
 
 pub mod leaf;

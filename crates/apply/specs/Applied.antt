@@ -6,7 +6,7 @@ use Rattle.grammar.specs.Words.{words}
 use Rattle.grammar.specs.Lists.{each, member}
 use Rattle.grammar.specs.Encode.{encode}
 use Rattle.grammar.specs.Valid.{valid}
-use Rattle.reference.specs.Numbers.{most_entries, entry_words}
+use Rattle.reference.specs.Numbers.{entry_words}
 use Rattle.reference.specs.Plan.{CyclePlan}
 use Rattle.reference.specs.Apply.{Fresh, apply_plan}
 use Rattle.reference.specs.Run.{sheet_with, refusal_of, encode_entry}

@@ -1,7 +1,6 @@
 -- The hub with its new body, and what closes its plan in the trail.
 use Rattle.std.specs.Prelude.{ℕ, ◌+◌, ◌-◌, ◌≤◌, ◌≡◌, List, [], ◌∷◌, ◌++◌, length, get_or, take, drop}
 use Rattle.grammar.specs.Numbers.{rule_sort}
-use Rattle.grammar.specs.Tree as tree
 use Rattle.grammar.specs.Tree.{Rule, Block, AlternativeOf, inner_depth, with_rule_body}
 use Rattle.grammar.specs.Encode.{encode_alternative, encode_block, encode_counters, encode_rules}
 use Rattle.grammar.specs.Lists.{each}

@@ -52,8 +52,7 @@ fn tell(
 
 // What is found out about a sheet, for callers in other languages: of the rules in the order of the sheet, and of the
 // cycles in theirs. The reading of left corners is the original's where `textbook` is 0. The work area ends as after `read`.
-#[unsafe(no_mangle)]
-pub extern "C" fn find_facts(
+pub fn find_facts(
     sheet: &[u8],
     work: &mut [u8],
     textbook: u32,

@@ -40,7 +40,7 @@ pub record Call : Type 0 where
   pub name : ℕ
   pub arguments : ℕ
 
--- The kinds of element that hold no alternatives. `terminal` is kind 5, any terminal but a token; `endOfInput` is kind 7.
+-- The kinds of element that hold no alternatives. `terminal` is kind 5, any terminal but a token; `end_of_input` is kind 7.
 pub data Leaf : Type 0 where
   epsilon : Leaf
   action : Action → Leaf

@@ -1,5 +1,5 @@
 -- What refusals 4, 5 and 6 exclude (SPECIFICATION 4.4 to 4.6), as a test of a tree; and when a tree fits a sheet.
-use Rattle.std.specs.Prelude.{ℕ, zero, suc, List, [], ◌∷◌, Bool, true, ◌&&◌, length, leb, ltb}
+use Rattle.std.specs.Prelude.{ℕ, zero, suc, List, Bool, true, ◌&&◌, length, leb, ltb}
 pub use Rattle.grammar.specs.Numbers.{rule_limit}
 use Rattle.grammar.specs.Numbers.{lexer, combined, one_or_more_nongreedy, non_local, most_rule_flags, most_alternative_flag, most_words}
 use Rattle.grammar.specs.Numbers.{word_end}

@@ -9,8 +9,8 @@ use Rattle.language.specs.Shape.{erase_rules}
 use Rattle.language.specs.Derive.{Der, d_eps, d_symbol, d_call, d_unknown, d_seq, d_left, d_right, d_absent, d_present, d_none}
 use Rattle.language.specs.Derive.{d_more, d_some, RuleDerives}
 
--- The constructors of `Der`, without words. The slot of an alternative in a choice of several is how often `t-right` stands in
--- front of its `t-left`.
+-- The constructors of `Der`, without words. The slot of an alternative in a choice of several is how often `t_right` stands in
+-- front of its `t_left`.
 pub data Tree (G : Shapes) : Shape → Type 0 where
   t_eps : Tree G eps
   t_symbol : {a : Symbol} → Tree G (symbol a)

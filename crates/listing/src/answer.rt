@@ -62,12 +62,18 @@ fn result_buffer() -> [u8; 32768]
     [0; 32768]
 }
 
+fn large_buffer() -> [u8; 65536]
+    ensures { 65536 ≡ length result }
+{
+    [0; 65536]
+}
+
 // The listing of a sheet's bytes.
 pub fn list_answer(sheet: &[u8], text: &mut [u8]) -> Told
     ensures { ListedAs sheet.now text.old text.new result }
 {
     let mut result = result_buffer();
-    let mut trail = io::large_buffer();
-    let mut work = io::large_buffer();
+    let mut trail = large_buffer();
+    let mut work = large_buffer();
     list_in(sheet, &mut result, &mut trail, &mut work, text)
 }

@@ -1,50 +1,54 @@
 // Standard input, as far as it is read.
 ghost use Rattle.std.specs.Prelude.{◌+◌, ◌≤◌, length};
-ghost use Rattle.io.specs.Counts.{IsPrefixLen};
+ghost use Rattle.listing.specs.Counts.{IsPrefixLen};
 
-use libc::STDIN_FILENO;
+use std::io::{Error, Read};
 
-// So many bytes, or a read failed.
+// So many bytes, or why a read failed.
 #[derive(Clone, Copy)]
 pub struct Input {
     pub n: usize,
-    pub failed: bool,
+    pub failed: Option<Error>,
 }
 
 // One read.
-fn read_some(bytes: &mut [u8]) -> Input
+fn read_some(from: &mut impl Read, bytes: &mut [u8]) -> Input
     ensures { result.n ≤ length bytes.new }
 {
-    let got = libc::read(STDIN_FILENO, bytes);
-    if got < 0 {
-        return Input { n: 0, failed: true };
+    match from.read(bytes) {
+        Ok(n) => Input { n, failed: None },
+        Err(error) => Input {
+            n: 0,
+            failed: Some(error),
+        },
     }
-    let n = io::count(got, bytes);
-    Input { n, failed: false }
 }
 
 // One read from a place on.
-fn read_from(bytes: &mut [u8], at: usize) -> Input
+fn read_from(from: &mut impl Read, bytes: &mut [u8], at: usize) -> Input
     requires { at ≤ length bytes.old }
     ensures { at + result.n ≤ length bytes.new }
 {
-    read_some(&mut bytes[at..])
+    read_some(from, &mut bytes[at..])
 }
 
 // Reads until the buffer is full or the input ends: what is behind a full buffer is never looked at.
-pub fn read_input(bytes: &mut [u8]) -> Input
+pub fn read_input(from: &mut impl Read, bytes: &mut [u8]) -> Input
     ensures { IsPrefixLen result.n bytes.new }
 {
     let mut n: usize = 0;
     while n < bytes.len() {
-        let some = read_from(bytes, n);
-        if some.failed {
-            return Input { n: 0, failed: true };
+        let some = read_from(from, bytes, n);
+        if some.failed.is_some() {
+            return Input {
+                n: 0,
+                failed: some.failed,
+            };
         }
         if some.n == 0 {
-            return Input { n, failed: false };
+            return Input { n, failed: None };
         }
         n += some.n;
     }
-    Input { n, failed: false }
+    Input { n, failed: None }
 }

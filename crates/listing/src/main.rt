@@ -10,8 +10,7 @@ ghost use Rattle.std.specs.Prelude.{◌≡◌, length};
 
 use answer::list_answer;
 use input::read_input;
-use libc::STDOUT_FILENO;
-use reasons::explain;
+use reasons::{explain, fail};
 use words::numbers::Sheet;
 
 // Room for the longest listing.
@@ -21,24 +20,24 @@ fn blank() -> [u8; 270400]
     [0; 270400]
 }
 
-fn print(sheet: &[u8]) {
+fn print(rt: &(impl Print + Eprint), sheet: &[u8]) {
     let mut text = blank();
     let told = list_answer(sheet, &mut text);
     let n = told.n;
-    if !io::write_all(STDOUT_FILENO, &text[..n]) {
-        os::fail(b"listing: standard output cannot be written");
+    if let Err(error) = rt.write_all(&text[..n]) {
+        fail(rt, "listing: standard output cannot be written", error);
         return;
     }
-    explain(told.refusal);
+    explain(rt, told.refusal);
 }
 
-fn main() {
+fn main(rt: HostRuntime) {
     let mut bytes = [0u8; Sheet::MOST_BYTES + 1];
-    let input = read_input(&mut bytes);
-    if input.failed {
-        os::fail(b"listing: standard input cannot be read");
+    let input = read_input(&mut rt.stdin(), &mut bytes);
+    if let Some(error) = input.failed {
+        fail(&rt, "listing: standard input cannot be read", error);
         return;
     }
     let n = input.n;
-    print(&bytes[..n]);
+    print(&rt, &bytes[..n]);
 }

@@ -15,14 +15,7 @@ pub use answer::{Answer, Totals};
 
 // The pass by the original's reading of left corners. The numbers are the refusal's or 0, plans, steps, and the bytes of result and
 // trail.
-#[unsafe(no_mangle)]
-pub extern "C" fn pass(
-    sheet: &[u8],
-    res: &mut [u8],
-    trail: &mut [u8],
-    work: &mut [u8],
-    numbers: &mut [u32; 5],
-)
+pub fn pass(sheet: &[u8], res: &mut [u8], trail: &mut [u8], work: &mut [u8], numbers: &mut [u32; 5])
     ensures { HandedOver rust sheet.now res.old trail.old work.old
         numbers.new res.new trail.new work.new }
 {
@@ -31,8 +24,7 @@ pub extern "C" fn pass(
 }
 
 // The pass by the textbook's reading.
-#[unsafe(no_mangle)]
-pub extern "C" fn pass_textbook(
+pub fn pass_textbook(
     sheet: &[u8],
     res: &mut [u8],
     trail: &mut [u8],

@@ -1,10 +1,10 @@
 -- What is read of the planned list.
-use Rattle.std.specs.Prelude.{ℕ, ◌+◌, ◌-◌, ◌%◌, ◌<◌, ◌≤◌, ◌≡◌, List, ◌∷◌, Bool, length, get_or}
-use Rattle.grammar.specs.Numbers.{work_bytes, call_kind, kind_end}
+use Rattle.std.specs.Prelude.{ℕ, ◌+◌, ◌-◌, ◌<◌, ◌≤◌, ◌≡◌, List, ◌∷◌, Bool, length}
+use Rattle.grammar.specs.Numbers.{work_bytes}
 use Rattle.reference.specs.Numbers.{most_alternatives, most_elements, most_options}
 use Rattle.reference.specs.Substitute.{Planned}
 use Rattle.planned.specs.Layout.{half, head_at, options_at, meaning, settled, records_from}
-use Rattle.planned.specs.List.{Located, ListedIn, AllIn, ItemAt, CallAt, elements_of, options_of}
+use Rattle.planned.specs.List.{Located, ListedIn, AllIn, ItemAt, elements_of, options_of}
 use Rattle.planned.specs.declared.list.Sizes.{Sizes}
 use Rattle.planned.specs.declared.list.Listed.{Listed}
 use Rattle.planned.specs.declared.read.Cursor.{Cursor}

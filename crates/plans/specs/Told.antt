@@ -1,5 +1,5 @@
 -- What callers in other languages are told of the plans of a sheet.
-use Rattle.std.specs.Prelude.{ℕ, ◌≡◌, List, [], ◌∷◌, length, get_or, replicate}
+use Rattle.std.specs.Prelude.{ℕ, ◌≡◌, List, ◌∷◌, length, get_or, replicate}
 use Rattle.grammar.specs.Tree.{Sheet}
 use Rattle.grammar.specs.Ids.{rule_ids}
 use Rattle.grammar.specs.Words.{words}

@@ -16,8 +16,7 @@ use sheet::{Answer, read};
 
 // The decision for the nth cycle of a sheet, in numbers; 0 is the cycle with the least id. The reading of left corners is the
 // original's where `textbook` is 0. Where there is a plan, its list is left in the work area; else that ends as after `read`.
-#[unsafe(no_mangle)]
-pub extern "C" fn plan_nth(
+pub fn plan_nth(
     sheet: &[u8],
     work: &mut [u8],
     textbook: u32,
@@ -52,8 +51,7 @@ pub extern "C" fn plan_nth(
 
 // The first cycle of a sheet that has a plan, in numbers, and the clauses by which the cycles in front of it were declined; else
 // as above.
-#[unsafe(no_mangle)]
-pub extern "C" fn first_plan(
+pub fn first_plan(
     sheet: &[u8],
     work: &mut [u8],
     textbook: u32,

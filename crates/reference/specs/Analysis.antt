@@ -48,7 +48,7 @@ module _ (g : Grammar) where
   unfoldable pub collect_calls_into : (d : ℕ) → Block d → List ℕ
   collect_calls_into = block_gives nothing calls
 
-  unfoldable pub leaf_nullable : Leaf → Bool  -- Behind `isEnd`, the arms of element_nullable for leaves, l. 1269 to 1274.
+  unfoldable pub leaf_nullable : Leaf → Bool  -- Behind `is_end`, the arms of element_nullable for leaves, l. 1269 to 1274.
   leaf_nullable l =
       is_end l
       || elim (sort_of l) [

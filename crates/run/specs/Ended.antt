@@ -1,5 +1,5 @@
 -- What a run hands back, against the definition's answer (SPECIFICATION 3.3).
-use Rattle.std.specs.Prelude.{ℕ, ◌+◌, ◌*◌, ◌≤◌, ◌≡◌, List, length}
+use Rattle.std.specs.Prelude.{ℕ, ◌*◌, ◌≤◌, ◌≡◌, List, length}
 use Rattle.grammar.specs.Words.{words}
 use Rattle.grammar.specs.Stands.{Stands}
 use Rattle.grammar.specs.Numbers.{most_words}

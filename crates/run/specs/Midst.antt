@@ -1,6 +1,6 @@
 -- A run on its way: the sheet that the plans so far left stands in the result, what was recorded in the trail, and the facts of its
 -- rules are known.
-use Rattle.std.specs.Prelude.{ℕ, ◌*◌, ◌≤◌, ◌≡◌, List, Bool, true, length}
+use Rattle.std.specs.Prelude.{ℕ, ◌*◌, ◌≡◌, List, Bool, true, length}
 use Rattle.grammar.specs.Numbers.{parser}
 use Rattle.grammar.specs.Tree.{Sheet}
 use Rattle.grammar.specs.Lists.{each}

@@ -50,8 +50,7 @@ pub fn summary(sheet: &[u8], work: &mut [u8]) -> Summary
 }
 
 // The whole answer in numbers, for callers in other languages; the work area ends as after `read`.
-#[unsafe(no_mangle)]
-pub extern "C" fn read_sheet(
+pub fn read_sheet(
     sheet: &[u8],
     work: &mut [u8],
     numbers: &mut [u32; 12],

@@ -1,4 +1,4 @@
--- The corner of a planned alternative, by the places of rules: `plannedCorner` of the definition, by their ids.
+-- The corner of a planned alternative, by the places of rules: `planned_corner` of the definition, by their ids.
 use Rattle.std.specs.Prelude.{ℕ, ◌+◌, ◌/◌, ◌<◌, ◌≡◌, List, ◌∷◌, Bool, true, false, ◌&&◌, get_or, eqb}
 use Rattle.std.proofs.Math.Option.{none, some}
 use Rattle.grammar.specs.Numbers.{once, optional_greedy, kind_end}
@@ -71,8 +71,8 @@ MetIn c (Satellite t) = (t < c.n) × (bit c.members t ≡ true) × (t ≡ c.hub 
 
 -- At a call of the member t, by tests: whether it is optional, bare, once, and of the hub.
 abbrev pub met_by : (is_optional bare is_once of_hub : Bool) → ℕ → Met
-met_by true true once hub t = Optional t
-met_by true false once hub t = Blocked
+met_by true true _ _ t = Optional t
+met_by true false _ _ t = Blocked
 met_by false bare false hub t = Blocked
 met_by false bare true true t = Settled
 met_by false true true false t = Satellite t

@@ -7,8 +7,7 @@ use Rattle.analysis.specs.Facts.{Among}
 use Rattle.hub.specs.Grounds.{rules_of}
 use Rattle.planned.specs.Layout.{settled}
 use Rattle.planned.specs.List.{Laid, AllIn}
-use Rattle.planned.specs.declared.list.Sizes.{Sizes}
-use Rattle.turns.specs.Turns.{Task, substitution}
+use Rattle.turns.specs.Turns.{substitution}
 use Rattle.steps.specs.Decide.{DeclinedBy}
 use Rattle.turns.specs.Ground.{Ground, task_of}
 use Rattle.turns.specs.Midway.{limits_of, Ready, Midway}

@@ -1,6 +1,6 @@
 -- A substitution on its way: what the work area and the sheet hold of the list, and what that is of the definition's.
-use Rattle.std.specs.Prelude.{ℕ, ◌+◌, ◌≤◌, ◌<◌, ◌^◌, ◌≡◌, List, [], ◌∷◌, ◌++◌, Bool, true, false, ◌&&◌, length, leb}
-use Rattle.grammar.specs.Tree.{Block, inner_depth}
+use Rattle.std.specs.Prelude.{ℕ, ◌+◌, ◌≤◌, ◌<◌, ◌^◌, ◌≡◌, List, ◌∷◌, ◌++◌, Bool, true, false, ◌&&◌, length, leb}
+use Rattle.grammar.specs.Tree.{inner_depth}
 use Rattle.grammar.specs.Found.{FoundAlternatives}
 use Rattle.grammar.specs.Numbers.{most_words}
 use Rattle.reference.specs.Numbers.{most_alternatives, most_elements, most_options}

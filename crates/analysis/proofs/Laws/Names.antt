@@ -2,15 +2,14 @@
 use Prim.Native.Nat.{ℕ, ◌+◌, ◌<◌, ◌≤◌, ◌%◌}
 use mathlib.Core.Path.{◌≡◌, refl, sym, ap, ◌∙◌}
 use mathlib.Core.List.{List}
-use mathlib.Core.Bool.{Bool, true, false}
+use mathlib.Core.Bool.{true, false}
 use native.Mathlib.Omega.{arith}
 use native.Mathlib.Numerals.{add-one}
 use lib.ListN.{length, get_or, set, length-set}
-use lib.Seq.{get_or-set_same, get_or-set_other}
 use lib.Dec.{eqb, ltb}
 use borrow.Author.Tests.{eqb-true, eqb-false, ltb-true, ltb-false, lt-ltb, eq-eqb}
 use Rattle.grammar.specs.Laws.Parse.{either, left_true, right_true}
-use Rattle.analysis.specs.Names.{is_named, slots, table_with, Told, Tabled, At, Nowhere, IsTarget}
+use Rattle.analysis.specs.Names.{is_named, slots, table_with, Told, Tabled, At, IsTarget}
 use Rattle.analysis.specs.declared.names.Target.TheVariants.{Unknown, Rule}
 
 -- The first i names are in the table.

@@ -11,7 +11,6 @@ use lib.Dec.{eqb}
 use borrow.Author.Tests.{eqb-true, eqb-false, eq-eqb, ne_eqb}
 use Rattle.grammar.specs.Numbers.{rule_limit}
 use Rattle.grammar.specs.Laws.Parse.{either}
-use Rattle.records.specs.Rules.{row}
 use Rattle.reach.specs.Rows.{bit, AddIf}
 use Rattle.analysis.specs.Survey.{View}
 use Rattle.analysis.specs.Facts.{Surveyed}

@@ -5,17 +5,12 @@ use mathlib.Core.List.{List, [], ◌∷◌, ◌++◌, map, map-id}
 use mathlib.Core.Bool.{true}
 use native.Mathlib.Omega.{arith}
 use lib.ListN.{length, get_or, length-map, get_or-append}
-use lib.Dec.{leb}
-use borrow.Author.Tests.{leb-true}
 use Rattle.grammar.specs.Numbers.{rule_limit}
 use Rattle.grammar.specs.Tree.{Rule, body_depth, inner_depth}
 use Rattle.grammar.specs.Encode.{encode_rule, encode_block}
 use Rattle.grammar.specs.Lists.{distinct}
 use Rattle.grammar.specs.Ids.{rule_names}
-use Rattle.grammar.specs.Read.{is_name}
-use Rattle.grammar.specs.Valid.{ok_rule}
 use Rattle.grammar.specs.Found.{FoundRule, RuleSpans, RulesSpan}
-use Rattle.grammar.specs.Laws.Parse.{left_true, right_true}
 use Rattle.grammar.specs.Laws.Stands.{stands_length}
 use Rattle.grammar.specs.Laws.Opened.{first_spans}
 use Rattle.grammar.specs.Laws.Found.{rule_room}

@@ -6,18 +6,15 @@ use mathlib.Core.Bool.{Bool, true, false, ◌&&◌, ◌||◌, not, or-false, or-
 use native.Mathlib.Omega.{arith}
 use lib.ListN.{get_or, replicate}
 use lib.Dec.{eqb, leb}
-use borrow.Author.Tests.{leb-true, eq-eqb, ne_eqb}
-use Rattle.grammar.specs.Numbers.{call_kind, token_kind, block_kind, kind_end, optional_greedy, zero_or_more_nongreedy}
-use Rattle.grammar.specs.Tree.{ElementHead, Leaf, epsilon, action, predicate, call, token, terminal, Element, Block, inner_depth}
-use Rattle.grammar.specs.Encode.{leaf_kind, encode_leaf, encode_alternative, encode_block}
-use Rattle.grammar.specs.Valid.{ok_leaf, ok_alternative, ok_block}
-use Rattle.grammar.specs.Stands.{Spans}
+use borrow.Author.Tests.{eq-eqb, ne_eqb}
+use Rattle.grammar.specs.Numbers.{token_kind, block_kind, kind_end, optional_greedy, zero_or_more_nongreedy}
+use Rattle.grammar.specs.Tree.{ElementHead, inner_depth}
+use Rattle.grammar.specs.Encode.{encode_alternative, encode_block}
+use Rattle.grammar.specs.Valid.{ok_alternative, ok_block}
 use Rattle.grammar.specs.Found.{FoundElement, HeadAt, AlternativeAt, LeafEnd}
 use Rattle.grammar.specs.Fold.{folded, ElementWalked, ElementsWalked, AlternativeWalked, AlternativesWalked}
-use Rattle.grammar.specs.Laws.Stands.{stands_head}
-use Rattle.grammar.specs.Laws.Parse.{right_true}
 use Rattle.grammar.specs.Laws.Complete.{leaf_kind_lem}
-use Rattle.grammar.specs.Laws.Opened.{HeadWords, Opened, opened_leaf, opened_block, opened, alternative_words_lem, rule_words_lem}
+use Rattle.grammar.specs.Laws.Opened.{HeadWords, alternative_words_lem, rule_words_lem}
 use Rattle.grammar.specs.Laws.Found.{alternative_room, block_depth}
 use Rattle.grammar.specs.Laws.Fold.{Folding, folding_found, fold_leaf, fold_block, fold_alternative}
 use Rattle.reference.specs.Walks.{is_optional}

@@ -1,12 +1,11 @@
 -- The rules that a plan leaves, by places: those in front of the hub that stay, the hub with its new body, and those behind it.
-use Prim.Native.Nat.{ℕ, zero, suc, ◌+◌, ◌-◌, ◌*◌, ◌<◌, ◌≤◌}
+use Prim.Native.Nat.{ℕ, suc, ◌+◌, ◌-◌}
 use mathlib.Core.Path.{◌≡◌, refl, sym, ap, ap₂, ◌∙◌, subst}
-use mathlib.Core.List.{List, [], ◌∷◌, ◌++◌, map, append_assoc, append-nil}
+use mathlib.Core.List.{List, [], ◌∷◌, ◌++◌, map, append_assoc}
 use mathlib.Core.Bool.{Bool, true, false, ◌&&◌, not}
 use native.Mathlib.Omega.{arith}
-use lib.ListN.{length, get_or, take, drop, length-append, length-drop}
-use lib.Seq.{take-append_seam, take-length, length-take-le}
-use lib.Dec.{ltb, eqb}
+use lib.ListN.{length, length-append}
+use lib.Seq.{take-append_seam, take-length}
 use borrow.Author.Tests.{lt-ltb, ne_eqb, eq-eqb}
 use Rattle.grammar.specs.Tree.{Rule, Block, body_depth, inner_depth, with_rule_body}
 use Rattle.grammar.specs.Lists.{member, keep, push}

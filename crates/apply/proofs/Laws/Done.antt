@@ -1,10 +1,10 @@
 -- A plan that is not refused: the new sheet may be composed, and stands in the result then.
-use Prim.Native.Nat.{ℕ, suc, ◌+◌, ◌-◌, ◌*◌, ◌<◌, ◌≤◌}
-use mathlib.Core.Path.{◌≡◌, refl, sym, ap, ap₂, ◌∙◌, subst, subst₂}
-use mathlib.Core.List.{List, [], ◌∷◌, ◌++◌}
-use mathlib.Core.Bool.{Bool, true, false, ◌&&◌}
+use Prim.Native.Nat.{ℕ, ◌+◌, ◌-◌, ◌*◌, ◌<◌, ◌≤◌}
+use mathlib.Core.Path.{◌≡◌, refl, sym, ap, ap₂, ◌∙◌, subst}
+use mathlib.Core.List.{List, [], ◌∷◌}
+use mathlib.Core.Bool.{Bool, true, false}
 use native.Mathlib.Omega.{arith}
-use lib.ListN.{length, get_or, take, drop}
+use lib.ListN.{length, take, drop}
 use lib.Dec.{leb}
 use borrow.Author.Tests.{leb-true}
 use mir.Syntax.{w64}
@@ -31,11 +31,10 @@ use Rattle.planned.specs.List.{Laid, AllIn}
 use Rattle.heads.specs.Front.{compose_at}
 use Rattle.copies.specs.declared.pen.Pen.{Pen}
 use Rattle.plan.specs.declared.plan.Plan.{Plan}
-use Rattle.compose.specs.Compose.{Applies, ComposedAs, kind_at, preserved_at, sheet_after, after}
+use Rattle.compose.specs.Compose.{Applies, ComposedAs, sheet_after}
 use Rattle.compose.specs.declared.compose.Composed.{Composed}
 use Rattle.sizes.specs.Sized.{Measured}
 use Rattle.sizes.specs.declared.sums.Measure.{Measure}
-use Rattle.apply.specs.Held.{Held}
 use Rattle.apply.specs.Judged.{Judged}
 use Rattle.apply.specs.Laws.Held.{encode_long, held_kind, held_preserved, held_standing}
 use Rattle.apply.specs.Applied.{Applicable, after_of, Done, AppliedOf, WordsAfter, EntriesAfter, RefusedBy}

@@ -1,23 +1,19 @@
 -- The sizes that were measured are those of what applying the plan leaves.
-use Prim.Native.Nat.{ℕ, suc, ◌+◌, ◌-◌, ◌*◌, ◌<◌, ◌≤◌}
-use mathlib.Core.Path.{◌≡◌, refl, sym, ap, ap₂, ◌∙◌, subst}
+use Prim.Native.Nat.{ℕ, ◌+◌, ◌-◌}
+use mathlib.Core.Path.{◌≡◌, sym, ap, ap₂, ◌∙◌, subst}
 use mathlib.Core.List.{List, [], ◌∷◌, ◌++◌, map, append-nil}
-use mathlib.Core.Bool.{Bool, true, false, ◌&&◌, not}
+use mathlib.Core.Bool.{false, not}
 use native.Mathlib.Omega.{arith}
-use lib.ListN.{length, get_or, length-append}
-use lib.Dec.{leb}
-use borrow.Author.Tests.{leb-true}
-use Rattle.grammar.specs.Numbers.{most_words, trailer_words, counter_past_end, result_too_long}
+use lib.ListN.{length, length-append}
+use Rattle.grammar.specs.Numbers.{most_words, trailer_words}
 use Rattle.grammar.specs.Tree as tree
 use Rattle.grammar.specs.Tree.{Rule, Sheet, inner_depth, body_depth, with_rule_body}
 use Rattle.grammar.specs.Words.{words}
 use Rattle.grammar.specs.Lists.{each, member, keep}
 use Rattle.grammar.specs.Encode.{encode, encode_rule, encode_rules, encode_block, encode_alternative}
 use Rattle.grammar.specs.Laws.Lists.{each_append}
-use Rattle.grammar.specs.Laws.Parse.{left_true, right_true}
-use Rattle.reference.specs.Numbers.{most_entries}
 use Rattle.reference.specs.Apply.{Fresh, fresh_each, apply_alternative, apply_plan, with_body}
-use Rattle.reference.specs.Run.{sheet_with, are_words, is_short, refusal_of}
+use Rattle.reference.specs.Run.{sheet_with, is_short, refusal_of}
 use Rattle.writing.specs.Taken.{counters_of}
 use Rattle.writing.specs.declared.counters.Counters.{Counters}
 use Rattle.records.specs.declared.rules.Rules.{Rules}
@@ -29,7 +25,6 @@ use Rattle.sizes.specs.Tally.{behind, ids_in}
 use Rattle.sizes.specs.declared.sums.Measure.{Measure}
 use Rattle.plan.specs.declared.plan.Plan.{Plan}
 use Rattle.drafts.specs.Kept.{kept_of}
-use Rattle.apply.specs.Held.{Held}
 use Rattle.apply.specs.Laws.Held.{encode_long, held_standing}
 use Rattle.apply.specs.Judged.{verdict_on, verdict, Judged}
 use Rattle.apply.specs.Left.{LeftTake}

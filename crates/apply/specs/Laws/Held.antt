@@ -1,9 +1,9 @@
 -- What stands in a buffer that holds a sheet: its rules, its preserved ids, its kind.
-use Rattle.std.specs.Prelude.{ℕ, suc, ◌+◌, ◌-◌, ◌*◌, ◌≤◌, ◌<◌, ◌^◌, ◌≡◌, List, [], ◌∷◌, ◌++◌, true, length, get_or, take, drop, leb}
+use Rattle.std.specs.Prelude.{ℕ, ◌+◌, ◌-◌, ◌≤◌, ◌≡◌, List, ◌∷◌, ◌++◌, true, length, get_or}
 use Rattle.std.proofs.Math.Path.{refl, sym}
-use Rattle.std.proofs.Common.{ap, ◌∙◌, subst, append_assoc, arith, add-zero, length-append}
+use Rattle.std.proofs.Common.{ap, ◌∙◌, subst, append_assoc, arith, length-append}
 use borrow.Author.Tests.{leb-true}
-use Rattle.grammar.specs.Numbers.{trailer_words, least_bytes, most_words, rule_limit}
+use Rattle.grammar.specs.Numbers.{trailer_words, most_words, rule_limit}
 use Rattle.grammar.specs.Tree.{Sheet}
 use Rattle.grammar.specs.Words.{words}
 use Rattle.grammar.specs.Lists.{rising, distinct}

@@ -5,7 +5,7 @@ use mathlib.Core.Logic.{◌⊎◌, inl, inr}
 use mathlib.Core.Bool.{Bool, true, false}
 use native.Mathlib.Omega.{arith}
 use lib.Dec.{eqb}
-use borrow.Author.Tests.{eqb-true, eqb-false, eq-eqb, ne_eqb}
+use borrow.Author.Tests.{eqb-false, eq-eqb, ne_eqb}
 use Rattle.grammar.specs.Numbers.{most_words}
 use Rattle.collisions.specs.Names.{labels_bit, references_bit, IsSet, has_bit}
 use Rattle.collisions.specs.Order.{Joined}

@@ -1,6 +1,6 @@
 -- Names in order, halved; and what the entry that is found tells of a name.
 use Prim.Native.Nat.{ℕ, zero, suc, ◌+◌, ◌-◌, ◌*◌, ◌/◌, ◌%◌, ◌<◌, ◌≤◌}
-use mathlib.Core.Path.{◌≡◌, refl, sym, ap, ap₂, ◌∙◌, subst}
+use mathlib.Core.Path.{◌≡◌, refl, sym, ap, ◌∙◌}
 use mathlib.Core.List.{List}
 use mathlib.Core.Bool.{Bool, true, false, ◌&&◌, ◌||◌, or-true, false≢true}
 use native.Mathlib.Omega.{arith}
@@ -8,7 +8,6 @@ use lib.ListN.{length, get_or}
 use lib.Dec.{eqb, ltb}
 use borrow.Author.Tests.{eqb-true, eqb-false, ltb-true, ltb-false, eq-eqb}
 use Rattle.grammar.specs.Numbers.{most_words}
-use Rattle.grammar.specs.Words.{words}
 use Rattle.grammar.specs.Laws.Parse.{either, left_true, right_true}
 use Rattle.words.specs.Room.{Room}
 use Rattle.planned.specs.Layout.{half}

@@ -1,5 +1,5 @@
 -- Halves moved by one, and an entry more between those in front and those behind.
-use Prim.Native.Nat.{ℕ, ◌+◌, ◌-◌, ◌*◌, ◌<◌, ◌≤◌}
+use Prim.Native.Nat.{ℕ, ◌+◌, ◌-◌, ◌<◌, ◌≤◌}
 use mathlib.Core.Path.{◌≡◌, refl, sym, ap, ◌∙◌}
 use mathlib.Core.List.{List}
 use mathlib.Core.Bool.{Bool, true, false}
@@ -10,7 +10,7 @@ use borrow.Author.Tests.{eqb-true, eqb-false}
 use Rattle.grammar.specs.Laws.Parse.{either}
 use Rattle.planned.specs.Layout.{half, hand_end}
 use Rattle.planned.specs.Halves.{HalfPut, Apart, HalvesMoved}
-use Rattle.collisions.specs.Names.{entries_at, entries_end, most_entries, low_in, high_in, count_in, entry}
+use Rattle.collisions.specs.Names.{entries_at, entries_end, most_entries, low_in, high_in, entry}
 use Rattle.collisions.specs.Order.{Raised, Nearer, Insertable, Inserted}
 
 -- Those from i on are moved.

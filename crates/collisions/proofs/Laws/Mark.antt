@@ -1,5 +1,5 @@
 -- Labels and references marked: one name, one element, one reference, and the list that stays as it was.
-use Prim.Native.Nat.{ℕ, ◌+◌, ◌-◌, ◌/◌, ◌<◌, ◌≤◌}
+use Prim.Native.Nat.{ℕ, ◌+◌, ◌-◌, ◌<◌, ◌≤◌}
 use mathlib.Core.Path.{◌≡◌, refl, sym, ap, ap₂, ◌∙◌}
 use mathlib.Core.Logic.{◌⊎◌, inl, inr}
 use mathlib.Core.List.{List, [], ◌∷◌, map}
@@ -8,15 +8,15 @@ use native.Mathlib.Omega.{arith}
 use lib.ListN.{length, get_or}
 use lib.Dec.{leb, eqb}
 use borrow.Author.Tests.{leb-true, le-leb, lt-leb}
-use Rattle.grammar.specs.Numbers.{most_name, action_kind, predicate_kind, block_kind, qualified, non_local}
+use Rattle.grammar.specs.Numbers.{most_name, action_kind, predicate_kind, block_kind, qualified}
 use Rattle.grammar.specs.Tree.{Reference, Label, unlabelled, labelled, Leaf, epsilon, action, predicate, call, token, terminal, end_of_input}
 use Rattle.grammar.specs.Stands.{Spans}
 use Rattle.grammar.specs.Encode.{encode_reference, label_name, leaf_kind, encode_leaf}
 use Rattle.grammar.specs.Valid.{ok_reference, ok_label, ok_leaf}
-use Rattle.grammar.specs.Lists.{all, member, keep, push}
+use Rattle.grammar.specs.Lists.{member, keep, push}
 use Rattle.grammar.specs.Found.{HeadAt, LeafEnd}
 use Rattle.grammar.specs.Fold.{folded, ElementWalked, AlternativesWalked}
-use Rattle.grammar.specs.Laws.Parse.{left_true, right_true, either}
+use Rattle.grammar.specs.Laws.Parse.{left_true}
 use Rattle.grammar.specs.Laws.Stands.{stands_head, stands_length}
 use Rattle.grammar.specs.Laws.Fold.{Folding, folding_done, folding_found}
 use Rattle.reference.specs.Walks.{references}

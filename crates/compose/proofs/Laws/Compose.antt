@@ -144,7 +144,7 @@ module _ {bs : List ℕ} {end to : ℕ} {rules : Rules} {p : Plan} {work trail :
       sheet_is : encode (sheet_after (words bs) end to (after x)) ≡ encode_rules (after x).node ++ end_words (words bs) end to w.pen
       sheet_is =
           let e : w.pen.to - compose_at ≡ length (encode_rules (after x).node) = let z = behind_place in omega arith in
-          sheet_parts ∙ rw (e, drafted.drawn.counters)
+          sheet_parts ∙ rw (e, ← drafted.drawn.counters)
 
       module _ {work₂ : List ℕ} {last : Pen} (m : Moved (end_words (words bs) end to w.pen) work₁ work₂ w.pen last) where
         made_drawn : Drawn (encode (sheet_after (words bs) end to (after x))) (each encode_entry (after x).entries) (after x).counters

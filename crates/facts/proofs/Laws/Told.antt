@@ -11,7 +11,6 @@ use Rattle.grammar.specs.Words.{words}
 use Rattle.grammar.specs.Tree.{Rule, body_depth}
 use Rattle.grammar.specs.Ids.{rule_ids, rule_names, is_distinct}
 use Rattle.grammar.specs.Lists.{distinct}
-use Rattle.grammar.specs.Reading.{Reading, sheet}
 use Rattle.grammar.specs.Corners.{Corners}
 use Rattle.grammar.specs.Laws.Parse.{left_true, right_true}
 use Rattle.grammar.specs.Laws.Whole.{valid_parts}

@@ -11,7 +11,7 @@ use Rattle.grammar.specs.Encode.{encode_leaf, leaf_kind, encode_element, encode_
 use Rattle.grammar.specs.Lists.{each, all}
 use Rattle.grammar.specs.Valid.{ok_leaf, ok_element, ok_alternative, ok_block, ok_rule}
 use Rattle.grammar.specs.Found.{Found, FoundMany, FoundAlternatives, FoundRule, HeadAt, AlternativeAt, LeafEnd}
-use Rattle.grammar.specs.Fold.{AlternativeHead, head_of, Steps, folded, element_fold, alternative_fold, block_fold, rule_fold, WalkedOne}
+use Rattle.grammar.specs.Fold.{head_of, Steps, folded, element_fold, alternative_fold, block_fold, rule_fold, WalkedOne}
 use Rattle.grammar.specs.Fold.{WalkedMany, ElementWalked, ElementsWalked, AlternativeWalked, AlternativesWalked, RuleWalked}
 use Rattle.grammar.specs.Laws.Stands.{stands_length}
 use Rattle.grammar.specs.Laws.Complete.{leaf_kind_lem}

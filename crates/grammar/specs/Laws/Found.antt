@@ -1,10 +1,10 @@
 -- Where the parts of a tree that stands in a sheet begin and end, and that they stand there.
-use Rattle.std.specs.Prelude.{ℕ, zero, suc, ◌+◌, ◌-◌, ◌*◌, ◌%◌, ◌<◌, ◌≤◌, ◌≡◌, refl, List, length, get_or}
+use Rattle.std.specs.Prelude.{ℕ, zero, suc, ◌+◌, ◌-◌, ◌*◌, ◌%◌, ◌<◌, ◌≤◌, ◌≡◌, refl, List, get_or}
 use Rattle.std.proofs.Common.{sym, ◌∙◌, arith, sub-one}
 use Rattle.grammar.specs.Numbers.{action_kind, predicate_kind, call_kind, token_kind, block_kind, kind_end}
 use Rattle.grammar.specs.Stands.{Spans, Stands}
 use Rattle.grammar.specs.Tree.{ElementHead, Leaf, epsilon, action, predicate, call, token, terminal, end_of_input, Element, block}
-use Rattle.grammar.specs.Tree.{AlternativeOf, Block}
+use Rattle.grammar.specs.Tree.{Block}
 use Rattle.grammar.specs.Encode.{encode_leaf, leaf_kind, encode_block, encode_rule}
 use Rattle.grammar.specs.Valid.{ok_block, ok_rule}
 use Rattle.grammar.specs.Found.{Found, FoundElement, FoundElements, FoundAlternative, FoundAlternatives, ElementSpans, HeadAt}

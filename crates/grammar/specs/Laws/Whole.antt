@@ -1,5 +1,5 @@
 -- The reader of a whole sheet of words, both ways.
-use Rattle.std.specs.Prelude.{ℕ, ◌≤◌, ◌≡◌, List, [], ◌∷◌, ◌++◌, ◌&&◌, take, drop, leb, eqb}
+use Rattle.std.specs.Prelude.{ℕ, ◌≤◌, ◌≡◌, List, ◌∷◌, ◌++◌, ◌&&◌, take, drop, leb, eqb}
 use Rattle.std.proofs.Math.Path.{refl}
 use Rattle.std.proofs.Common.{ap, subst}
 use Rattle.std.proofs.Math.Bool.{true}

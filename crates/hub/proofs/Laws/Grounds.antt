@@ -25,7 +25,7 @@ use Rattle.analysis.proofs.Laws.Seen.{any_none}
 use Rattle.analysis.proofs.Laws.Agree.{agrees, behind}
 use Rattle.analysis.proofs.Laws.Standing.{among, few, all_rules, id_at, key_at, one_rule}
 use Rattle.analysis.specs.declared.rounds.Marks.{Marks}
-use Rattle.hub.specs.Corner.{Callee, Tells}
+use Rattle.hub.specs.Corner.{Tells}
 use Rattle.hub.specs.Grounds.{Known, rules_of, grammar_at}
 use Rattle.hub.proofs.Laws.Lists.{first_only}
 

@@ -3,7 +3,7 @@ use Prim.Native.Nat.{ℕ, ◌<◌}
 use mathlib.Core.Path.{◌≡◌, refl, sym, ap, ap₂, ◌∙◌, subst}
 use mathlib.Core.List.{List, ◌++◌, Memᴰ}
 use mathlib.Core.Option.{none, some}
-use mathlib.Core.Bool.{Bool, true, false, ◌&&◌, ◌||◌, not, and-true, true≢false}
+use mathlib.Core.Bool.{Bool, true, ◌&&◌, ◌||◌, not, and-true, true≢false}
 use lib.ListN.{get_or}
 use Rattle.grammar.specs.Tree.{RuleOf, Block, body_depth, inner_depth}
 use Rattle.grammar.specs.Lists.{member, keep, first}

@@ -8,7 +8,7 @@ use Rattle.grammar.specs.Valid.{is_kind, valid}
 use Rattle.grammar.specs.Ids.{is_distinct, is_below}
 use Rattle.laws.specs.Demands.Marks.{names_in}
 
--- `Valid`, with a test of a name in place of `isName`.
+-- `Valid`, with a test of a name in place of `is_name`.
 module _ (name : ℕ → Bool) where
   abbrev pub ok_option_by : OptionDecl → Bool
   ok_option_by o = name o.name

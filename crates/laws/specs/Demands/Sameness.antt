@@ -1,5 +1,6 @@
 -- Runs compared (SPECIFICATION 1.15 to 1.17, 18): the pass on a sheet with other names, and on two sheets alike but for
--- carried numbers. (On its own result: `OwnResult`, in Kept.) A sheet with other names and other carried numbers is `onSheet` of the sheet.
+-- carried numbers. (On its own result: `OwnResult`, in Kept.) A sheet with other names and other carried numbers is `on_sheet`
+-- of the sheet.
 use Rattle.std.specs.Prelude.{ℕ, zero, suc, ◌≡◌, List, true, take}
 use Rattle.grammar.specs.Tree.{Sheet}
 use Rattle.grammar.specs.Lists.{member}

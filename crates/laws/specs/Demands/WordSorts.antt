@@ -82,7 +82,7 @@ if_name carried w = []
 unfoldable pub names_among : List Sort → List ℕ → List ℕ
 names_among ss ws = flatten (zip_with if_name ss ws)
 
--- Each word has a sort; `onSheet` changes the names by one function, the carried numbers by another, and no other word; `namesIn` lists
+-- Each word has a sort; `on_sheet` changes the names by one function, the carried numbers by another, and no other word; `names_in` lists
 -- the names. So both are held to the words of a sheet.
 pub record MarksTold (s : Sheet) : Type 0 where
   pub one_each : length (sorts_of s) ≡ length (encode s)

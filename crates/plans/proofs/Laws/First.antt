@@ -1,6 +1,6 @@
 -- What the search finds for rules that stand in a sheet is what the definition finds.
 use Prim.Native.Nat.{ℕ, ◌≤◌}
-use mathlib.Core.Path.{◌≡◌, subst}
+use mathlib.Core.Path.{subst}
 use mathlib.Core.List.{List}
 use mathlib.Core.Bool.{Bool}
 use Rattle.grammar.specs.Numbers.{most_words}
@@ -14,7 +14,7 @@ use Rattle.turns.specs.declared.state.Limits.{Limits}
 use Rattle.plan.specs.declared.search.Search.{Search}
 use Rattle.plan.specs.declared.search.Search.TheVariants.{NoPlan, Planned, TooLarge}
 use Rattle.plan.specs.declared.search.Found.{Found}
-use Rattle.plan.specs.Search.{RulesKnown, AnswerIs, FoundOf}
+use Rattle.plan.specs.Search.{AnswerIs, FoundOf}
 use Rattle.plan.specs.Ground.{KeptOf}
 use Rattle.plan.proofs.Laws.Ground.{ground_known}
 use Rattle.plans.specs.First.{SearchAs, FirstAs, FirstOf}

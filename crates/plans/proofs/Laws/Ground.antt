@@ -1,10 +1,10 @@
 -- What the decisions rest on: a sheet that was read has its preserved ids behind its rules, and the limits are the definition's.
-use Prim.Native.Nat.{ℕ, ◌+◌, ◌-◌, ◌*◌, ◌≤◌, ◌<◌}
-use mathlib.Core.Path.{◌≡◌, refl, sym, ap, ◌∙◌, subst}
+use Prim.Native.Nat.{ℕ, ◌+◌, ◌-◌, ◌≤◌}
+use mathlib.Core.Path.{◌≡◌, refl, sym, ap, ◌∙◌}
 use mathlib.Core.List.{List, ◌∷◌, ◌++◌, append_assoc}
 use mathlib.Core.Bool.{Bool, true, false}
 use native.Mathlib.Omega.{arith}
-use lib.ListN.{length, take, drop, length-append}
+use lib.ListN.{length, length-append}
 use lib.Seq.{take-append_seam, drop-append_seam}
 use lib.Dec.{leb}
 use borrow.Author.Tests.{leb-true}
@@ -16,17 +16,15 @@ use Rattle.grammar.specs.Ids.{rule_ids, rule_names, is_distinct}
 use Rattle.grammar.specs.Laws.Parse.{left_true, right_true}
 use Rattle.analysis.specs.Facts.{Standing}
 use Rattle.grammar.specs.Encode.{encode, encode_rules, encode_counters}
-use Rattle.grammar.specs.Reading.{Reading, refused, sheet, is_length, read_words, read}
+use Rattle.grammar.specs.Reading.{refused, sheet, is_length, read_words, read}
 use Rattle.grammar.specs.Laws.Words.{length_words}
 use Rattle.grammar.specs.Laws.Whole.{words_sound, reads_sheet, valid_parts}
-use Rattle.words.specs.Room.{Room}
 use Rattle.records.specs.declared.rules.Rules.{Rules}
-use Rattle.reach.specs.Rows.{RowOf}
 use Rattle.hub.specs.Preserved.{between}
 use Rattle.sheet.specs.Answer.{read_lent, answer_of, parts_of, ReadAs, Lent}
 use Rattle.sheet.specs.declared.answer.Reading as answer
 use Rattle.sheet.specs.declared.answer.Parts.{Parts}
-use Rattle.sheet.specs.declared.answer.Answer.TheVariants.{Refused, Sheet}
+use Rattle.sheet.specs.declared.answer.Answer.TheVariants.{Sheet}
 use Rattle.sheet.specs.Read.{WasRead}
 use Rattle.sheet.proofs.Laws.Lent.{lent_all}
 use Rattle.sheet.proofs.Laws.Sizes.{was_read}

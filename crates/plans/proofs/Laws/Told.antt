@@ -8,9 +8,8 @@ use lib.ListN.{length, get_or, replicate, length-replicate}
 use lib.Dec.{eqb}
 use borrow.Author.Tests.{eqb-true}
 use Rattle.grammar.specs.Words.{words}
-use Rattle.grammar.specs.Tree.{Rule, Sheet}
+use Rattle.grammar.specs.Tree.{Rule}
 use Rattle.grammar.specs.Ids.{rule_ids}
-use Rattle.grammar.specs.Encode.{encode_rules}
 use Rattle.grammar.specs.Corners.{Corners}
 use Rattle.records.specs.Rules.{row}
 use Rattle.sheet.specs.Answer.{read_lent, work_after, ReadAs}
@@ -27,7 +26,7 @@ use Rattle.plans.specs.declared.nth.Choice.{Choice}
 use Rattle.plans.specs.declared.nth.Choice.TheVariants.{None, Some}
 use Rattle.plans.specs.declared.nth.Nth.{Nth}
 use Rattle.plans.specs.Nth.{ChoiceAs, NthAs, NthOf, choice_numbers, nth_numbers, nth_row, left_by}
-use Rattle.plans.specs.Told.{RefusalTold, Cleared, NthToldOf, NthTold, FirstRefusal, FirstToldOf, FirstTold}
+use Rattle.plans.specs.Told.{Cleared, NthToldOf, NthTold, FirstToldOf, FirstTold}
 use Rattle.plans.specs.First.{SearchAs, FirstAs, FirstOf, search_numbers, search_cycle, search_row}
 use Rattle.plan.specs.declared.search.Found.{Found}
 use Rattle.reference.specs.Substitute.{standard}

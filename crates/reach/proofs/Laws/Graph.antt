@@ -108,4 +108,4 @@ module _ {rows : List Row} {n : ℕ} {corners : List (List ℕ)} (h : Edges rows
   way_path {i} {j} l m a b (Way.last e) = last (edge_bit l m (subst (λ z. Edge rows z (id j)) (sym a) (subst (Edge rows _) (sym b) e)))
   way_path {i} {j} l m a b (Way.more {j = z} e w) =
       let (k, q, d) = in_id h.numbered (way_start w) in
-      more (edge_bit l q (subst (λ v. Edge rows v (id k)) (sym a) (subst (Edge rows _) (sym d) e))) q (way_path q m d b w)
+      more (edge_bit l q (subst (λ v. Edge rows v (id k)) (sym a) (subst (Edge rows _) (sym d) e))) q (way_path {i = k} q m d b w)

@@ -1,5 +1,5 @@
 -- What is known of rules, when one of them is gone, and when all are.
-use Prim.Native.Nat.{ℕ, suc, ◌+◌, ◌-◌, ◌≤◌}
+use Prim.Native.Nat.{ℕ, suc, ◌-◌, ◌≤◌}
 use mathlib.Core.Path.{◌≡◌, refl, sym, ap, ◌∙◌, subst}
 use mathlib.Core.List.{List, [], ◌∷◌, ◌++◌, map-id, map-append}
 use mathlib.Core.Bool.{Bool, true, false, not, true≢false}

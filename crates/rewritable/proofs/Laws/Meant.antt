@@ -2,7 +2,7 @@
 use Prim.Native.Nat.{ℕ}
 use mathlib.Core.Path.{◌≡◌}
 use mathlib.Core.List.{List}
-use mathlib.Core.Bool.{Bool, ◌&&◌, ◌||◌}
+use mathlib.Core.Bool.{◌&&◌, ◌||◌}
 use Rattle.grammar.specs.Numbers.{action_sort, predicate_sort}
 use Rattle.grammar.specs.Tree.{Element, Block}
 use Rattle.grammar.specs.Lists.{all}

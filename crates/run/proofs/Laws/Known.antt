@@ -1,18 +1,16 @@
 -- What is known of a run on its way, for the search and for the plan that it finds.
-use Prim.Native.Nat.{ℕ, ◌+◌, ◌*◌, ◌≤◌}
-use mathlib.Core.Path.{◌≡◌, refl, sym, ap, ◌∙◌, subst}
+use Prim.Native.Nat.{ℕ, ◌+◌, ◌≤◌}
+use mathlib.Core.Path.{◌≡◌, sym, subst}
 use mathlib.Core.List.{List}
 use mathlib.Core.Bool.{Bool, true}
 use native.Mathlib.Omega.{arith}
-use lib.ListN.{length}
 use Rattle.grammar.specs.Numbers.{trailer_words, most_words, rule_limit}
 use Rattle.reference.specs.Numbers.{most_entries}
-use Rattle.grammar.specs.Tree.{Sheet, inner_depth}
+use Rattle.grammar.specs.Tree.{Sheet}
 use Rattle.grammar.specs.Words.{words}
 use Rattle.grammar.specs.Valid.{valid}
 use Rattle.reference.specs.Substitute as R
-use Rattle.reference.specs.Plan.{CyclePlan}
-use Rattle.reference.specs.Run.{no_plan, planned, too_large, find_plan}
+use Rattle.reference.specs.Run.{no_plan, too_large, find_plan}
 use Rattle.laws.specs.Running.Midway.{SoFar, midway_so_far, midway_next}
 use Rattle.words.specs.Room.{Room}
 use Rattle.analysis.specs.Survey.{reading}
@@ -23,13 +21,13 @@ use Rattle.plan.specs.declared.search.Search.{Search}
 use Rattle.plan.specs.declared.search.Search.TheVariants.{NoPlan, Planned, TooLarge}
 use Rattle.plan.specs.declared.search.Found.{Found}
 use Rattle.plan.specs.declared.search.FoundPlan.{FoundPlan}
-use Rattle.plan.specs.Search.{RulesKnown, FoundOf, AnswerIs, whole_search}
+use Rattle.plan.specs.Search.{RulesKnown, FoundOf, AnswerIs}
 use Rattle.plan.specs.Decision.{PlanAs}
 use Rattle.apply.specs.Applied.{Applicable}
 use Rattle.apply.specs.Laws.Held.{held_long, held_room, held_standing}
 use Rattle.run.specs.declared.state.State.{State}
 use Rattle.run.specs.Ended.{Short}
-use Rattle.run.specs.Midst.{Midst, Going}
+use Rattle.run.specs.Midst.{Midst}
 use Rattle.run.specs.Turn.{ended_with, Advancing}
 
 module _ {limits : R.Limits} {past : Bool} {s : Sheet} {result trail : List ℕ} {calls corners : List (List ℕ)} {st : State}

@@ -6,27 +6,24 @@ use mathlib.Core.Bool.{Bool, true, false, true≢false}
 use native.Mathlib.Omega.{arith}
 use lib.ListN.{length, get_or, length-append}
 use Rattle.grammar.specs.Numbers.{trailer_words, most_words, word_end}
-use Rattle.grammar.specs.Tree.{Sheet, inner_depth, body_depth}
+use Rattle.grammar.specs.Tree.{Sheet, inner_depth}
 use Rattle.grammar.specs.Lists.{each}
 use Rattle.grammar.specs.Words.{words}
 use Rattle.grammar.specs.Valid.{valid}
 use Rattle.grammar.specs.Stands.{Run, Stands}
-use lib.Dec.{leb}
 use borrow.Author.Tests.{leb-true}
 use Rattle.grammar.specs.Valid.{rule_limit}
 use Rattle.grammar.specs.Laws.Whole.{valid_parts}
 use Rattle.grammar.specs.Laws.Lists.{each_append}
-use Rattle.grammar.specs.Laws.Stands.{stands_append, stands_length, stands_within}
+use Rattle.grammar.specs.Laws.Stands.{stands_append, stands_within}
 use Rattle.reference.specs.Substitute as R
 use Rattle.reference.specs.Numbers.{entry_words}
 use Rattle.reference.specs.Apply.{Entry, fresh_each, apply_alternative, apply_plan}
-use Rattle.reference.specs.Run.{Stage, stopped, sheet_with, refusal_of, entries_of, steps_of, encode_entry, answer_run}
-use Rattle.reference.specs.Run.{eliminate_mutual_left_recursion}
+use Rattle.reference.specs.Run.{Stage, sheet_with, refusal_of, entries_of, encode_entry, answer_run}
 use Rattle.laws.specs.Running.Midway.{Midway, SoFar, NextPlan, stage_from, midway_so_far, midway_next}
 use Rattle.laws.specs.Running.Midway.{midway_more, midway_refused, steps_fit}
 use Rattle.laws.specs.Running.Stages.{entries_last, steps_last}
 use Rattle.words.specs.Room.{Room}
-use Rattle.writing.specs.Wrote.{Wrote}
 use Rattle.writing.specs.Laws.Wrote.{wrote_stands, wrote_same}
 use Rattle.analysis.specs.Survey.{reading}
 use Rattle.reach.specs.Rows.{RowOf}
@@ -39,10 +36,9 @@ use Rattle.apply.specs.declared.apply.Applied.{Applied}
 use Rattle.renew.specs.Renewed.{Renewable, RenewedOf, RenewedAs, Stays}
 use Rattle.renew.specs.declared.renew.Renewed.{Renewed}
 use Rattle.run.specs.declared.state.State.{State}
-use Rattle.run.specs.declared.turn.Turn.{Turn}
 use Rattle.run.specs.Ended.{Front, AnswerIs}
 use Rattle.run.specs.Midst.{Midst}
-use Rattle.run.specs.Turn.{behind_plan, ended_with, OneMore, TurnedTo, UpToDate, Advancing, AdvancedOf}
+use Rattle.run.specs.Turn.{behind_plan, ended_with, TurnedTo, UpToDate, Advancing, AdvancedOf}
 use Rattle.run.proofs.Laws.Known.{so_far, midst_ended, now_valid, midst_short, midst_known}
 use Rattle.run.proofs.Laws.Known.{advancing_applicable, advancing_entries, advancing_rules}
 use Rattle.run.proofs.Laws.Over.{stopped_answer}

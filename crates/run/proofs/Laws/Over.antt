@@ -1,23 +1,22 @@
 -- A run that is over: its answer is the definition's.
-use Prim.Native.Nat.{ℕ, suc, ◌+◌, ◌*◌}
-use mathlib.Core.Path.{◌≡◌, refl, sym, ap, ap₂, ◌∙◌, subst}
+use Prim.Native.Nat.{ℕ, ◌*◌}
+use mathlib.Core.Path.{◌≡◌, refl, sym, ◌∙◌, subst}
 use mathlib.Core.List.{List}
-use mathlib.Core.Bool.{Bool, true, false, true≢false}
+use mathlib.Core.Bool.{Bool, false, true≢false}
 use native.Mathlib.Omega.{arith}
 use lib.ListN.{length}
-use Rattle.grammar.specs.Numbers.{trailer_words, plan_too_large}
+use Rattle.grammar.specs.Numbers.{plan_too_large}
 use Rattle.grammar.specs.Tree.{Sheet}
 use Rattle.grammar.specs.Lists.{each}
 use Rattle.grammar.specs.Encode.{encode}
 use Rattle.reference.specs.Substitute as R
-use Rattle.reference.specs.Run.{Stage, ended, stopped, no_plan, planned, too_large, find_plan, refusal, answer, answer_run, sheet_after}
-use Rattle.reference.specs.Run.{steps_of, entries_of, encode_entry, eliminate_mutual_left_recursion}
+use Rattle.reference.specs.Run.{Stage, ended, stopped, no_plan, too_large, find_plan, answer_run, sheet_after}
+use Rattle.reference.specs.Run.{steps_of, entries_of, encode_entry}
 use Rattle.laws.specs.Running.Midway.{midway_ended, midway_large}
 use Rattle.analysis.specs.Survey.{reading}
 use Rattle.run.specs.declared.state.State.{State}
 use Rattle.run.specs.declared.state.Ended.{Ended}
-use Rattle.run.specs.declared.turn.Turn.{Turn}
-use Rattle.run.specs.Ended.{Front, AnswerIs, Delivered}
+use Rattle.run.specs.Ended.{Front, AnswerIs}
 use Rattle.run.specs.Midst.{Midst}
 use Rattle.run.specs.Turn.{ended_with, TurnedTo}
 use Rattle.run.proofs.Laws.Known.{midst_ended}

@@ -10,7 +10,6 @@ use lib.Dec.{leb, eqb}
 use borrow.Author.Tests.{le-leb, lt-leb, eq-eqb, ne_eqb, leb-true, eqb-true, not-true, not-false}
 use Rattle.grammar.specs.Numbers.{least_bytes, trailer_words, rule_limit, lexer, combined}
 use Rattle.grammar.specs.Numbers.{bad_trailer, bad_record, shared_number, id_past_counter}
-use Rattle.grammar.specs.Tree as tree
 use Rattle.grammar.specs.Parse.{Got, got, bad, ◌then◌, given}
 use Rattle.grammar.specs.Encode.{encode_rules}
 use Rattle.grammar.specs.Words.{words}

@@ -26,7 +26,6 @@ use Rattle.ids.specs.Survey.{Surveyed}
 use Rattle.sheet.specs.declared.answer.Reading.{Reading}
 use Rattle.sheet.specs.declared.counts.Summary.{Summary}
 use Rattle.sheet.specs.declared.counts.Sizes.{Sizes}
-use Rattle.sheet.specs.declared.counts.Summary as summary
 use Rattle.sheet.specs.declared.counts.Summary.TheVariants as summary-of
 use Rattle.records.specs.Rules.{RowsOf}
 use Rattle.sheet.specs.Answer.{answer_of, parts_of, number_in, read_lent, work_after, ReadAs, RowsIn, Lent}

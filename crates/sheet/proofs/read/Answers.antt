@@ -1,6 +1,4 @@
-use Rattle.std.proofs.Common.{rules, ◌≡◌, ℕ, ◌+◌, ◌-◌, ◌*◌, ◌<◌, ◌≤◌, length, ◌/◌, ◌%◌, Bool, true, false, nat_eq, nat_lt, List, [], ◌∷◌, ◌++◌, slice_index_or, slice_set, bit_and, bit_or, Fits, w8, w32, w64, Bor, MutBor}
-use Rattle.sheet.specs.Answer.{ReadAs, read_lent, work_after}
-use Rattle.sheet.specs.Sizes.{SummedAs, numbers_of, ids_of, names_of, places_of}
+use Rattle.std.proofs.Common.{rules}
 use Rattle.sheet.proofs.read.Goals as goal
 use Rattle.sheet.proofs.Laws.Lent.{reads}
 

@@ -1,27 +1,23 @@
 -- What is left to be written of spliced alternatives has room: the hand stays, and the first of several is known.
 use Prim.Native.Nat.{ℕ, suc, ◌+◌, ◌-◌, ◌<◌, ◌≤◌}
-use mathlib.Core.Path.{◌≡◌, refl, sym, ap, ap₂, ◌∙◌}
-use mathlib.Core.Logic.{⊎_elim, ⊎_map, inl}
+use mathlib.Core.Path.{◌≡◌, refl, sym, ap, ◌∙◌}
 use mathlib.Core.List.{List, [], ◌∷◌, ◌++◌}
-use mathlib.Core.Option.{some}
 use native.Mathlib.Omega.{arith}
 use lib.ListN.{length, get_or, take, drop, length-append, length-take, length-drop}
 use Rattle.grammar.specs.Tree.{Block, AlternativeOf}
 use Rattle.grammar.specs.Lists.{total}
-use Rattle.grammar.specs.Found.{FoundAlternative, AlternativeSpans}
+use Rattle.grammar.specs.Found.{AlternativeSpans}
 use Rattle.grammar.specs.Laws.Opened.{first_spans, alternative_words_lem}
 use Rattle.reference.specs.Numbers.{most_alternatives, most_elements, most_options}
 use Rattle.reference.specs.Substitute.{Planned, decided, decide_each, splice_alternative}
-use Rattle.planned.specs.Layout.{half, head_at, options_at, hand_at, record_at, options_from, meaning, records_from}
+use Rattle.planned.specs.Layout.{half, options_at, hand_at, record_at, options_from, meaning}
 use Rattle.splices.specs.Options.{UnionFits}
-use Rattle.splices.specs.Splice.{spliced, AlternativesSpan, HandIn, OneFits, OnePut, AllFit, AllPut}
-use Rattle.planned.specs.Laws.Order.{order}
+use Rattle.splices.specs.Splice.{spliced, AlternativesSpan, HandIn, OneFits, OnePut, AllFit}
 use Rattle.planned.specs.Laws.Parts.{Copied, meaning_copied, listed_copied}
-use Rattle.planned.specs.Laws.Kept.{Outside, StandsIn, record_stands}
 use Rattle.planned.specs.Laws.Counts.{elements_all, options_all, count_elements, count_options}
 use Rattle.planned.specs.declared.list.Listed.{Listed}
 use Rattle.splices.proofs.Laws.OptionsUnion.{own_options}
-use Rattle.splices.proofs.Laws.SpliceDecided.{spliced_by, each_by, each_none}
+use Rattle.splices.proofs.Laws.SpliceDecided.{spliced_by, each_by}
 
 spliced_length : {A : Type 0} (index : ℕ) (es xs : List A) → index < length xs → length (spliced index es xs) ≡ length xs - 1 + length es
 spliced_length index es xs h =

@@ -1,21 +1,21 @@
 -- The corner of a planned alternative: what one element decides, and one element more.
-use Prim.Native.Nat.{ℕ, suc, ◌+◌, ◌-◌, ◌/◌, ◌%◌, ◌<◌, ◌≤◌}
+use Prim.Native.Nat.{ℕ, ◌+◌, ◌/◌, ◌<◌, ◌≤◌}
 use mathlib.Core.Path.{◌≡◌, refl, sym, ap, ◌∙◌}
 use mathlib.Core.List.{List, [], ◌∷◌}
 use mathlib.Core.Option.{Option, none, some}
-use mathlib.Core.Bool.{Bool, true, false, ◌&&◌, and-false}
+use mathlib.Core.Bool.{Bool, true, false, ◌&&◌}
 use native.Mathlib.Omega.{arith}
-use lib.ListN.{length, get_or, drop}
+use lib.ListN.{length, get_or}
 use lib.Dec.{eqb, leb, eqb-suc-zero}
 use borrow.Author.Tests.{eqb-true, eqb-false, eq-eqb, ne_eqb, leb-true}
 use Rattle.grammar.specs.Numbers.{rule_limit, once, optional_greedy, call_kind, kind_end}
 use Rattle.grammar.specs.Tree.{Label, unlabelled, labelled, OptionDecl, ElementHead, Call, Leaf, epsilon, action, predicate, call, token}
-use Rattle.grammar.specs.Tree.{terminal, end_of_input, Element, leaf, block, Block}
+use Rattle.grammar.specs.Tree.{terminal, end_of_input, Element, leaf, Block}
 use Rattle.grammar.specs.Stands.{Spans}
 use Rattle.grammar.specs.Encode.{encode_leaf, leaf_kind, label_name}
 use Rattle.grammar.specs.Valid.{ok_leaf, ok_head, ok_label}
 use Rattle.grammar.specs.Lists.{member, is_empty}
-use Rattle.grammar.specs.Found.{HeadAt, ElementSpans}
+use Rattle.grammar.specs.Found.{HeadAt}
 use Rattle.grammar.specs.Laws.Stands.{stands_head}
 use Rattle.grammar.specs.Laws.Parse.{either, left_true, right_true}
 use Rattle.grammar.specs.Laws.Complete.{leaf_kind_lem}
@@ -25,12 +25,11 @@ use Rattle.reference.specs.Walks.{sort_of, is_one, bare_reference}
 use Rattle.reference.specs.Substitute.{PlannedCorner, optional, satellite, blocked, settled, further, member_corner, planned_corner, plain}
 use Rattle.reference.specs.Substitute.{plain_head}
 use Rattle.reach.specs.Rows.{bit}
-use Rattle.analysis.specs.Names.{IsTarget, At}
+use Rattle.analysis.specs.Names.{IsTarget}
 use Rattle.analysis.specs.declared.names.Target.{Target}
 use Rattle.analysis.specs.declared.names.Target.TheVariants.{Unknown, Rule}
 use Rattle.planned.specs.Layout.{made_if}
-use Rattle.steps.specs.Corner.{CycleBy, bare_at, quantifier_at, met_corner, MetIn, met_by, met_member, CallMet, ItemMet, CornerAt}
-use Rattle.steps.specs.Corner.{corner_by}
+use Rattle.steps.specs.Corner.{CycleBy, bare_at, quantifier_at, met_corner, MetIn, met_by, met_member, CallMet, ItemMet}
 use Rattle.steps.specs.declared.corner.Cycle.{Cycle}
 use Rattle.steps.specs.declared.corner.Met.{Met}
 use Rattle.steps.specs.declared.corner.Met.TheVariants.{Silent, Settled, Blocked, Optional, Satellite}

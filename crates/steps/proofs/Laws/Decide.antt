@@ -1,20 +1,18 @@
 -- What one alternative of a satellite comes to, test by test.
-use Prim.Native.Nat.{ℕ, suc, ◌+◌, ◌≤◌}
-use mathlib.Core.Path.{◌≡◌, refl, sym, ap, ◌∙◌}
-use mathlib.Core.List.{List, [], ◌∷◌, ◌++◌}
-use mathlib.Core.Option.{Option, none, some}
-use mathlib.Core.Bool.{Bool, true, false, not, ◌||◌, or-false}
+use Prim.Native.Nat.{ℕ, ◌≤◌}
+use mathlib.Core.Path.{◌≡◌, refl, sym, ◌∙◌}
+use mathlib.Core.List.{List, []}
+use mathlib.Core.Bool.{Bool, true, false}
 use native.Mathlib.Omega.{arith}
-use lib.ListN.{length, take, drop}
-use Rattle.grammar.specs.Tree.{Block, AlternativeOf, OptionDecl}
+use Rattle.grammar.specs.Tree.{Block, AlternativeOf}
 use Rattle.grammar.specs.Lists.{meet, any}
 use Rattle.grammar.specs.Numbers.{most_words}
 use Rattle.grammar.specs.Found.{FoundAlternative, AlternativeSpans}
-use Rattle.reference.specs.Substitute.{Planned, Decided, decided, declined, found, require, ◌and_then◌, clause_number, without, in_slot_of}
+use Rattle.reference.specs.Substitute.{Planned, declined, found, clause_number, without}
 use Rattle.reference.specs.Substitute.{label_collision, binding_collision, option_collision, labels_collide, implicit_bindings_collide}
-use Rattle.reference.specs.Substitute.{splice_alternative, union_options, collect_labels, action_reference_names, bindable_names}
+use Rattle.reference.specs.Substitute.{splice_alternative, collect_labels}
 use Rattle.planned.specs.Layout.{meaning}
-use Rattle.splices.specs.Moves.{OptionsAdded, UnionOf}
+use Rattle.splices.specs.Moves.{OptionsAdded}
 use Rattle.planned.specs.declared.list.Listed.{Listed}
 use Rattle.splices.specs.declared.options.Added.{Added}
 use Rattle.splices.specs.declared.options.Added.TheVariants as A
@@ -23,8 +21,7 @@ use Rattle.collisions.specs.Clash.{ClashesAt}
 use Rattle.collisions.specs.declared.clash.Clash.{Clash}
 use Rattle.collisions.proofs.Laws.Inlinable.{inlinable_binding}
 use Rattle.steps.proofs.Laws.Added.{few_added}
-use Rattle.steps.specs.Decide.{DeclinedBy, Around, Searchable, join_options, Joined, OneTo, Unreferring, CollisionAt, OneAt}
-use Rattle.steps.specs.declared.decide.One.{One}
+use Rattle.steps.specs.Decide.{Around, Searchable, join_options, Unreferring, CollisionAt, OneAt}
 use Rattle.steps.specs.declared.decide.One.TheVariants.{Declines, Adds}
 
 module _ (d : ℕ) (p : Planned d) (index : ℕ) (a : AlternativeOf (Block d)) where

@@ -1,6 +1,6 @@
 -- The search for the corner of an alternative that is listed, element by element.
 use Prim.Native.Nat.{ℕ, zero, suc, ◌+◌, ◌<◌, ◌≤◌}
-use mathlib.Core.Path.{◌≡◌, refl, sym, ap, ◌∙◌}
+use mathlib.Core.Path.{◌≡◌, refl, ap, ◌∙◌}
 use mathlib.Core.List.{List, [], ◌∷◌}
 use native.Mathlib.Omega.{arith}
 use native.Mathlib.Numerals.{add-one}
@@ -10,15 +10,14 @@ use Rattle.grammar.specs.Tree.{Element, Block}
 use Rattle.grammar.specs.Found.{FoundElement}
 use Rattle.reference.specs.Analysis.{Grammar}
 use Rattle.reference.specs.Substitute.{PlannedCorner, optional, satellite, blocked, settled, further, planned_corner}
-use Rattle.planned.specs.Layout.{meaning, elements_from, element_of, half}
-use Rattle.planned.specs.List.{Located, ListedIn, ItemAt}
+use Rattle.planned.specs.Layout.{meaning, elements_from}
+use Rattle.planned.specs.List.{ListedIn}
 use Rattle.planned.specs.Reading.{ItemIs}
 use Rattle.planned.specs.declared.list.Listed.{Listed}
-use Rattle.steps.specs.Corner.{CycleBy, met_corner, MetIn, MemberIn, ItemMet, CornerAt, CornerIn, corner_by}
+use Rattle.steps.specs.Corner.{CycleBy, met_corner, ItemMet, CornerAt}
 use Rattle.steps.specs.declared.corner.Cycle.{Cycle}
 use Rattle.steps.specs.declared.corner.Met.{Met}
 use Rattle.steps.specs.declared.corner.Met.TheVariants.{Silent, Settled, Blocked, Optional, Satellite}
-use Rattle.steps.specs.declared.corner.Corner.{Corner}
 use Rattle.steps.specs.declared.corner.Corner.TheVariants as C
 
 -- A corner with i silent elements more in front.

@@ -1,11 +1,11 @@
 -- What the alternatives of a satellite come to, one more and all.
 use Prim.Native.Nat.{ℕ, zero, suc, ◌+◌, ◌-◌, ◌*◌, ◌<◌, ◌≤◌}
-use mathlib.Core.Path.{◌≡◌, refl, sym, ap, ◌∙◌}
-use mathlib.Core.List.{List, [], ◌∷◌, ◌++◌, map}
-use mathlib.Core.Bool.{Bool, true, false}
+use mathlib.Core.Path.{◌≡◌, refl, sym, ◌∙◌}
+use mathlib.Core.List.{List, [], ◌∷◌, ◌++◌}
+use mathlib.Core.Bool.{Bool}
 use native.Mathlib.Omega.{arith}
 use lib.ListN.{length, take, drop, length-append, get_or}
-use Rattle.grammar.specs.Tree.{OptionDecl, Block, AlternativeOf, Element}
+use Rattle.grammar.specs.Tree.{Block, AlternativeOf}
 use Rattle.grammar.specs.Numbers.{most_words}
 use Rattle.grammar.specs.Stands.{Spans}
 use Rattle.grammar.specs.Encode.{encode_alternative, encode_block}
@@ -16,12 +16,12 @@ use Rattle.grammar.specs.Fold.{AlternativeWalked}
 use Rattle.grammar.specs.Laws.Opened.{first_spans, first_found, rest_found, alternative_words_lem, rule_words_lem}
 use Rattle.grammar.specs.Laws.Stands.{stands_length}
 use Rattle.grammar.specs.Laws.Found.{alternative_room}
-use Rattle.reference.specs.Substitute.{Planned, Decided, decided, declined, ◌and_then◌, decide_each, splice_alternative}
+use Rattle.reference.specs.Substitute.{Decided, decided, declined, decide_each, splice_alternative}
 use Rattle.planned.specs.Layout.{meaning, hand_halves}
 use Rattle.ends.specs.Ends.{skipping}
 use Rattle.planned.specs.declared.list.Listed.{Listed}
 use Rattle.planned.specs.Laws.Counts.{count_elements, count_options}
-use Rattle.steps.specs.Decide.{DeclinedBy, Around, Joined, OneTo, SizedTo, SizedSo, Unreferring, OneAt, ManySized, RuleSized}
+use Rattle.steps.specs.Decide.{DeclinedBy, Around, SizedTo, SizedSo, Unreferring, OneAt, ManySized, RuleSized}
 use Rattle.steps.specs.Decide.{IsCounted, SmallSize, AlternativeCounted}
 use Rattle.steps.specs.declared.decide.One.{One}
 use Rattle.steps.specs.declared.decide.One.TheVariants.{Declines, Adds}

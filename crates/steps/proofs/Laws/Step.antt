@@ -1,25 +1,25 @@
 -- One step: what stands around the element, then the step whole.
-use Prim.Native.Nat.{ℕ, zero, suc, ◌+◌, ◌-◌, ◌*◌, ◌<◌, ◌≤◌}
-use mathlib.Core.Path.{◌≡◌, refl, sym, ap, ◌∙◌, subst}
-use mathlib.Core.List.{List, [], ◌∷◌, ◌++◌, map}
-use mathlib.Core.Bool.{Bool, true, false, not}
+use Prim.Native.Nat.{ℕ, zero, suc, ◌+◌, ◌-◌, ◌*◌, ◌<◌}
+use mathlib.Core.Path.{◌≡◌, refl, sym, ap, ◌∙◌}
+use mathlib.Core.List.{List, [], ◌∷◌}
+use mathlib.Core.Bool.{Bool, true, false}
 use native.Mathlib.Omega.{arith}
-use lib.ListN.{length, take, drop, length-append, take-append-drop}
+use lib.ListN.{length}
 use Rattle.grammar.specs.Tree.{Element, Block, RuleOf}
-use Rattle.grammar.specs.Lists.{total, AllOf}
+use Rattle.grammar.specs.Lists.{total}
 use Rattle.grammar.specs.Found.{RuleSpans}
-use Rattle.reference.specs.Substitute.{Decided, decided, declined, Planned, dangling_reference, clause_number, remaining_actions_reference}
-use Rattle.reference.specs.Substitute.{split_optional, splice_satellite, decide_each, splice_alternative, without, with_plain, plain}
+use Rattle.reference.specs.Substitute.{dangling_reference, clause_number, remaining_actions_reference}
+use Rattle.reference.specs.Substitute.{split_optional, splice_satellite, without, with_plain}
 use Rattle.planned.specs.Layout.{meaning}
-use Rattle.planned.specs.List.{SameList, Located, InHand}
+use Rattle.planned.specs.List.{Located, InHand}
 use Rattle.planned.specs.declared.list.Listed.{Listed}
 use Rattle.splices.specs.declared.splice.Size.{Size}
-use Rattle.planned.specs.Laws.Same.{same_refl, same_meaning, same_listed, same_located}
+use Rattle.planned.specs.Laws.Same.{same_refl, same_meaning}
 use Rattle.planned.specs.Laws.Counts.{count_elements, count_options}
 use Rattle.collisions.specs.Quiet.{is_quiet}
 use Rattle.collisions.specs.Mark.{MarkedAround}
 use Rattle.collisions.proofs.Laws.Silent.{quiet_silent}
-use Rattle.steps.specs.Decide.{DeclinedBy, Around, Unreferring, SmallSize, HandFits, RuleSized}
+use Rattle.steps.specs.Decide.{DeclinedBy, SmallSize, HandFits, RuleSized}
 use Rattle.steps.specs.Step.{RuleNamed, RuleUnreferring, step_by, GoesTo, DecisionOf, PreparedFor, DecidedAt}
 use Rattle.steps.specs.declared.decide.Decision.{Decision}
 use Rattle.steps.specs.declared.decide.Decision.TheVariants.{Goes, Declined}

@@ -1,30 +1,29 @@
 -- Before the first turn.
 use Prim.Native.Nat.{ℕ, ◌+◌, ◌≤◌, ◌<◌, ◌^◌}
-use mathlib.Core.Path.{◌≡◌, refl, sym, ap, ap₂, ◌∙◌, subst}
-use mathlib.Core.List.{List, [], ◌∷◌, ◌++◌}
-use mathlib.Core.Bool.{Bool, true, false}
+use mathlib.Core.Path.{◌≡◌, sym, ap, ap₂, ◌∙◌, subst}
+use mathlib.Core.List.{List, [], ◌++◌}
+use mathlib.Core.Bool.{Bool, true}
 use native.Mathlib.Omega.{arith}
 use lib.ListN.{length, get_or, length-map}
 use lib.Dec.{leb}
 use borrow.Author.Tests.{leb-true}
-use Rattle.grammar.specs.Numbers.{most_words, work_bytes}
-use Rattle.grammar.specs.Tree.{Alternative, inner_depth, body_depth}
+use Rattle.grammar.specs.Numbers.{work_bytes}
+use Rattle.grammar.specs.Tree.{inner_depth}
 use Rattle.grammar.specs.Stands.{Spans}
 use Rattle.grammar.specs.Encode.{encode_alternative, encode_block}
 use Rattle.grammar.specs.Valid.{ok_alternative, ok_block}
 use Rattle.grammar.specs.Lists.{each, all}
-use Rattle.grammar.specs.Found.{FoundRule, FoundAlternatives}
+use Rattle.grammar.specs.Found.{FoundRule}
 use Rattle.grammar.specs.Laws.Parse.{left_true, right_true}
 use Rattle.grammar.specs.Laws.Opened.{rule_words_lem}
 use Rattle.reference.specs.Plan.{as_it_is, as_they_are}
 use Rattle.analysis.specs.Facts.{Among}
 use Rattle.hub.specs.Grounds.{rules_of}
-use Rattle.planned.specs.Layout.{settled, stack}
 use Rattle.splices.specs.declared.splice.Size.{Size}
-use Rattle.turns.specs.Turns.{Task, Substituting, substitution}
+use Rattle.turns.specs.Turns.{Substituting, substitution}
 use Rattle.substitution.specs.Size.{RuleCounted}
 use Rattle.turns.specs.Ground.{Ground, task_of}
-use Rattle.turns.specs.Midway.{Shut, shut, opened, Ready, Midway, Begun, LimitsFit, within_limits, limits_of}
+use Rattle.turns.specs.Midway.{Shut, shut, opened, Ready, Begun, LimitsFit, within_limits, limits_of}
 use Rattle.substitution.specs.Run.{Going}
 use Rattle.steps.specs.declared.corner.Cycle.{Cycle}
 use Rattle.turns.specs.declared.state.Limits.{Limits}

@@ -1,24 +1,17 @@
 -- The substitution from its first turn to its last.
-use Prim.Native.Nat.{ℕ, ◌+◌, ◌≤◌, ◌<◌, ◌^◌}
-use mathlib.Core.Path.{◌≡◌, refl, sym, ap, ap₂, ◌∙◌}
+use Prim.Native.Nat.{ℕ, ◌<◌}
+use mathlib.Core.Path.{◌≡◌, refl, ap₂, ◌∙◌}
 use mathlib.Core.List.{List, [], ◌∷◌, ◌++◌}
 use mathlib.Core.Bool.{Bool, true, false, not}
 use native.Mathlib.Omega.{arith}
-use lib.ListN.{length, get_or}
+use lib.ListN.{length}
 use Rattle.grammar.specs.Tree.{Alternative, inner_depth}
-use Rattle.grammar.specs.Found.{FoundAlternatives}
-use Rattle.reference.specs.Substitute.{decided}
 use Rattle.reference.specs.Plan.{as_they_are}
-use Rattle.analysis.specs.Facts.{Among}
-use Rattle.hub.specs.Grounds.{rules_of}
-use Rattle.planned.specs.Layout.{settled, stack}
-use Rattle.planned.specs.List.{HasTop}
+use Rattle.planned.specs.Layout.{stack}
 use Rattle.planned.specs.Moves.{IsDrained}
-use Rattle.planned.specs.declared.list.Sizes.{Sizes}
-use Rattle.turns.specs.Ground.{Ground, task_of}
-use Rattle.turns.specs.Midway.{Shut, shut, opened, Ready, Midway, HasNext, NextIs, limits_of}
+use Rattle.turns.specs.Midway.{Shut, shut, opened, Ready, HasNext, NextIs}
 use Rattle.turns.specs.Turn.{TurnedTo, turns_left}
-use Rattle.substitution.specs.Run.{DoneWith, MadeOf, Going}
+use Rattle.substitution.specs.Run.{MadeOf, Going}
 use Rattle.steps.specs.declared.corner.Cycle.{Cycle}
 use Rattle.turns.specs.declared.state.Limits.{Limits}
 use Rattle.turns.specs.declared.state.State.{State}

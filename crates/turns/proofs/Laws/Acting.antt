@@ -1,7 +1,7 @@
 -- What is done about the alternative that was taken: by its corner.
 use Prim.Native.Nat.{ℕ, suc, ◌+◌, ◌≤◌, ◌<◌}
-use mathlib.Core.Path.{◌≡◌, refl, sym, ap, ◌∙◌, subst}
-use mathlib.Core.Logic.{◌⊎◌, inl, inr}
+use mathlib.Core.Path.{◌≡◌, refl, sym, ap, ◌∙◌}
+use mathlib.Core.Logic.{inl, inr}
 use mathlib.Core.List.{List, [], ◌∷◌}
 use mathlib.Core.Bool.{Bool, true, false}
 use native.Mathlib.Omega.{arith}
@@ -12,7 +12,6 @@ use Rattle.grammar.specs.Laws.Parse.{either}
 use Rattle.grammar.specs.Numbers.{rule_limit}
 use Rattle.grammar.specs.Tree.{Rule, inner_depth, body_depth}
 use Rattle.grammar.specs.Encode.{encode_rule, encode_block}
-use Rattle.grammar.specs.Found.{RuleSpans}
 use Rattle.reference.specs.Substitute.{clause_number, budget, blocked_corner}
 use Rattle.analysis.specs.Names.{Told}
 use Rattle.analysis.specs.Facts.{Among}
@@ -24,10 +23,10 @@ use Rattle.planned.specs.List.{HasRoom}
 use Rattle.planned.specs.declared.list.Listed.{Listed}
 use Rattle.turns.specs.Turns.{Replaced}
 use Rattle.steps.specs.Corner.{CornerAt}
-use Rattle.steps.specs.Step.{step_by, CallIn}
+use Rattle.steps.specs.Step.{step_by}
 use Rattle.turns.specs.Ground.{Ground, task_of}
-use Rattle.turns.specs.Midway.{Shut, shut, opened, Ready, With, Holding, limits_of, PutSettled}
-use Rattle.turns.specs.Turn.{TurnTo, Called, called, CalledAt, SteppedTo, StuckAt, ActedOn}
+use Rattle.turns.specs.Midway.{Shut, opened, With, limits_of, PutSettled}
+use Rattle.turns.specs.Turn.{Called, called, CalledAt, SteppedTo, StuckAt, ActedOn}
 use Rattle.steps.specs.declared.corner.Cycle.{Cycle}
 use Rattle.steps.specs.declared.corner.Place.{Place}
 use Rattle.steps.specs.declared.corner.Corner.{Corner}
@@ -35,7 +34,7 @@ use Rattle.steps.specs.declared.corner.Corner.TheVariants as C
 use Rattle.turns.specs.declared.state.Limits.{Limits}
 use Rattle.turns.specs.declared.state.State.{State}
 use Rattle.turns.specs.declared.turn.Turn.{Turn}
-use Rattle.turns.specs.declared.turn.Turn.TheVariants.{On, Declined, Overfull}
+use Rattle.turns.specs.declared.turn.Turn.TheVariants.{On, Declined}
 use Rattle.turns.proofs.Laws.Turns.{substitute_spent, substitute_declined}
 use Rattle.turns.proofs.Laws.Midway.{with_laid, with_located, with_listed, with_movable}
 use Rattle.turns.proofs.Laws.Ground.{names_told}

@@ -1,45 +1,43 @@
 -- A step done: the list is beyond the limits, or the substitution goes on.
-use Prim.Native.Nat.{ℕ, suc, ◌+◌, ◌-◌, ◌≤◌, ◌<◌, ◌^◌}
-use mathlib.Core.Path.{◌≡◌, refl, sym, ap, ap₂, ◌∙◌, subst}
-use mathlib.Core.List.{List, [], ◌∷◌, ◌++◌, append_assoc, map}
+use Prim.Native.Nat.{ℕ, ◌+◌, ◌-◌, ◌<◌, ◌^◌}
+use mathlib.Core.Path.{◌≡◌, refl, sym, ap, ap₂, ◌∙◌}
+use mathlib.Core.List.{List, [], ◌∷◌, ◌++◌, append_assoc}
 use mathlib.Core.Option.{some}
-use mathlib.Core.Bool.{Bool, true, false, ◌&&◌}
+use mathlib.Core.Bool.{Bool, true, false}
 use native.Mathlib.Omega.{arith}
 use lib.ListN.{length, length-append, length-map}
 use lib.Dec.{leb}
 use borrow.Author.Tests.{leb-true}
-use Rattle.grammar.specs.Tree.{Rule, RuleOf, Block, Alternative, inner_depth, body_depth}
+use Rattle.grammar.specs.Tree.{Rule, Alternative, inner_depth, body_depth}
 use Rattle.grammar.specs.Stands.{Spans}
 use Rattle.grammar.specs.Encode.{encode_alternative, encode_block}
 use Rattle.grammar.specs.Valid.{ok_alternative, ok_block}
-use Rattle.grammar.specs.Lists.{total, each, all}
-use Rattle.grammar.specs.Found.{RuleSpans, FoundRule, FoundAlternatives}
+use Rattle.grammar.specs.Lists.{each, all}
+use Rattle.grammar.specs.Found.{RuleSpans, FoundRule}
 use Rattle.grammar.specs.Parse.{got}
-use Rattle.grammar.specs.Read.{alternative_at, block_at}
+use Rattle.grammar.specs.Read.{block_at}
 use Rattle.grammar.specs.Laws.Parse.{left_true, right_true}
 use Rattle.grammar.specs.Laws.Opened.{first_spans}
 use Rattle.grammar.specs.Laws.Complete.{alternative_complete, block_complete}
-use Rattle.reference.specs.Substitute.{Planned, decided, overfull, is_within}
+use Rattle.reference.specs.Substitute.{Planned, decided, is_within}
 use Rattle.reference.specs.Plan.{as_it_is, as_they_are}
 use Rattle.planned.specs.Layout.{meaning, settled, stack}
-use Rattle.planned.specs.List.{alternatives_in, elements_in, options_in, HasRoom, InHand}
-use Rattle.planned.specs.Moves.{Pushed, Grown}
+use Rattle.planned.specs.List.{HasRoom, InHand}
+use Rattle.planned.specs.Moves.{Pushed}
 use Rattle.splices.specs.Splice.{HandIn}
 use Rattle.planned.specs.Laws.Counts.{elements_all, options_all, elements_all_lem, options_all_lem, alternatives_in_lem, elements_in_lem, options_in_lem}
-use Rattle.planned.specs.Laws.Counts.{count_elements, count_options}
 use Rattle.planned.specs.declared.list.Listed.{Listed}
 use Rattle.planned.specs.declared.list.Sizes.{Sizes}
 use Rattle.splices.specs.declared.splice.Size.{Size}
-use Rattle.turns.specs.Turns.{Task, Replaced, Substituting, substitution}
+use Rattle.turns.specs.Turns.{Task, Replaced}
 use Rattle.steps.specs.Decide.{SmallSize}
 use Rattle.steps.specs.Step.{step_by, GoesTo, Goable, PushedBy}
-use Rattle.turns.specs.Midway.{Ready, pending, With, Midway, Holding, limits_of, LimitsFit, within_limits, CanReplace, SizeAfter}
+use Rattle.turns.specs.Midway.{Ready, pending, With, Midway, limits_of, LimitsFit, within_limits, CanReplace, SizeAfter}
 use Rattle.turns.specs.Midway.{Shut, opened}
-use Rattle.turns.specs.Turn.{TurnTo, SteppedTo}
+use Rattle.turns.specs.Turn.{SteppedTo}
 use Rattle.turns.specs.declared.state.Limits.{Limits}
 use Rattle.turns.specs.declared.state.State.{State}
-use Rattle.turns.specs.declared.turn.Turn.{Turn}
-use Rattle.turns.specs.declared.turn.Turn.TheVariants.{On, Declined, Overfull}
+use Rattle.turns.specs.declared.turn.Turn.TheVariants.{On, Overfull}
 use Rattle.turns.proofs.Laws.Turns.{substitute_over, substitute_more}
 use Rattle.turns.proofs.Laws.Midway.{retold, with_laid}
 

@@ -1,24 +1,17 @@
 -- What a substitution rests on, by places and by ids.
-use Prim.Native.Nat.{ℕ, ◌+◌, ◌<◌, ◌≤◌}
-use mathlib.Core.Path.{◌≡◌, refl, sym, ap, ◌∙◌}
+use Prim.Native.Nat.{ℕ}
+use mathlib.Core.Path.{refl, sym, ◌∙◌}
 use mathlib.Core.List.{List}
-use mathlib.Core.Option.{some}
-use mathlib.Core.Bool.{Bool, true, false}
 use native.Mathlib.Omega.{arith}
 use lib.ListN.{get_or}
 use lib.Dec.{eqb}
 use borrow.Author.Tests.{eqb-true, eqb-false, eq-eqb, ne_eqb}
-use Rattle.grammar.specs.Tree.{Rule}
-use Rattle.grammar.specs.Found.{FoundRule}
 use Rattle.grammar.specs.Laws.Parse.{either}
-use Rattle.reference.specs.Analysis.{grammar_of, rule_with_id}
+use Rattle.reference.specs.Analysis.{grammar_of}
 use Rattle.reference.specs.Substitute.{Limits}
 use Rattle.analysis.specs.Names.{Told}
-use Rattle.analysis.specs.Facts.{Among}
-use Rattle.analysis.proofs.Laws.Standing.{told, place_found, name_at}
-use Rattle.hub.specs.Grounds.{rules_of}
-use Rattle.hub.proofs.Laws.Grounds.{row_bit, at_place, same_place, with_id, target_at, target_none}
-use Rattle.turns.specs.Turns.{Task}
+use Rattle.analysis.proofs.Laws.Standing.{told}
+use Rattle.hub.proofs.Laws.Grounds.{row_bit, same_place, target_at, target_none}
 use Rattle.steps.specs.Corner.{CycleBy}
 use Rattle.turns.specs.Ground.{Ground, task_of}
 use Rattle.steps.specs.declared.corner.Cycle.{Cycle}

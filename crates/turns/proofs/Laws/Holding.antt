@@ -1,18 +1,17 @@
 -- What was taken comes into the hand.
-use Prim.Native.Nat.{ℕ, ◌+◌, ◌≤◌}
-use mathlib.Core.Path.{◌≡◌, refl, sym, ap, ap₂, ◌∙◌}
+use Prim.Native.Nat.{ℕ}
+use mathlib.Core.Path.{◌≡◌, refl, sym, ap, ap₂}
 use mathlib.Core.List.{List, ◌∷◌, ◌++◌}
 use mathlib.Core.Bool.{Bool, true, false}
 use native.Mathlib.Omega.{arith}
 use lib.ListN.{length}
 use Rattle.grammar.specs.Tree.{inner_depth}
 use Rattle.reference.specs.Plan.{as_they_are}
-use Rattle.planned.specs.Layout.{meaning, settled, stack}
 use Rattle.planned.specs.List.{Laid, InHand, InList}
 use Rattle.planned.specs.Moves.{Handed}
 use Rattle.planned.specs.Laws.Room.{hand_movable}
 use Rattle.planned.specs.declared.list.Listed.{Listed}
-use Rattle.turns.specs.Midway.{With, Holding, HeldIn, Held}
+use Rattle.turns.specs.Midway.{With, Held}
 use Rattle.turns.specs.declared.state.State.{State}
 use Rattle.turns.proofs.Laws.Midway.{retold}
 

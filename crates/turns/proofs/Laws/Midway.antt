@@ -1,10 +1,10 @@
 -- One alternative more is taken, or settled.
-use Prim.Native.Nat.{ℕ, suc, ◌+◌, ◌-◌, ◌≤◌, ◌<◌}
+use Prim.Native.Nat.{ℕ, ◌+◌, ◌-◌, ◌≤◌}
 use mathlib.Core.Path.{◌≡◌, refl, sym, ap, ap₂, ◌∙◌}
-use mathlib.Core.List.{List, [], ◌∷◌, ◌++◌, append_assoc}
+use mathlib.Core.List.{List, [], ◌∷◌, ◌++◌}
 use mathlib.Core.Bool.{Bool, true, false}
 use native.Mathlib.Omega.{arith}
-use lib.ListN.{length, length-append}
+use lib.ListN.{length}
 use Rattle.grammar.specs.Numbers.{work_bytes}
 use Rattle.grammar.specs.Tree.{Alternative, inner_depth}
 use Rattle.grammar.specs.Lists.{total, each, all}
@@ -17,17 +17,16 @@ use Rattle.grammar.specs.Laws.Opened.{first_spans, first_found}
 use Rattle.reference.specs.Substitute.{Planned}
 use Rattle.reference.specs.Plan.{as_it_is, as_they_are}
 use Rattle.ends.specs.Ends.{skipping}
-use Rattle.planned.specs.Layout.{meaning, settled, stack}
-use Rattle.planned.specs.List.{alternatives_in, elements_in, options_in, Laid, HasTop, HasRoom, Located, Movable, InHand, InList, ListedIn}
-use Rattle.planned.specs.Moves.{Took, Settled, IsDrained, Grown}
+use Rattle.planned.specs.Layout.{meaning}
+use Rattle.planned.specs.List.{Laid, HasTop, Located, Movable, ListedIn}
+use Rattle.planned.specs.Moves.{Took, Settled, IsDrained}
 use Rattle.splices.specs.Moves.{Brought}
 use Rattle.planned.specs.Laws.Room.{hand_movable}
 use Rattle.planned.specs.Laws.Counts.{elements_all, options_all, count_elements, count_options}
 use Rattle.planned.specs.declared.list.Listed.{Listed}
 use Rattle.planned.specs.declared.list.Sizes.{Sizes}
-use Rattle.splices.specs.declared.splice.Size.{Size}
-use Rattle.turns.specs.Turns.{Task, IsSettled, Substituting}
-use Rattle.turns.specs.Midway.{Ready, pending, With, Midway, Holding, HasNext, pending_count, TakenFrom, SettledIn}
+use Rattle.turns.specs.Turns.{Task, Substituting}
+use Rattle.turns.specs.Midway.{Ready, With, HasNext, TakenFrom}
 use Rattle.turns.specs.Midway.{StackTaken, PutSettled, Shut, opened}
 use Rattle.turns.specs.declared.state.State.{State}
 use Rattle.turns.specs.declared.state.Taken.{Taken}

@@ -1,25 +1,24 @@
 -- What was decided is put on the stack: a split, or a splice.
-use Prim.Native.Nat.{ℕ, suc, ◌+◌, ◌*◌, ◌-◌, ◌≤◌}
-use mathlib.Core.Path.{◌≡◌, refl, sym, ap, ◌∙◌, subst}
-use mathlib.Core.List.{List, map}
+use Prim.Native.Nat.{ℕ, suc, ◌*◌, ◌-◌}
+use mathlib.Core.Path.{◌≡◌}
+use mathlib.Core.List.{List}
 use mathlib.Core.Bool.{Bool, true, false, not}
 use native.Mathlib.Omega.{arith}
-use lib.ListN.{length}
-use Rattle.grammar.specs.Tree.{Block, RuleOf, inner_depth, body_depth}
+use Rattle.grammar.specs.Tree.{Block, RuleOf}
 use Rattle.grammar.specs.Encode.{encode_rule, encode_block}
 use Rattle.grammar.specs.Valid.{ok_rule, ok_block}
-use Rattle.grammar.specs.Found.{RuleSpans, Found}
-use Rattle.reference.specs.Substitute.{Planned, Decided, decided, require, dangling_reference, remaining_actions_reference, split_optional}
+use Rattle.grammar.specs.Found.{Found}
+use Rattle.reference.specs.Substitute.{Planned, decided, require, dangling_reference, remaining_actions_reference, split_optional}
 use Rattle.reference.specs.Substitute.{splice_satellite, decide_each, splice_alternative}
 use Rattle.planned.specs.Layout.{meaning}
-use Rattle.planned.specs.List.{Laid, HasRoom, Located, ListedIn, CallAt}
-use Rattle.planned.specs.Moves.{Pushed, Grown, PushedSplit}
-use Rattle.splices.specs.Moves.{PushedSplice, SplicedTo, Spliceable}
+use Rattle.planned.specs.List.{HasRoom}
+use Rattle.planned.specs.Moves.{PushedSplit}
+use Rattle.splices.specs.Moves.{PushedSplice, Spliceable}
 use Rattle.splices.specs.Splice.{HandIn}
 use Rattle.planned.specs.declared.list.Listed.{Listed}
 use Rattle.planned.specs.declared.list.Sizes.{Sizes}
 use Rattle.splices.specs.declared.splice.Size.{Size}
-use Rattle.steps.specs.Step.{step_by, GoesTo, SplitSize, Goable, PushedBy}
+use Rattle.steps.specs.Step.{step_by, Goable, PushedBy}
 
 -- What goes is the split.
 split_is : (d : ℕ) (p : Planned d) (index : ℕ) (t : RuleOf (Block (suc d))) {ps : List (Planned d)} → step_by d p index t true ≡ decided ps

@@ -5,7 +5,7 @@ use mathlib.Core.List.{List, [], ◌∷◌, Memᴰ}
 use mathlib.Core.Option.{Option, none, some}
 use mathlib.Core.Bool.{Bool, true, false, ◌&&◌}
 use native.Mathlib.Omega.{arith}
-use lib.ListN.{length, get_or, drop, length-append, length-replicate}
+use lib.ListN.{length, get_or, length-append, length-replicate}
 use lib.Dec.{eqb}
 use Rattle.grammar.specs.Numbers.{optional_greedy, rule_limit}
 use Rattle.grammar.specs.Tree.{ElementHead, Call, epsilon, action, predicate, call, token, terminal, end_of_input, Element, leaf, block}

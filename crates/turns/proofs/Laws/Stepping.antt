@@ -1,32 +1,32 @@
 -- A step on what was taken: in hand, decided, done.
-use Prim.Native.Nat.{ℕ, suc, ◌+◌, ◌≤◌, ◌<◌, ◌^◌}
+use Prim.Native.Nat.{ℕ, ◌+◌, ◌≤◌, ◌<◌}
 use mathlib.Core.Path.{◌≡◌, refl, sym, ap, ap₂, ◌∙◌, subst}
 use mathlib.Core.List.{List, ◌∷◌, ◌++◌}
 use mathlib.Core.Option.{some}
 use mathlib.Core.Bool.{Bool, true, false}
 use native.Mathlib.Omega.{arith}
-use lib.ListN.{length, drop}
-use Rattle.grammar.specs.Tree.{Rule, inner_depth, body_depth}
-use Rattle.grammar.specs.Found.{RuleSpans, FoundRule}
-use Rattle.reference.specs.Substitute.{declined, clause_number, budget}
+use lib.ListN.{drop}
+use Rattle.grammar.specs.Tree.{inner_depth}
+use Rattle.grammar.specs.Found.{FoundRule}
+use Rattle.reference.specs.Substitute.{clause_number, budget}
 use Rattle.reference.specs.Plan.{as_they_are}
-use Rattle.planned.specs.Layout.{meaning, settled, stack}
+use Rattle.planned.specs.Layout.{meaning}
 use Rattle.planned.specs.List.{Located, SameList}
 use Rattle.planned.specs.Laws.Same.{same_located, same_meaning, same_listed, same_ends}
 use Rattle.planned.specs.Laws.Items.{call_at}
 use Rattle.planned.specs.declared.list.Listed.{Listed}
 use Rattle.splices.specs.declared.splice.Size.{Size}
 use Rattle.turns.specs.Turns.{Task, Replaced}
-use Rattle.steps.specs.Decide.{DeclinedBy, SmallSize}
+use Rattle.steps.specs.Decide.{SmallSize}
 use Rattle.steps.specs.Step.{step_by, DecidedAt, Goable, RuleNamed, RuleUnreferring, CallIn}
-use Rattle.turns.specs.Midway.{Shut, shut, opened, Ready, With, Holding, HeldIn, Held}
-use Rattle.turns.specs.Turn.{TurnTo, Called, called, SteppedTo}
+use Rattle.turns.specs.Midway.{Shut, shut, opened, With, Holding, Held}
+use Rattle.turns.specs.Turn.{Called, called, SteppedTo}
 use Rattle.steps.specs.declared.decide.Decision.{Decision}
 use Rattle.steps.specs.declared.decide.Decision.TheVariants as D
 use Rattle.turns.specs.declared.state.Limits.{Limits}
 use Rattle.turns.specs.declared.state.State.{State}
 use Rattle.turns.specs.declared.turn.Turn.{Turn}
-use Rattle.turns.specs.declared.turn.Turn.TheVariants.{On, Declined, Overfull}
+use Rattle.turns.specs.declared.turn.Turn.TheVariants.{Declined}
 use Rattle.turns.proofs.Laws.Turns.{substitute_spent, substitute_declined}
 use Rattle.turns.proofs.Laws.Midway.{retold, with_laid, with_located, with_listed, with_movable}
 

@@ -1,24 +1,20 @@
 -- One turn: an alternative is taken, and something is done about it.
-use Prim.Native.Nat.{ℕ, ◌+◌, ◌*◌, ◌≤◌, ◌<◌}
-use mathlib.Core.Path.{◌≡◌, refl, sym, ap, ◌∙◌}
-use mathlib.Core.Logic.{◌⊎◌, inl, inr, ⊎_elim}
+use Prim.Native.Nat.{ℕ, ◌+◌, ◌≤◌, ◌<◌}
+use mathlib.Core.Path.{◌≡◌, ◌∙◌}
+use mathlib.Core.Logic.{◌⊎◌, inl, inr}
 use mathlib.Core.List.{List}
 use native.Mathlib.Omega.{arith}
-use lib.ListN.{length}
 use Rattle.grammar.specs.Tree.{inner_depth}
 use Rattle.reference.specs.Numbers.{most_alternatives}
-use Rattle.planned.specs.Layout.{settled, stack}
 use Rattle.planned.specs.Laws.Counts.{alternatives_in_lem}
-use Rattle.planned.specs.declared.list.Listed.{Listed}
-use Rattle.turns.specs.Ground.{Ground, task_of}
-use Rattle.turns.specs.Midway.{Shut, shut, opened, Ready, With, Midway, limits_of, pending_count, TakenFrom}
+use Rattle.turns.specs.Ground.{task_of}
+use Rattle.turns.specs.Midway.{Shut, shut, opened, Ready, With, limits_of, pending_count, TakenFrom}
 use Rattle.turns.specs.Turn.{ActedOn, TurnedTo, turns_left}
 use Rattle.steps.specs.declared.corner.Cycle.{Cycle}
 use Rattle.turns.specs.declared.state.Limits.{Limits}
 use Rattle.turns.specs.declared.state.State.{State}
 use Rattle.turns.specs.declared.state.Taken.{Taken}
 use Rattle.turns.specs.declared.turn.Turn.{Turn}
-use Rattle.turns.specs.declared.turn.Turn.TheVariants.{On}
 
 -- No more is to be looked at than a list may have.
 few_pending : {ws : List ℕ} {end : ℕ} {bs : List ℕ} {st : State} → Ready ws end bs st 0 0 0 → pending_count ws end bs st ≤ most_alternatives

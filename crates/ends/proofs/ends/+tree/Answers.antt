@@ -1,16 +1,7 @@
-use Rattle.std.proofs.Common.{rules, ◌≤◌, ◌≡◌, ℕ, ◌+◌, ◌-◌, ◌*◌, ◌<◌, length, ◌/◌, ◌%◌, Bool, true, false, nat_eq, nat_lt, List, [], ◌∷◌, ◌++◌, slice_index_or, slice_set, bit_and, bit_or, Fits, w8, w32, w64, Bor, MutBor}
-use Rattle.grammar.specs.Words.{words}
-use Rattle.grammar.specs.Found.{FoundElement, FoundElements, FoundAlternative, FoundAlternatives}
-use Rattle.grammar.specs.Fold.{ElementWalked, ElementsWalked, AlternativeWalked, AlternativesWalked}
-use Rattle.words.specs.Room.{Room}
-use Rattle.ends.specs.Ends.{skipping}
+use Rattle.std.proofs.Common.{rules}
 use Rattle.ends.proofs.ends.+tree.Goals as goal
-use native.Mathlib.Omega.{arith}
-use Prim.Native.Nat.{ℕ, ◌<◌, ◌+◌, ◌*◌}
-use Rattle.grammar.specs.Words.{words}
 use Rattle.grammar.specs.Laws.Found.{rooms, inner}
-use Rattle.grammar.specs.Laws.Fold.{ElementsFolding, AlternativesFolding, folding}
-use Rattle.ends.specs.Ends.{skipping}
+use Rattle.grammar.specs.Laws.Fold.{folding}
 use Rattle.ends.proofs.Laws.Ends.{skips}
 
 -- src/ends.rt:50:9

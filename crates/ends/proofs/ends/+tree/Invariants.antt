@@ -1,10 +1,7 @@
-use native.Mathlib.Omega.{arith}
-use Prim.Native.Nat.{ℕ, ◌<◌, ◌+◌, ◌*◌}
+use Prim.Native.Nat.{◌+◌, ◌*◌}
 use Rattle.grammar.specs.Words.{words}
-use Rattle.grammar.specs.Laws.Found.{rooms, inner}
-use Rattle.grammar.specs.Laws.Fold.{ElementsFolding, AlternativesFolding, folding}
+use Rattle.grammar.specs.Laws.Fold.{ElementsFolding, AlternativesFolding}
 use Rattle.ends.specs.Ends.{skipping}
-use Rattle.ends.proofs.Laws.Ends.{skips}
 use Rattle.ends.proofs.ends.+tree.Given as goal
 
 abbrev pub decreases-alternative_end : goal.decreases-alternative_end

@@ -2,7 +2,7 @@ use Prim.Native.Nat.{◌≤◌}
 use mathlib.Core.Path.{◌≡◌}
 use lib.ListN.{length, take}
 use Rattle.grammar.specs.Words.{words}
-use Rattle.grammar.specs.Laws.Fold.{RulesFolding, folding, rules_room}
+use Rattle.grammar.specs.Laws.Fold.{RulesFolding}
 use Rattle.ids.specs.Ids.{seeing, behind}
 use Rattle.ids.proofs.ids.bodies.Given as goal
 

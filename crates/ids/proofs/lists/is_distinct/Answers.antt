@@ -1,7 +1,4 @@
-use Rattle.std.proofs.Common.{rules, ◌≡◌, ◌+◌, ◌*◌, ◌≤◌, ◌^◌, length, take, drop, ℕ, ◌-◌, ◌<◌, ◌/◌, ◌%◌, Bool, true, false, nat_eq, nat_lt, List, [], ◌∷◌, ◌++◌, slice_index_or, slice_set, bit_and, bit_or, Fits, w8, w32, w64, Bor, MutBor}
-use Rattle.grammar.specs.Words.{words}
-use Rattle.grammar.specs.Lists.{rising, distinct}
-use Rattle.ids.specs.Distinct.{InRange, Untouched}
+use Rattle.std.proofs.Common.{rules}
 use Rattle.ids.proofs.lists.is_distinct.Goals as goal
 use Rattle.ids.proofs.Laws.Lists.{distincts}
 

@@ -1,5 +1,5 @@
 use Prim.Native.Nat.{◌≤◌, ◌-◌}
-use Rattle.ids.proofs.Laws.Lists.{RisingFrom, risings}
+use Rattle.ids.proofs.Laws.Lists.{RisingFrom}
 use Rattle.ids.proofs.lists.is_rising.Given as goal
 
 abbrev pub invariant-loop-i : goal.invariant-loop-i

@@ -1,7 +1,6 @@
 use Prim.Native.Nat.{◌≤◌, ◌-◌, ◌^◌}
 use Rattle.grammar.specs.Words.{words}
 use Rattle.ids.specs.Distinct.{InRange}
-use Rattle.ids.proofs.Laws.Lists.{ranges}
 use Rattle.ids.proofs.lists.past_all.Given as goal
 
 abbrev pub invariant-loop-i : goal.invariant-loop-i

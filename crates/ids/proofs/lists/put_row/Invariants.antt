@@ -1,5 +1,5 @@
 use Prim.Native.Nat.{◌-◌}
-use Rattle.ids.proofs.Laws.Lists.{Copying, copies}
+use Rattle.ids.proofs.Laws.Lists.{Copying}
 use Rattle.ids.proofs.lists.put_row.Given as goal
 
 abbrev pub invariant-loop-i : goal.invariant-loop-i

@@ -1,13 +1,10 @@
-use native.Mathlib.Omega.{arith}
 use mathlib.Core.Path.{◌≡◌}
 use lib.ListN.{length, get_or}
 use Rattle.grammar.specs.Words.{words}
-use Rattle.grammar.specs.Laws.Found.{rooms, inner}
-use Rattle.grammar.specs.Laws.Fold.{ElementsFolding, AlternativesFolding, folding}
+use Rattle.grammar.specs.Laws.Fold.{ElementsFolding, AlternativesFolding}
 use Rattle.ids.specs.Ids.{seeing}
 use Rattle.ids.specs.Survey.{surveyed, survey_of}
-use Rattle.ids.proofs.Laws.Seeing.{seeings}
-use Prim.Native.Nat.{ℕ, ◌<◌, ◌≤◌, ◌+◌, ◌*◌}
+use Prim.Native.Nat.{◌≤◌, ◌+◌, ◌*◌}
 use Rattle.ids.proofs.survey.+tree.Given as goal
 
 abbrev pub decreases-alternative : goal.decreases-alternative

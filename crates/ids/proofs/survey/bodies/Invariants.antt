@@ -2,7 +2,7 @@ use Prim.Native.Nat.{◌≤◌}
 use mathlib.Core.Path.{◌≡◌}
 use lib.ListN.{length, get_or}
 use Rattle.grammar.specs.Words.{words}
-use Rattle.grammar.specs.Laws.Fold.{RulesFolding, folding, rules_room}
+use Rattle.grammar.specs.Laws.Fold.{RulesFolding}
 use Rattle.ids.specs.Ids.{seeing}
 use Rattle.ids.specs.Survey.{surveyed, survey_of}
 use Rattle.ids.proofs.survey.bodies.Given as goal

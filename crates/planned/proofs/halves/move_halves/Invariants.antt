@@ -1,5 +1,5 @@
 use Prim.Native.Nat.{◌-◌}
-use Rattle.planned.proofs.Laws.Halves.{Copying, copying}
+use Rattle.planned.proofs.Laws.Halves.{Copying}
 use Rattle.planned.proofs.halves.move_halves.Given as goal
 
 abbrev pub invariant-loop-i : goal.invariant-loop-i

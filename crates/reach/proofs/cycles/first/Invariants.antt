@@ -1,6 +1,5 @@
 use Prim.Native.Nat.{◌-◌, ◌≤◌}
 use Rattle.reach.specs.Steps.{Best}
-use Rattle.reach.proofs.Laws.Cycles.{choosing}
 use Rattle.reach.proofs.cycles.first.Given as goal
 
 abbrev pub invariant-loop-i : goal.invariant-loop-i

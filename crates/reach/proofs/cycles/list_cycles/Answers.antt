@@ -1,11 +1,6 @@
-use Rattle.std.proofs.Common.{rules, ◌≡◌, ◌+◌, ◌<◌, ◌≤◌, length, ℕ, ◌-◌, ◌*◌, ◌/◌, ◌%◌, Bool, true, false, nat_eq, nat_lt, List, [], ◌∷◌, ◌++◌, slice_index_or, slice_set, bit_and, bit_or, Fits, w8, w32, w64, Bor, MutBor}
-use Rattle.grammar.specs.Numbers.{rule_limit}
-use Rattle.reach.specs.Steps.{Best}
-use Rattle.reach.specs.Cycles.{Joined, IsNext}
-use Rattle.reach.specs.Listed.{AllLeft, GivesNext, AheadOf, CyclesIn}
+use Rattle.std.proofs.Common.{rules}
 use Rattle.reach.proofs.cycles.list_cycles.Goals as goal
-use Prim.Native.Nat.{◌-◌}
-use Rattle.reach.proofs.Laws.Written.{Writing, writing}
+use Rattle.reach.proofs.Laws.Written.{writing}
 
 -- src/cycles.rt:124:13
 pub returns-then-ahead : goal.returns-then-ahead

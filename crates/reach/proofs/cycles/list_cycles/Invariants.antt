@@ -1,5 +1,5 @@
 use Prim.Native.Nat.{◌-◌}
-use Rattle.reach.proofs.Laws.Written.{Writing, writing}
+use Rattle.reach.proofs.Laws.Written.{Writing}
 use Rattle.reach.proofs.cycles.list_cycles.Given as goal
 
 abbrev pub invariant-loop-k : goal.invariant-loop-k

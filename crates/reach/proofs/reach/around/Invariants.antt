@@ -1,5 +1,5 @@
 use Prim.Native.Nat.{◌-◌, ◌≤◌}
-use Rattle.reach.proofs.Laws.Filled.{Into, filling}
+use Rattle.reach.proofs.Laws.Filled.{Into}
 use Rattle.reach.proofs.reach.around.Given as goal
 
 abbrev pub invariant-loop-j : goal.invariant-loop-j

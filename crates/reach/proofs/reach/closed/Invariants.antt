@@ -1,5 +1,5 @@
 use Prim.Native.Nat.{◌-◌}
-use Rattle.reach.proofs.Laws.Reach.{Sofar, sofar_none, closing}
+use Rattle.reach.proofs.Laws.Reach.{Sofar}
 use Rattle.reach.proofs.reach.closed.Given as goal
 
 abbrev pub invariant-loop-k : goal.invariant-loop-k

@@ -1,10 +1,5 @@
-use Rattle.std.proofs.Common.{rules, ◌≡◌, ◌<◌, ◌≤◌, length, ℕ, ◌+◌, ◌-◌, ◌*◌, ◌/◌, ◌%◌, Bool, true, false, nat_eq, nat_lt, List, [], ◌∷◌, ◌++◌, slice_index_or, slice_set, bit_and, bit_or, Fits, w8, w32, w64, Bor, MutBor}
-use Rattle.grammar.specs.Numbers.{rule_limit}
-use Rattle.reach.specs.Reach.{Others, Closed, Loops, Around}
-use Rattle.reach.specs.Steps.{Through}
+use Rattle.std.proofs.Common.{rules}
 use Rattle.reach.proofs.reach.loops.Goals as goal
-use Prim.Native.Nat.{◌-◌, ◌≤◌}
-use Rattle.reach.specs.Reach.{Loops}
 use Rattle.reach.proofs.Laws.Filled.{filling}
 
 -- src/reach.rt:64:5

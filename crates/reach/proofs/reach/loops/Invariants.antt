@@ -1,6 +1,5 @@
 use Prim.Native.Nat.{◌-◌, ◌≤◌}
 use Rattle.reach.specs.Reach.{Loops}
-use Rattle.reach.proofs.Laws.Filled.{filling}
 use Rattle.reach.proofs.reach.loops.Given as goal
 
 abbrev pub invariant-loop-i : goal.invariant-loop-i

@@ -1,10 +1,6 @@
-use Rattle.std.proofs.Common.{rules, ◌≡◌, ◌<◌, ◌≤◌, length, ℕ, ◌+◌, ◌-◌, ◌*◌, ◌/◌, ◌%◌, Bool, true, false, nat_eq, nat_lt, List, [], ◌∷◌, ◌++◌, slice_index_or, slice_set, bit_and, bit_or, Fits, w8, w32, w64, Bor, MutBor}
-use Rattle.grammar.specs.Numbers.{rule_limit}
-use Rattle.reach.specs.Reach.{Others, Closed, Loops, Around}
-use Rattle.reach.specs.Steps.{Through}
+use Rattle.std.proofs.Common.{rules}
 use Rattle.reach.proofs.reach.others.Goals as goal
-use Prim.Native.Nat.{◌-◌}
-use Rattle.reach.proofs.Laws.Reach.{Cleared, cleared_none, clearing}
+use Rattle.reach.proofs.Laws.Reach.{clearing}
 
 -- src/reach.rt:16:5
 pub loop-i-preserved : goal.loop-i-preserved

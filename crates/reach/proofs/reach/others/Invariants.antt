@@ -1,5 +1,5 @@
 use Prim.Native.Nat.{◌-◌}
-use Rattle.reach.proofs.Laws.Reach.{Cleared, cleared_none, clearing}
+use Rattle.reach.proofs.Laws.Reach.{Cleared}
 use Rattle.reach.proofs.reach.others.Given as goal
 
 abbrev pub invariant-loop-i : goal.invariant-loop-i

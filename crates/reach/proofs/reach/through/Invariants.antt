@@ -1,6 +1,5 @@
 use Prim.Native.Nat.{◌-◌}
-use mathlib.Core.Logic.{⊎_elim}
-use Rattle.reach.proofs.Laws.Reach.{Midway, passing}
+use Rattle.reach.proofs.Laws.Reach.{Midway}
 use Rattle.reach.proofs.reach.through.Given as goal
 
 abbrev pub invariant-loop-i : goal.invariant-loop-i

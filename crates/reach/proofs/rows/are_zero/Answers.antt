@@ -1,9 +1,7 @@
-use Rattle.std.proofs.Common.{rules, ◌≡◌, ◌∷◌, [], ◌<◌, ℕ, ◌+◌, ◌-◌, ◌*◌, ◌≤◌, length, ◌/◌, ◌%◌, Bool, true, false, nat_eq, nat_lt, List, ◌++◌, slice_index_or, slice_set, bit_and, bit_or, Fits, w8, w32, w64, Bor, MutBor}
-use Rattle.grammar.specs.Numbers.{rule_limit}
-use Rattle.reach.specs.Rows.{bit, One, With, Without, Union, Meet, Minus, AddIf, Empty}
+use Rattle.std.proofs.Common.{rules}
 use Rattle.reach.proofs.rows.are_zero.Goals as goal
 use Rattle.reach.proofs.Laws.Rows.{zero_row}
 
 -- src/rows.rt:86:1
 pub returns : goal.returns
-returns c = search rules
+returns c = zero_row c.args.a c.args.b (search rules) (search rules)

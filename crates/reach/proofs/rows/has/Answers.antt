@@ -1,13 +1,11 @@
-use Rattle.std.proofs.Common.{rules, ◌≡◌, ◌∷◌, [], ◌<◌, ℕ, ◌+◌, ◌-◌, ◌*◌, ◌≤◌, length, ◌/◌, ◌%◌, Bool, true, false, nat_eq, nat_lt, List, ◌++◌, slice_index_or, slice_set, bit_and, bit_or, Fits, w8, w32, w64, Bor, MutBor}
-use Rattle.grammar.specs.Numbers.{rule_limit}
-use Rattle.reach.specs.Rows.{bit, One, With, Without, Union, Meet, Minus, AddIf, Empty}
+use Rattle.std.proofs.Common.{rules}
 use Rattle.reach.proofs.rows.has.Goals as goal
 use Rattle.reach.proofs.Laws.Rows.{has_low, has_high}
 
 -- src/rows.rt:24:9
 pub returns-then-j-lt-BITS : goal.returns-then-j-lt-BITS
-returns-then-j-lt-BITS c = search rules
+returns-then-j-lt-BITS c = search (rules, has_low)
 
 -- src/rows.rt:19:1
 pub returns : goal.returns
-returns c = search rules
+returns c = search (rules, has_high)

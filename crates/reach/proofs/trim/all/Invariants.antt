@@ -1,6 +1,5 @@
 use Prim.Native.Nat.{◌-◌, ◌≤◌}
 use Rattle.reach.specs.Steps.{Below}
-use Rattle.reach.proofs.Laws.Filled.{filling}
 use Rattle.reach.proofs.trim.all.Given as goal
 
 abbrev pub invariant-loop-i : goal.invariant-loop-i

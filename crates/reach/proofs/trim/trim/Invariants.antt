@@ -1,6 +1,5 @@
 use Prim.Native.Nat.{◌-◌, ◌≤◌}
 use Rattle.reach.specs.Steps.{Holds}
-use Rattle.reach.proofs.Laws.Trim.{trimming}
 use Rattle.reach.proofs.trim.trim.Given as goal
 
 abbrev pub invariant-loop-i : goal.invariant-loop-i

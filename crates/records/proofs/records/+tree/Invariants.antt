@@ -1,8 +1,7 @@
-use Prim.Native.Nat.{ℕ, ◌<◌, ◌+◌, ◌*◌}
-use Rattle.records.proofs.Laws.Steps.{Left, loops}
+use Prim.Native.Nat.{◌+◌, ◌*◌}
+use Rattle.records.proofs.Laws.Steps.{Left}
 use Rattle.grammar.specs.Words.{words}
 use Rattle.grammar.specs.Read.{element_at, alternative_at, block_at}
-use Rattle.records.proofs.Laws.Trees.{trees}
 use Rattle.records.proofs.records.+tree.Given as goal
 
 abbrev pub decreases-alternative_at : goal.decreases-alternative_at

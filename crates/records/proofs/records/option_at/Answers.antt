@@ -1,9 +1,4 @@
-use Rattle.std.proofs.Common.{rules, ◌≡◌, ◌+◌, ◌-◌, ◌*◌, ◌≤◌, length, ℕ, ◌<◌, ◌/◌, ◌%◌, Bool, true, false, nat_eq, nat_lt, List, [], ◌∷◌, ◌++◌, slice_index_or, slice_set, bit_and, bit_or, Fits, w8, w32, w64, Bor, MutBor}
-use Rattle.grammar.specs.Tree.{ElementHead}
-use Rattle.grammar.specs.Words.{words}
-use Rattle.grammar.specs.Read.{is_name, is_label, action_of, option_at, reference_at, body_at, call_at, token_at, leaf_at, head_at, payload_at, element_at, alternative_at, block_at}
-use Rattle.grammar.specs.Parse.{many}
-use Rattle.records.specs.Step.{is_fixed, step_of}
+use Rattle.std.proofs.Common.{rules}
 use Rattle.records.proofs.records.option_at.Goals as goal
 use Rattle.records.proofs.Laws.Records.{shorts, names}
 

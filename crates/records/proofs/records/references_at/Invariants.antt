@@ -1,6 +1,6 @@
 use Rattle.grammar.specs.Words.{words}
 use Rattle.grammar.specs.Read.{reference_at}
-use Rattle.records.proofs.Laws.Steps.{Left, loops}
+use Rattle.records.proofs.Laws.Steps.{Left}
 use Rattle.records.proofs.records.references_at.Given as goal
 
 abbrev pub invariant-loop-i : goal.invariant-loop-i

@@ -1,7 +1,7 @@
 use Prim.Native.Nat.{◌-◌}
 use Rattle.grammar.specs.Numbers.{rule_limit}
 use Rattle.grammar.specs.Words.{words}
-use Rattle.records.proofs.Laws.Rules.{SoFar, reads}
+use Rattle.records.proofs.Laws.Rules.{SoFar}
 use Rattle.records.proofs.rules.read_rules.Given as goal
 
 abbrev pub invariant-loop-at : goal.invariant-loop-at

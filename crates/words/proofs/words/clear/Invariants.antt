@@ -1,6 +1,6 @@
 use Prim.Native.Nat.{◌-◌}
 use lib.ListN.{length}
-use Rattle.words.proofs.Laws.Words.{Clearing, clears}
+use Rattle.words.proofs.Laws.Words.{Clearing}
 use Rattle.words.proofs.words.clear.Given as goal
 
 abbrev pub invariant-loop-i : goal.invariant-loop-i

@@ -1,5 +1,5 @@
 use Prim.Native.Nat.{◌-◌}
-use Rattle.writing.proofs.Laws.Copy.{Copying, copies}
+use Rattle.writing.proofs.Laws.Copy.{Copying}
 use Rattle.writing.proofs.copy.copy_words.Given as goal
 
 abbrev pub invariant-loop-i : goal.invariant-loop-i

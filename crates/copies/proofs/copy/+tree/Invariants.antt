@@ -1,0 +1,28 @@
+use Prim.Native.Nat.{◌+◌, ◌*◌}
+use Rattle.grammar.specs.Words.{words}
+use Rattle.copies.proofs.Laws.Copying.{ElementsCopying, AlternativesCopying}
+use Rattle.copies.proofs.copy.+tree.Given as goal
+
+abbrev pub decreases-copy_alternative : goal.decreases-copy_alternative
+decreases-copy_alternative l = l.depth * 4 + 2
+
+abbrev pub decreases-copy_alternatives : goal.decreases-copy_alternatives
+decreases-copy_alternatives l = l.depth * 4 + 3
+
+abbrev pub decreases-copy_element : goal.decreases-copy_element
+decreases-copy_element l = l.depth * 4
+
+abbrev pub decreases-copy_elements : goal.decreases-copy_elements
+decreases-copy_elements l = l.depth * 4 + 1
+
+abbrev pub invariant-copy_alternatives-loop-i : goal.invariant-copy_alternatives-loop-i
+invariant-copy_alternatives-loop-i l = AlternativesCopying (words l.s) l.end l.depth l.n l.at l.initial.out l.initial.trail l.initial.w l.i l.p l.out l.trail l.w
+
+abbrev pub decreases-copy_alternatives-loop-i : goal.decreases-copy_alternatives-loop-i
+decreases-copy_alternatives-loop-i l = l.i
+
+abbrev pub invariant-copy_elements-loop-i : goal.invariant-copy_elements-loop-i
+invariant-copy_elements-loop-i l = ElementsCopying (words l.s) l.end l.depth l.n l.at l.initial.out l.initial.trail l.initial.w l.i l.p l.out l.trail l.w
+
+abbrev pub decreases-copy_elements-loop-i : goal.decreases-copy_elements-loop-i
+decreases-copy_elements-loop-i l = l.i

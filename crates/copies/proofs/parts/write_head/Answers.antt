@@ -1,0 +1,7 @@
+use Rattle.std.proofs.Common.{rules}
+use Rattle.copies.proofs.parts.write_head.Goals as goal
+use Rattle.copies.proofs.Laws.Heads.{headings}
+
+-- src/parts.rt:42:1
+pub returns : goal.returns
+returns c = search (rules, headings)

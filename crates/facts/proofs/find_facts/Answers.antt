@@ -1,0 +1,19 @@
+use Rattle.std.proofs.Common.{rules}
+use Rattle.facts.proofs.find_facts.Goals as goal
+use Rattle.facts.proofs.Laws.Told.{tellings}
+
+-- src/lib.rt:83:17
+pub tell-t-requires-clause-room : goal.tell-t-requires-clause-room
+tell-t-requires-clause-room c = search (rules, tellings)
+
+-- src/lib.rt:83:17
+pub tell-t-requires-clause-standing : goal.tell-t-requires-clause-standing
+tell-t-requires-clause-standing c = search (rules, tellings)
+
+-- src/lib.rt:55:1
+pub returns-in-Sheet-clause-tells : goal.returns-in-Sheet-clause-tells
+returns-in-Sheet-clause-tells c = search (rules, tellings)
+
+-- src/lib.rt:55:1
+pub returns-in-Sheet-clause-work_after : goal.returns-in-Sheet-clause-work_after
+returns-in-Sheet-clause-work_after c = search (rules, tellings)

@@ -1,0 +1,7 @@
+use Rattle.std.proofs.Common.{rules}
+use Rattle.heads.proofs.same.copy_span.Goals as goal
+use Rattle.heads.proofs.Laws.Same.{spans}
+
+-- src/same.rt:30:9
+pub returns-then-plain : goal.returns-then-plain
+returns-then-plain c = search (rules, spans)

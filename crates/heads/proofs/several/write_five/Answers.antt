@@ -1,0 +1,7 @@
+use Rattle.std.proofs.Common.{rules}
+use Rattle.heads.proofs.several.write_five.Goals as goal
+use Rattle.heads.proofs.Laws.Several.{several}
+
+-- src/several.rt:16:1
+pub returns : goal.returns
+returns c = search (rules, several)

@@ -1,0 +1,7 @@
+use Rattle.std.proofs.Common.{rules}
+use Rattle.listed.proofs.lines.line_of_five.Goals as goal
+use Rattle.listed.proofs.Laws.Lines.{lines}
+
+-- src/lines.rt:92:1
+pub returns : goal.returns
+returns c = search (rules, lines)

@@ -1,0 +1,7 @@
+use Rattle.std.proofs.Common.{rules}
+use Rattle.listed.proofs.text.write.Goals as goal
+use Rattle.listed.proofs.Laws.Put.{writing}
+
+-- src/text.rt:26:5
+pub loop-i-preserved : goal.loop-i-preserved
+loop-i-preserved c = search (rules, writing)

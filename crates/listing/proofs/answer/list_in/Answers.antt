@@ -1,0 +1,7 @@
+use Rattle.std.proofs.Common.{rules}
+use Rattle.listing.proofs.Laws.Handed.{handed_answers}
+use Rattle.listing.proofs.answer.list_in.Goals as goal
+
+-- src/answer.rt:56:5
+pub list-requires : goal.list-requires
+list-requires c = search (rules, handed_answers)

@@ -1,0 +1,15 @@
+use Rattle.std.proofs.Common.{rules}
+use Rattle.plan.proofs.plan.finish.Goals as goal
+use Rattle.plan.proofs.Laws.Last.{lasts, last_plan}
+
+-- src/plan.rt:72:9
+pub returns-then-done-eq0 : goal.returns-then-done-eq0
+returns-then-done-eq0 c = search (rules, lasts, last_plan)
+
+-- src/plan.rt:80:9
+pub returns-then-not-judged : goal.returns-then-not-judged
+returns-then-not-judged c = search (rules, lasts, last_plan)
+
+-- src/plan.rt:53:1
+pub returns : goal.returns
+returns c = search (rules, lasts, last_plan)

@@ -1,0 +1,15 @@
+use Rattle.std.proofs.Common.{rules}
+use Rattle.rewritable.proofs.walk.walk_alternative.Goals as goal
+use Rattle.rewritable.proofs.Laws.Walks.{wholes}
+
+-- src/walk.rt:120:9
+pub returns-then-x-eq0 : goal.returns-then-x-eq0
+returns-then-x-eq0 c = search (rules, wholes)
+
+-- src/walk.rt:132:9
+pub walk_item-p-requires-clause-item_stands : goal.walk_item-p-requires-clause-item_stands
+walk_item-p-requires-clause-item_stands c = search (rules, wholes)
+
+-- src/walk.rt:103:1
+pub returns : goal.returns
+returns c = search (rules, wholes)

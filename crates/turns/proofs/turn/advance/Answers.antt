@@ -1,0 +1,11 @@
+use Rattle.std.proofs.Common.{rules}
+use Rattle.turns.proofs.turn.advance.Goals as goal
+use Rattle.turns.proofs.Laws.Advance.{advancing}
+
+-- src/turn.rt:116:9
+pub returns-then-is_within : goal.returns-then-is_within
+returns-then-is_within c = search (rules, advancing)
+
+-- src/turn.rt:90:1
+pub returns : goal.returns
+returns c = search (rules, advancing)
