@@ -1,8 +1,8 @@
 """Whether an `ensures` says anything: each part of it, by its text.
 
 It says nothing where it speaks neither of the result nor of what a lent buffer holds at exit, or where a part of it holds by its
-form alone: `Unit`; an equation of two sides that are the same but for order and zeros; `0 ≤ r` and what is like it; what follows
-from something that cannot be, from itself, or from nothing.
+form alone: `Unit`; an equation of two sides that are the same but for order and zeros; `0 ≤ result` and what is like it; what
+follows from something that cannot be, from itself, or from nothing.
 """
 
 from collections import Counter
@@ -14,8 +14,11 @@ PAIRS = {"(": ")", "{": "}", "⌜": "⌝", "⟦": "⟧"}
 # What parts the sides of an equation from the rest of a clause.
 PARTS = {"λ", ".", "×", "→", "⊎", "↔", "∗", "-∗", "∧ₛ", "∨ₛ", "→ₛ", ":", "=", "do", "let", "in", "←", ";", ","}
 ARROWS, CHOICES, BOTH = {"→", "→ₛ", "-∗"}, {"⊎", "∨ₛ"}, {"×", "∗", "∧ₛ"}
-ALWAYS, NEVER = (["Unit"], ["⊤"], ["⊤ₛ"], ["emp"]), (["⊥"], ["⊥ₛ"])
+ALWAYS = (["Unit"], ["⊤"], ["⊤ₛ"], ["emp"], ["T", "true"], ["IsTrue", "true"], ["IsFalse", "false"])
+NEVER = (["⊥"], ["⊥ₛ"], ["T", "false"], ["IsTrue", "false"], ["IsFalse", "true"])
 RELATIONS = ("≡", "≤", "<")
+# What a function returns, and what a parameter that is lent holds at exit.
+RESULT, EXIT = "result", ("new", "exit")
 
 
 def side(words, step):
@@ -32,11 +35,11 @@ def side(words, step):
 
 
 def marked(text):
-    """The words of a clause, where a dot in a name or in front of a field is one word with it."""
+    """The words of a clause, where a dot in a name or in front of a field is one word with it; so is `.n` behind a bracket."""
     words, end, dotted = [], None, False
     for word, at in antt_words(text):
         inner = word == "." and not text[at + 1 : at + 2].isspace()
-        if dotted or (inner and end == at):
+        if dotted or (inner and end == at and words[-1] not in PAIRS.values()):
             words[-1] += word
         else:
             words.append(word)
@@ -94,6 +97,11 @@ def operands(words):
     return found
 
 
+def plain(words):
+    """Some words without what stands in braces, and what is handed over without brackets."""
+    return [word for operand in operands(words) for word in bare(operand)]
+
+
 def summands(words):
     """A side of a relation as a sum: what is added and is no number, each so often, and the numbers together."""
     words = bare(words)
@@ -118,7 +126,7 @@ def related(words):
     """The mark and the two sides of a relation, as sums; or None."""
     for mark in RELATIONS:
         sides = split(words, {mark})
-        if words[:1] == [f"_{mark}_"]:
+        if words[:1] == [f"◌{mark}◌"]:
             sides = operands(words[1:])
         if len(sides) == 2 and all(sides):
             return mark, *map(summands, sides)
@@ -140,7 +148,7 @@ def fails(words):
     """Whether some words cannot be, by their form."""
     words = bare(words)
     parts = split(words, BOTH)
-    if words in NEVER or (len(parts) > 1 and any(map(fails, parts))):
+    if plain(words) in NEVER or (len(parts) > 1 and any(map(fails, parts))):
         return True
     found = related(words)
     if found is None:
@@ -169,7 +177,7 @@ def idle(words):
     parts = split(words, BOTH)
     if len(parts) > 1:
         return next(filter(None, map(idle, parts)), None)
-    return words if words in ALWAYS or holds(words) else None
+    return words if plain(words) in ALWAYS or holds(words) else None
 
 
 def says_nothing(text):
@@ -182,22 +190,33 @@ def says_nothing(text):
         sides = []
         if word == "≡":
             sides = [side(words[:at], -1), side(words[at + 1 :], 1)]
-        elif word == "_≡_":
+        elif word == "◌≡◌":
             sides = operands(side(words[at + 1 :], 1))
         if word == "⊤ₛ" or (len(sides) == 2 and bare(sides[0]) == bare(sides[1])):
             return " ".join([*sides[0], "≡", *sides[1]]) if sides else word
     return None
 
 
+def bound(words):
+    """The names that some words bind: those between `λ` and its dot, and those in front of a colon in brackets."""
+    found = set()
+    for at, word in enumerate(words):
+        end = "." if word == "λ" else ":" if word == "(" else None
+        rest = words[at + 1 :]
+        names = rest[: rest.index(end)] if end in rest else []
+        found.update([] if word == "(" and any(name in PARTS or name in PAIRS for name in names) else names)
+    return found
+
+
 def speaks_of_outcome(text):
-    """Whether a clause names what it binds, the result, or what a buffer holds at exit."""
+    """Whether a clause names the result, and binds no other under that name, or what a buffer holds at exit."""
     words = marked(text)
-    start = words.index(".") if words[:1] == ["λ"] and "." in words else 0
-    result, body = next((word for word in words[1:start] if word != "("), "_"), words[start:]
-    return ".exit" in body or (result != "_" and result in body)
+    places = [word.split(".") for word in words]
+    is_named = RESULT not in bound(words) and [RESULT] in [place[:1] for place in places]
+    return is_named or any(place[0] and place[1:2] and place[1] in EXIT for place in places)
 
 
 def speaks_of_exit(text, name):
     """Whether a clause names what a parameter holds at exit."""
-    words = marked(text)
-    return any(words[at : at + 2] == [name, ".exit"] for at in range(len(words)))
+    places = [word.split(".") for word in marked(text)]
+    return any(place[0] == name and place[1:2] and place[1] in EXIT for place in places)

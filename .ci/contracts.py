@@ -7,10 +7,12 @@
 - Every function at the outer boundary has no `requires`: reached.py has what lies there. Functions of
   open modules may rest on what the reader states, and have one.
 - No `axiom` and no hole stands in an .antt file.
-- No library assumes anything: it uses crates of this repository alone, since a library's verdict
-  does not count the axioms of the kit's; and its last line, which `rt` keeps in target/log, has
-  neither `foreign=` nor, where it was built for linking, an `axioms=` other than 0, nor a word which
-  says that an earlier run, or another logic than the kit's, is trusted.
+- No library assumes anything: it uses crates of this repository alone and names nothing of `std` that
+  rests on C, since a library's verdict does not count the axioms of the kit's; and `rt ci`, whose words
+  stand in target/log/ci, has proved it: in that run, and then its last line has neither `foreign=` nor,
+  of a static library, an `axioms=` other than 0, nor a word which says that another run, or another
+  logic than the kit's, is trusted; or in an earlier one, which `rt ci` held to the same but for
+  `axioms=`: tools/archives holds each archive to that.
 
 One line for each breach, with file and line. usage: contracts.py [ROOT]
 """
@@ -20,11 +22,17 @@ import sys
 
 from clauses import says_nothing, speaks_of_exit, speaks_of_outcome
 from heads import functions, lent
-from lexer import BUILT, antt_words, files, line_of
+from lexer import BUILT, antt_words, files, line_of, rattle_words
 from reached import Boundary, Library, module_of
 
-# Words of a verdict by which it rests on more than this run and the kit.
-TRUSTING = ("pinned=no", "cache=", "incremental=", "crate-checked=")
+# What `rt ci` says, and where its words are kept.
+LOG = "target/log/ci"
+KEPT = "is kept: an earlier run on this machine proved the same files over the same libraries"
+# Words of a verdict by which it rests on more than the run and the kit.
+TRUSTING = ("pinned=no", "cache=", "incremental=", "crate-checked=", "batches=")
+# The libraries that every crate has, and what their prelude has of handles, by which C is reached.
+ROOTS = ("std", "core")
+HANDLES = {"HostRuntime", "LibcRuntime", "Alloc", "AllocGlobal", "Print", "Eprint", "Input", "Lock"}
 
 
 def breaches_of_clauses(function, is_reached):
@@ -67,21 +75,25 @@ def breaches_of_antt(where, text):
 
 
 def verdicts(root, crate):
-    """The last lines of the crate's checks that `rt` kept, each with its place."""
-    for kind in ("out", "say"):
-        log = root / "target" / "log" / f"{crate}.{kind}"
-        if not log.is_file():
-            continue
-        lines = log.read_text(encoding="utf-8", errors="replace").splitlines()
-        last = [(n, line) for n, line in enumerate(lines, 1) if line.startswith("logic=")]
-        if last:
-            yield f"{log.relative_to(root)}:{last[-1][0]}", last[-1][1]
+    """What `rt ci` said of the crate: the last line of its check, or that an earlier run proved it; each with its place."""
+    log, last = root / LOG, None
+    said = log.read_text(encoding="utf-8", errors="replace").splitlines() if log.is_file() else []
+    is_inside = False
+    for number, line in enumerate(said, 1):
+        if line.startswith("== "):
+            is_inside = line == f"== {crate}"
+        elif is_inside and line.startswith("logic="):
+            last = f"{LOG}:{number}", line
+        elif line == f"rt: {crate} proved" and last:
+            yield last
+        elif line == f"rt: {crate} {KEPT}":
+            yield f"{LOG}:{number}", "logic=proved"
 
 
 def breaches_of_verdicts(root, crate):
     wrong, found = [], list(verdicts(root, crate))
     if not found:
-        return [f"crates/{crate}/src/lib.rt:1: no verdict in target/log: run rt ci first"]
+        return [f"crates/{crate}/src/lib.rt:1: {LOG} has no verdict on it: run .ci/run first"]
     for place, line in found:
         words = line.split()
         if words[0] != "logic=proved":
@@ -101,13 +113,24 @@ def libraries(root):
 
 def breaches_of_uses(root):
     """The crates that are not of this repository and that crates.txt gives to a library."""
-    wrong = []
+    wrong, all_of_them = [], libraries(root)
     for number, line in enumerate((root / "crates.txt").read_text(encoding="utf-8").splitlines(), 1):
-        crate, _, uses = line.partition("#")[0].partition(":")
-        for used in uses.split() if crate.strip() in libraries(root) else []:
+        head, _, uses = line.partition("#")[0].partition(":")
+        # `NAME staticlib`, where it is one
+        crate = (head.split() or [""])[0]
+        for used in uses.split() if crate in all_of_them else []:
             if not (root / "crates" / used).is_dir():
-                wrong.append(f"crates.txt:{number}: library {crate.strip()} uses {used}, which may assume")
+                wrong.append(f"crates.txt:{number}: library {crate} uses {used}, which may assume")
     return wrong
+
+
+def breaches_of_names(where, text):
+    """What a library's file names of the libraries that every crate has, by which it may assume."""
+    found = list(rattle_words(text))
+    for at, (word, place) in enumerate(found):
+        behind = [after for after, _ in found[at + 1 : at + 3]]
+        if word in HANDLES or (word in ROOTS and behind == [":", ":"]):
+            yield f"{where}:{line_of(text, place)}: a library names {word}, which may assume"
 
 
 def breaches(root):
@@ -117,8 +140,9 @@ def breaches(root):
     boundary = Boundary(sources)
     for crate, library in sources.items():
         for file, text in library.texts.items():
-            bad, count = breaches_of_functions(file.relative_to(root), text, boundary, (crate, module_of(file)))
-            wrong, seen, read = wrong + bad, seen + count, read + 1
+            where = file.relative_to(root)
+            bad, count = breaches_of_functions(where, text, boundary, (crate, module_of(file)))
+            wrong, seen, read = [*wrong, *bad, *breaches_of_names(where, text)], seen + count, read + 1
         wrong += breaches_of_verdicts(root, crate)
     wrong += breaches_of_uses(root)
     for file in files(root, ".antt", BUILT):

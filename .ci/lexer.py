@@ -1,5 +1,6 @@
 """The words of Rattle and of antt, and the files of a tree."""
 
+import fnmatch
 import os
 import pathlib
 import re
@@ -22,8 +23,8 @@ ANTT = re.compile(
     re.VERBOSE | re.DOTALL,
 )
 
-# What builds leave, and git.
-BUILT = (".git", "target", "harness/target", "rust/target")
+# What builds leave, and git; `*` stands for one name.
+BUILT = (".git", "target", "harness/target", "rust/target", "crates/*/out")
 
 
 def line_of(text, at):
@@ -61,11 +62,17 @@ def rattle_words(text, at=0):
         at = found.end()
 
 
+def is_one_of(path, patterns):
+    """Whether a path is one of some, name by name."""
+    names = [pattern.split("/") for pattern in patterns]
+    return any(len(own) == len(path.parts) and all(map(fnmatch.fnmatchcase, path.parts, own)) for own in names)
+
+
 def files(root, suffix, left_out=()):
     """The files below a folder that end so, but for some folders by their paths from there."""
     for folder, inner, names in os.walk(root):
         here = pathlib.Path(folder)
-        inner[:] = sorted(name for name in inner if (here / name).relative_to(root).as_posix() not in left_out)
+        inner[:] = sorted(name for name in inner if not is_one_of((here / name).relative_to(root), left_out))
         for name in sorted(names):
             if name.endswith(suffix):
                 yield here / name

@@ -11,7 +11,7 @@ import pathlib
 import sys
 
 from contracts import functions
-from lexer import files, line_of
+from lexer import BUILT, files, line_of
 
 LINES = 300
 COLUMNS = 140
@@ -34,15 +34,17 @@ def wide_lines(path, text):
 
 
 def breaches(root):
-    for folder, suffixes in READ:
-        for file in files(root / folder, suffixes):
-            path, text = file.relative_to(root), file.read_text(encoding="utf-8")
-            lines = text.split("\n")
-            if len(lines) - 1 > LINES:
-                yield f"{path}: {len(lines) - 1} lines"
-            for number in wide_lines(path, text):
-                if len(lines[number - 1]) > COLUMNS:
-                    yield f"{path}:{number}: {len(lines[number - 1])} columns"
+    for file in files(root, tuple(suffix for _, suffixes in READ for suffix in suffixes), BUILT):
+        path = file.relative_to(root)
+        if not any(path.parts[0] == folder and path.name.endswith(suffixes) for folder, suffixes in READ):
+            continue
+        text = file.read_text(encoding="utf-8")
+        lines = text.split("\n")
+        if len(lines) - 1 > LINES:
+            yield f"{path}: {len(lines) - 1} lines"
+        for number in wide_lines(path, text):
+            if len(lines[number - 1]) > COLUMNS:
+                yield f"{path}:{number}: {len(lines[number - 1])} columns"
 
 
 def main():

@@ -19,10 +19,10 @@ RECORDS = {
 # The record of cases that meet what the others suppose, and what is written there in other words.
 MET, MET_FILE = "Met", "crates/laws/specs/Demands/Met.antt"
 OTHERWISE = {
-    "List·Memᴰ q (rulesOf stages)": "List·Memᴰ q (rulesOf s stages)",
-    "front ++ (t ∷ (middle ++ rest)) ≡ kept .stages": "front ++ (t ∷ (middle ++ rest)) ≡ stages",
-    "o .number ≡ 0": "outcome limits c bs result trail work .number ≡ 0",
-    "3 ≤ o .number": "3 ≤ outcome limits c bs result trail work .number",
+    "Memᴰ q (rules_of stages)": "Memᴰ q (rules_of s stages)",
+    "front ++ (t ∷ (middle ++ rest)) ≡ kept.stages": "front ++ (t ∷ (middle ++ rest)) ≡ stages",
+    "o.number ≡ 0": "(outcome limits c bs result trail work).number ≡ 0",
+    "3 ≤ o.number": "3 ≤ (outcome limits c bs result trail work).number",
 }
 RECORD = re.compile(r"\s*(?:pub )?record (\S+)\s[^=]*?\bwhere\b", re.S)
 
@@ -83,7 +83,7 @@ def shown(words):
     """A statement without the names that it binds, on one line."""
     pieces = [*suppositions(words), split(words, {"→"})[-1]]
     text = " → ".join(" ".join(piece) for piece in pieces)
-    return re.sub(r"(?<=[({]) | (?=[)}.,])(?!\.\w)", "", text)
+    return re.sub(r"(?<=[({]) | (?=[)}.,])", "", text)
 
 
 def fields_of(root, record, file):

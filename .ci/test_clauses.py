@@ -6,70 +6,82 @@ import unittest
 from clauses import says_nothing, speaks_of_exit, speaks_of_outcome
 
 NOTHING = (
-    "⌜ Unit ⌝",
-    "⌜ (r ≡ x) × Unit ⌝",
-    "⌜ r ≡ x ⌝ ∗ ⊤ₛ",
-    "do ⊤ₛ",
+    "Unit",
+    "Unit {0}",
+    "(result ≡ x) × Unit",
+    "IsTrue true",
+    "⌜ 0 ≤ result ⌝",
+    "⌜ result ≡ x ⌝ ∗ ⌜ result ≡ result ⌝",
+    "⌜ result ≡ x ⌝ ∗ ⊤ₛ",
+    "⊤ₛ",
     # equations
-    "⌜ r ≡ r ⌝",
-    "⌜ r ≡ r + 0 ⌝",
-    "⌜ 0 + r ≡ r ⌝",
-    "⌜ r + x ≡ x + r ⌝",
-    "⌜ r * 1 ≡ (1 * r) ⌝",
-    "⌜ r - 0 ≡ r ⌝",
-    "⌜ suc r ≡ r + 1 ⌝",
-    "⌜ suc (suc r) ≡ 1 + (r + 1) ⌝",
-    "⌜ (r ≡ x + x) × (f  x .n ≡ (f x .n)) ⌝",
-    "⌜ r ≡ x ⌝ ∗ ⌜ _≡_ {A = ℕ} (g x) (g x) ⌝",
-    "⌜ Each (λ y. y ≡ y) r ⌝",
+    "result ≡ result",
+    "result ≡ result + 0",
+    "0 + result ≡ result",
+    "result + x ≡ x + result",
+    "result * 1 ≡ (1 * result)",
+    "result - 0 ≡ result",
+    "result.n ≡ 0 + result.n",
+    "(g result).n ≡ (g result).n",
+    "let half = x / 2 in half ≡ half",
+    "suc result ≡ result + 1",
+    "suc (suc result) ≡ 1 + (result + 1)",
+    "(result ≡ x + x) × (f  x.n ≡ (f x.n))",
+    "⌜ result ≡ x ⌝ ∗ ⌜ ◌≡◌ {A = ℕ} (g x) (g x) ⌝",
+    "Each (λ y. y ≡ y) result",
     # order
-    "⌜ 0 ≤ r ⌝",
-    "⌜ (r ≡ x) × (0 ≤ r) ⌝",
-    "⌜ _≤_ 0 r ⌝",
-    "⌜ r ≤ r ⌝",
-    "⌜ r ≤ r + x ⌝",
-    "⌜ r ≤ suc r ⌝",
-    "⌜ r < r + 1 ⌝",
-    "⌜ x < suc (x + r) ⌝",
-    "⌜ 0 < suc r ⌝",
+    "0 ≤ result",
+    "(result ≡ x) × (0 ≤ result)",
+    "◌≤◌ 0 result",
+    "result ≤ result",
+    "result ≤ result + x",
+    "result ≤ suc result",
+    "result < result + 1",
+    "x < suc (x + result)",
+    "0 < suc result",
     # what follows from nothing, from itself, or from what cannot be
-    "⌜ x < 4 → Answer.None ≡ Answer.None ⌝",
-    "⌜ x < 4 → Unit ⌝",
-    "⌜ ⊥ → r ≡ x ⌝",
-    "⌜ (x < 4 → ⊥ → r ≡ x) ⌝",
-    "⌜ (⊥ × (x < 4)) → r ≡ x ⌝",
-    "⌜ x < 0 → r ≡ x ⌝",
-    "⌜ r < r → r ≡ x ⌝",
-    "⌜ 1 ≡ 0 → r ≡ x ⌝",
-    "⌜ true ≡ false → r ≡ x ⌝",
-    "⌜ 4 ≤ 3 → r ≡ x ⌝",
-    "⌜ suc x ≤ x → r ≡ x ⌝",
-    "⌜ r ≡ x → r ≡ x ⌝",
-    "⌜ (a : ℕ) → r ≡ a → (r ≡ a) ⌝",
-    "⌜ (r ≡ x) ↔ (r ≡ x) ⌝",
-    "⌜ (r ≡ x) ⊎ Unit ⌝",
-    "⌜ (r ≡ x) ⊎ (r ≡ x → ⊥) ⌝",
+    "x < 4 → Answer.None ≡ Answer.None",
+    "x < 4 → Unit",
+    "⊥ → result ≡ x",
+    "(x < 4 → ⊥ → result ≡ x)",
+    "(⊥ × (x < 4)) → result ≡ x",
+    "x < 0 → result ≡ x",
+    "result < result → result ≡ x",
+    "1 ≡ 0 → result ≡ x",
+    "true ≡ false → result ≡ x",
+    "4 ≤ 3 → result ≡ x",
+    "suc x ≤ x → result ≡ x",
+    "IsTrue false → result ≡ x",
+    "T false → result ≡ x",
+    "result ≡ x → result ≡ x",
+    "(a : ℕ) → result ≡ a → (result ≡ a)",
+    "(result ≡ x) ↔ (result ≡ x)",
+    "(result ≡ x) ⊎ Unit",
+    "(result ≡ x) ⊎ (result ≡ x → ⊥)",
 )
 SOMETHING = (
-    "⌜ r ≡ x ⌝",
-    "⌜ r ≡ 0 ⌝",
-    "⌜ r .n ≡ r .m ⌝",
-    '⌜ f r "a" ≡ f r "b" ⌝',
-    "⌜ (x ≡ r) × (r ≡ x) ⌝",
-    "⌜ Answer.None ≡ Answer.Some r ⌝",
-    "⌜ r ≡ x + 0 ⌝",
-    "⌜ r ≤ x + 1 ⌝",
-    "⌜ (a ≤ r) × (b ≤ r) × (r ≤ 2 ^ 32) ⌝",
-    "⌜ 1 ≤ r ⌝",
-    "⌜ r + x ≤ r ⌝",
-    "⌜ r - 1 ≡ r ⌝",
-    "⌜ (r ≡ x → ⊥) → r ≡ y ⌝",
-    "⌜ r ≡ x → ⊥ ⌝",
-    "⌜ x < 4 → r ≡ x ⌝",
-    "⌜ (r ≡ x) ⊎ (r ≡ y) ⌝",
-    "⌜ (r ≡ x) ↔ (r ≡ y) ⌝",
-    "⌜ ((a b : ℕ) → a ≤ low → k < b → Reordered r a b) ⌝",
-    "⌜ ElementWalked skipping (words (now (s .entry))) end depth at tt r tt ⌝",
+    "result ≡ x",
+    "result ≡ 0",
+    "result.n ≡ result.m",
+    'f result "a" ≡ f result "b"',
+    "(g result).n ≡ (g x).n",
+    "IsTrue result",
+    "let half = x / 2 in result ≡ half",
+    "(x ≡ result) × (result ≡ x)",
+    "Answer.None ≡ Answer.Some result",
+    "result ≡ x + 0",
+    "result ≤ x + 1",
+    "(a ≤ result) × (b ≤ result) × (result ≤ 2 ^ 32)",
+    "1 ≤ result",
+    "result + x ≤ result",
+    "result - 1 ≡ result",
+    "(result ≡ x → ⊥) → result ≡ y",
+    "result ≡ x → ⊥",
+    "x < 4 → result ≡ x",
+    "(result ≡ x) ⊎ (result ≡ y)",
+    "(result ≡ x) ↔ (result ≡ y)",
+    "((a b : ℕ) → a ≤ low → k < b → Reordered result a b)",
+    "ElementWalked skipping (words s.now) end depth at tt result tt",
 )
 
 
@@ -77,26 +89,40 @@ class Clauses(unittest.TestCase):
     def test_nothing(self):
         for clause in NOTHING:
             with self.subTest(clause):
-                self.assertIsNotNone(says_nothing(f"λ r. {clause}"))
+                self.assertIsNotNone(says_nothing(clause))
 
     def test_something(self):
         for clause in SOMETHING:
             with self.subTest(clause):
-                self.assertIsNone(says_nothing(f"λ r. {clause}"))
+                self.assertIsNone(says_nothing(clause))
 
     def test_outcome(self):
-        for clause in ("λ r. ⌜ r ≡ x ⌝", "λ r. ⌜ F (r .n) ⌝", "λ _. ⌜ now (s .exit) ≡ [] ⌝", "λ (r : ℕ). ⌜ F r ⌝"):
+        for clause in ("result ≡ x", "F result.n", "F (g result)", "s.new ≡ []", "F s.new.items", "⌜ F s.exit ⌝", "(a : ℕ) → F a result"):
             with self.subTest(clause):
                 self.assertTrue(speaks_of_outcome(clause))
 
     def test_no_outcome(self):
-        for clause in ("λ r. ⌜ x < 4 ⌝", "λ _. ⌜ F _ ⌝", "λ r. ⌜ AreBytes (now (s .entry)) ⌝", "⌜ r ≡ x ⌝", "λ r. ⌜ rows ≡ x ⌝"):
+        for clause in (
+            "x < 4",
+            "F _",
+            "AreBytes s.now",
+            "AreBytes s.old",
+            "F s.entry",
+            "results ≡ x",
+            "t.result ≡ x",
+            "-- result",
+            "(g s).new ≡ x",
+            "(result : ℕ) → F result",
+            "All (λ result. result < 4) s.now",
+        ):
             with self.subTest(clause):
                 self.assertFalse(speaks_of_outcome(clause))
 
     def test_exit(self):
-        self.assertTrue(speaks_of_exit("λ _. ⌜ F (now (s .exit)) ⌝", "s"))
-        self.assertFalse(speaks_of_exit("λ _. ⌜ F (now (s .entry)) (now (t .exit)) ⌝", "s"))
+        for clause in ("F s.new", "F t.old s.new.items", "⌜ F s.exit ⌝"):
+            self.assertTrue(speaks_of_exit(clause, "s"), clause)
+        for clause in ("F s.now t.new", "F s.old", "F t.s.new", "F s.newer", "F s new"):
+            self.assertFalse(speaks_of_exit(clause, "s"), clause)
 
 
 if __name__ == "__main__":

@@ -8,10 +8,10 @@ import unittest
 import lines
 
 CODE = """pub fn f(x: u32) -> u32
-    requires {{ ⌜ {} ⌝ }}
-    ensures {{ λ r. ⌜
+    requires {{ {} }}
+    ensures named {{ F
         {}
-    ⌝ }}
+    }}
 {{
     {}
 }}
@@ -27,7 +27,7 @@ class Lines(unittest.TestCase):
             return list(lines.breaches(pathlib.Path(made)))
 
     def test_long_files(self):
-        for name in ("crates/a/specs/A.antt", "crates/a/proofs/f/Proof.antt", "crates/a/src/lib.rt", "tests/a.py", ".ci/run"):
+        for name in ("crates/a/specs/A.antt", "crates/a/proofs/f/Answers.antt", "crates/a/src/lib.rt", "tests/a.py", ".ci/run"):
             self.assertEqual(self.breaches(name, "\n" * 300), [])
             self.assertEqual(self.breaches(name, "\n" * 301), [f"{name}: 301 lines"])
 
@@ -36,12 +36,16 @@ class Lines(unittest.TestCase):
         self.assertEqual(self.breaches("crates/a/specs/b/A.antt", "-- a\n" + "≡" * 141 + "\n"), ["crates/a/specs/b/A.antt:2: 141 columns"])
 
     def test_wide_lines_of_proofs(self):
-        self.assertEqual(self.breaches("crates/a/proofs/f/Proof.antt", "x" * 200 + "\n"), [])
+        self.assertEqual(self.breaches("crates/a/proofs/f/Answers.antt", "x" * 200 + "\n"), [])
+
+    def test_what_rt_makes(self):
+        self.assertEqual(self.breaches("crates/a/out/rlib/a.rlib/A.antt", "\n" * 301), [])
+        self.assertEqual(self.breaches("crates/a/specs/out/A.antt", "\n" * 301), ["crates/a/specs/out/A.antt: 301 lines"])
 
     def test_wide_lines_of_code(self):
         wide, name = "x" * 132, "crates/a/src/lib.rt"
         self.assertEqual(self.breaches(name, CODE.format("x", wide, wide * 2)), [])
-        self.assertEqual(self.breaches(name, CODE.format(wide, "x", "x")), [f"{name}:2: 153 columns"])
+        self.assertEqual(self.breaches(name, CODE.format(wide, "x", "x")), [f"{name}:2: 149 columns"])
         self.assertEqual(self.breaches(name, CODE.format("x", wide + "x", "x")), [f"{name}:4: 141 columns"])
 
 

@@ -10,7 +10,6 @@ import unittest
 import places
 
 HERE = pathlib.Path(__file__).resolve().parent
-TARGET = HERE.parent / "target"
 
 ORIGINAL = """pub(crate) fn outer(x: u32) -> bool {
     fn inner(x: u32) -> bool {
@@ -47,7 +46,7 @@ GOOD = """-- What is asked of a number.
 -- outer, l. 1, with
 -- inner, l. 2 to 4.
 unfoldable pub outer : ℕ → Bool
-outer x = eqb x 0
+outer x = x == 0
 
 infixl 20 _after_
 -- What stands in l. 9 of last.
@@ -63,8 +62,7 @@ module _ (x : ℕ) where
 class Places(unittest.TestCase):
     def check(self, definition=GOOD, other=""):
         """What the check says of a definition in one file, with another file beside it, and its exit status."""
-        TARGET.mkdir(exist_ok=True)
-        with tempfile.TemporaryDirectory(dir=TARGET) as made:
+        with tempfile.TemporaryDirectory() as made:
             root = pathlib.Path(made)
             for file in places.FILES:
                 path = root / places.DEFINITION / f"{file}.antt"

@@ -3,23 +3,23 @@
 
 import unittest
 
-from tree import Tree
+from tree import Tree, proved
 
 
 DEEP = """pub struct Sum { pub n: u32 }
 
 impl Sum {
     pub fn more(self, y: u32) -> Sum
-        requires { ⌜ y < 4 ⌝ }
-        ensures { λ r. ⌜ r .n ≡ self .n + y ⌝ }
+        requires { y < 4 }
+        ensures { result.n ≡ self.n + y }
     {
         Sum { n: self.n + y }
     }
 }
 
 pub fn half(x: u32) -> u32
-    requires { ⌜ x % 2 ≡ 0 ⌝ }
-    ensures { λ r. ⌜ r + r ≡ x ⌝ }
+    requires { x % 2 ≡ 0 }
+    ensures { result + result ≡ x }
 {
     x / 2
 }
@@ -40,20 +40,20 @@ class Reached(Tree):
         self.write("crates/low/src/lib.rt", "pub mod deep;\npub mod names;\n")
         self.write("crates/low/src/deep.rt", DEEP)
         self.write("crates/low/src/names.rt", "pub use crate::deep::half as part;\npub use crate::deep::*;\n")
-        self.write("crates.txt", "low:\ntree: low\nshow: tree io libc\n")
-        self.write("target/log/low.say", "logic=proved functions=2 sum=0 native=nat\n")
+        self.write("crates.txt", "low:\ntree: low\nshow: tree regex\n")
+        self.say(proved("low"), proved("tree"))
 
     def test_requires_in_the_root_file(self):
-        old = "    ensures { λ r. ⌜ r ≡ x + x ⌝ }\n"
-        self.edit("crates/tree/src/lib.rt", old, "    requires { ⌜ x < 9 ⌝ }\n" + old)
+        old = "    ensures { result ≡ x + x }\n"
+        self.edit("crates/tree/src/lib.rt", old, "    requires small { x < 9 }\n" + old)
         self.assert_breach(
-            "crates/tree/src/lib.rt:4: fn twice is at the outer boundary and has a requires"
+            "crates/tree/src/lib.rt:8: fn twice is at the outer boundary and has a requires"
         )
 
     def test_requires_behind_the_ensures(self):
-        self.edit("crates/tree/src/lib.rt", "{\n    [b'}'", "    requires { ⌜ x < 9 ⌝ }\n{\n    [b'}'")
+        self.edit("crates/tree/src/lib.rt", "{\n    [b'}'", "    requires { x < 9 }\n{\n    [b'}'")
         self.assert_breach(
-            "crates/tree/src/lib.rt:11: fn tree_at is at the outer boundary and has a requires"
+            "crates/tree/src/lib.rt:15: fn tree_at is at the outer boundary and has a requires"
         )
 
     def test_requires_of_an_export_in_a_module(self):
@@ -95,14 +95,14 @@ class Reached(Tree):
     def test_requires_of_a_generic_type_s_method(self):
         for head in ("impl<T> Sum<T>", "impl<const N: usize> crate::sum::Sum<[u8; N]>", "impl<T> Adds<T> for Sum<T>"):
             with self.subTest(head):
-                method = "pub fn add(self) -> T\n    requires { ⌜ y < 4 ⌝ }\n    ensures { λ r. ⌜ r ≡ self .n ⌝ }\n{ self.n }\n"
+                method = "pub fn add(self) -> T\n    requires { y < 4 }\n    ensures { result ≡ self.n }\n{ self.n }\n"
                 self.write("crates/tree/src/sum.rt", f"pub struct Sum<T> {{ n: T }}\n\n{head} {{\n{method}}}\n")
                 self.edit("crates/tree/src/lib.rt", "mod inner;", "mod inner;\nmod sum;\npub use sum::Sum;")
                 self.assert_breach("crates/tree/src/sum.rt:4: fn add is at the outer boundary and has a requires")
                 self.edit("crates/tree/src/lib.rt", "\nmod sum;\npub use sum::Sum;", "")
 
     def test_requires_of_a_method_handed_on(self):
-        method = "pub fn add(self, y: u32) -> Sum\n    requires { ⌜ y < 4 ⌝ }\n    ensures { λ r. ⌜ r .n ≡ y ⌝ }\n{ self }\n"
+        method = "pub fn add(self, y: u32) -> Sum\n    requires { y < 4 }\n    ensures { result.n ≡ y }\n{ self }\n"
         self.write("crates/tree/src/sum.rt", f"struct Sum {{ n: u32 }}\n\nimpl Sum {{\n{method}}}\n")
         self.edit("crates/tree/src/lib.rt", "mod inner;", "mod inner;\nmod sum;")
         self.assertEqual(self.check()[0], 0)
@@ -159,7 +159,7 @@ class Reached(Tree):
 
     def test_requires_of_a_method_on_a_result(self):
         self.add_low()
-        made = "fn made(x: u32) -> {}\n    ensures {{ λ r. ⌜ r ≡ sums x ⌝ }}\n{{ other(x) }}"
+        made = "fn made(x: u32) -> {}\n    ensures {{ result ≡ sums x }}\n{{ other(x) }}"
         for lines in (
             ("pub " + made.format("low::deep::Sum"),),
             ("use low::deep::Sum;", "pub " + made.format("Sum")),
@@ -168,7 +168,7 @@ class Reached(Tree):
             ("use low::deep::Sum;", "enum Answer { Refused(u32), Given(Sum) }", "pub " + made.format("Answer")),
             ("use low::deep::Sum;", "type Total = Sum;", "pub " + made.format("Total")),
             ("use low::deep::Sum;", "pub const START: Sum = Sum { n: 0 };"),
-            ("use low::deep::Sum;", 'extern "C" fn put(s: &mut Sum)\n    ensures { λ _. ⌜ now (s .exit) ≡ 0 ⌝ }\n{ }'),
+            ("use low::deep::Sum;", 'extern "C" fn put(s: &mut Sum)\n    ensures { s.new ≡ 0 }\n{ }'),
         ):
             with self.subTest(lines):
                 self.root_with(*lines)
@@ -177,7 +177,7 @@ class Reached(Tree):
 
     def test_requires_of_a_method_on_a_method_s_result(self):
         self.add_low()
-        method = "pub fn sum(self) -> Sum\n    ensures { λ r. ⌜ r .n ≡ self .n ⌝ }\n{ self.sum }"
+        method = "pub fn sum(self) -> Sum\n    ensures { result.n ≡ self.n }\n{ self.sum }"
         self.write("crates/tree/src/pair.rt", f"use low::deep::Sum;\npub struct Pair {{ n: u32 }}\n\nimpl Pair {{\n{method}\n}}\n")
         self.root_with("mod pair;")
         self.assertEqual(self.check()[0], 0, self.check()[1])

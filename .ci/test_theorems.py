@@ -7,17 +7,17 @@ import unittest
 
 import promises
 import theorems
+from tree import LOG, kept, proved
 
-TARGET = pathlib.Path(__file__).resolve().parent.parent / "target"
 SPECS = "crates/laws/specs"
-DEMANDS = """use Prim.Native.Nat.{ℕ}
+DEMANDS = """use Rattle.std.specs.Prelude.{ℕ}
 
 -- What is promised.
 pub record Theorems : Type 0 where
   pub one : ℕ
 """
 ALL = """-- theorems : Theorems
-use Rattle·laws·specs.specs.Demands.{Other, Theorems}
+use Rattle.laws.specs.Demands.{Other, Theorems}
 
 pub theorems : Theorems
 theorems =
@@ -29,9 +29,9 @@ RUN = """module _ (s : Sheet) where
   -- What is promised of a run.
   pub record Demand3 (stages : List Stage)
       : Type 0 where
-    pub strings : SameStrings (s .rules)
+    pub strings : SameStrings s.rules
     -- Of each stage.
-    pub shape : (t : Stage) → List·Memᴰ t stages
+    pub shape : (t : Stage) → Memᴰ t stages
         → Shaped t
 
   abbrev pub other : ℕ
@@ -42,12 +42,12 @@ KEPT = """pub record Kept (bs : List ℕ) : Type 0 where
 pub record KeptRust : Type 0 where
   pub kept : Kept
 pub record BoughtRust : Type 0 where
-  pub everywhere : o .number ≡ 0 → Kept
+  pub everywhere : o.number ≡ 0 → Kept
 pub record BoughtTextbook : Type 0 where
-  pub everywhere : o .number ≡ 0 → Kept
+  pub everywhere : o.number ≡ 0 → Kept
 pub record EveryCall (bs : List ℕ) : Type 0 where
   pub row : Row bs
-  pub otherUnits : Lent bs → (s : Sheet) → read bs ≡ sheet s → (s .kind ≡ parser → ⊥) → same bs ≡ bs
+  pub other_units : Lent bs → (s : Sheet) → read bs ≡ sheet s → (s.kind ≡ parser → ⊥) → same bs ≡ bs
 
 pub record Lent (bs : List ℕ) : Type 0 where
   pub long : 4 ≤ length bs
@@ -65,20 +65,18 @@ pub record Theorems : Type 0 where
   pub one : ℕ
   pub runs : (s : Sheet) → Ends s → Demand3 s
 """
-CASES = """  pub aRun : (s : Sheet) × (stages : List Stage) × Ends s × (t : Stage)
-      × List·Memᴰ t stages
-  pub bytes : (bs : List ℕ) × Lent bs × (s : Sheet) × (read bs ≡ sheet s) × (s .kind ≡ parser → ⊥)
-      × (outcome limits c bs result trail work .number ≡ 0)
+CASES = """  pub a_run : (s : Sheet) × (stages : List Stage) × Ends s × (t : Stage)
+      × Memᴰ t stages
+  pub bytes : (bs : List ℕ) × Lent bs × (s : Sheet) × (read bs ≡ sheet s) × (s.kind ≡ parser → ⊥)
+      × ((outcome limits c bs result trail work).number ≡ 0)
 """
-PROVED = "logic=proved functions=0 sum=0 native=nat logic-built=trusted\n"
 
 
 class Crate(unittest.TestCase):
     """The crate `laws` with two modules, good at first; each test spoils one thing."""
 
     def setUp(self):
-        TARGET.mkdir(exist_ok=True)
-        folder = tempfile.TemporaryDirectory(prefix="theorems-", dir=TARGET)
+        folder = tempfile.TemporaryDirectory(prefix="theorems-")
         self.addCleanup(folder.cleanup)
         self.root = pathlib.Path(folder.name)
         self.write("Lib.antt", "pub mod Demands\npub mod Proved\n")
@@ -87,7 +85,7 @@ class Crate(unittest.TestCase):
         self.write("Proved/All.antt", ALL)
         self.write("Demands/Run.antt", RUN)
         self.write("Demands/Kept.antt", KEPT)
-        self.log(PROVED)
+        self.log(proved("laws"))
         self.promise("crates/laws/specs/Demands/Theorems.antt", DEMANDS)
         self.promise("crates/pass/specs/Handed.antt", HANDED)
         self.store()
@@ -113,7 +111,7 @@ class Crate(unittest.TestCase):
         file.write_text(text, encoding="utf-8")
 
     def log(self, text):
-        file = self.root / "target/log/laws.say"
+        file = self.root / LOG
         file.parent.mkdir(parents=True, exist_ok=True)
         file.write_text(text, encoding="utf-8")
 
@@ -184,11 +182,17 @@ class Crate(unittest.TestCase):
         self.refused("is declared in no module", "is not the record")
 
     def test_not_proved(self):
-        self.log("logic=not-proved\n")
+        self.log(proved("laws", "logic=not-proved"))
         self.refused("laws is not proved")
 
+    def test_proved_by_an_earlier_run(self):
+        self.log(kept("laws"))
+        self.refused()
+
     def test_no_verdict(self):
-        (self.root / "target/log/laws.say").unlink()
+        self.log(kept("law"))
+        self.refused("no verdict")
+        (self.root / LOG).unlink()
         self.refused("no verdict")
 
     def test_list(self):
@@ -198,16 +202,16 @@ class Crate(unittest.TestCase):
                 "Theorems, crates/laws/specs/Demands/Theorems.antt",
                 "  one : ℕ",
                 "Demand3, crates/laws/specs/Demands/Run.antt",
-                "  strings : SameStrings (s .rules)",
-                "  shape : List·Memᴰ t stages → Shaped t",
+                "  strings : SameStrings s.rules",
+                "  shape : Memᴰ t stages → Shaped t",
             ],
         )
         self.assertIn("  before : Sheet", promises.listed(self.root))
         self.assertIn("  after : Sheet", promises.listed(self.root))
 
     def test_a_field_that_has_gone(self):
-        self.change("crates/laws/specs/Demands/Run.antt", "    pub strings : SameStrings (s .rules)\n", "")
-        self.refused("-   strings : SameStrings (s .rules)", "--write")
+        self.change("crates/laws/specs/Demands/Run.antt", "    pub strings : SameStrings s.rules\n", "")
+        self.refused("-   strings : SameStrings s.rules", "--write")
 
     def test_a_field_that_is_new(self):
         self.change("crates/pass/specs/Handed.antt", "  pub means", "  pub is : answer\n  pub means")
@@ -216,7 +220,7 @@ class Crate(unittest.TestCase):
         self.refused()
 
     def test_a_field_that_says_something_else(self):
-        for old, new in (("Shaped t", "Unit"), ("List·Memᴰ t stages\n", "t ≡ t\n"), ("SameStrings (s .rules)", "SameStrings []")):
+        for old, new in (("Shaped t", "Unit"), ("Memᴰ t stages\n", "t ≡ t\n"), ("SameStrings s.rules", "SameStrings []")):
             with self.subTest(new):
                 self.change("crates/laws/specs/Demands/Run.antt", old, new)
                 found = list(theorems.breaches(self.root))
@@ -251,7 +255,7 @@ class Crate(unittest.TestCase):
     def test_a_record_that_cannot_be(self):
         self.change("crates/laws/specs/Demands/Kept.antt", "4 ≤ length bs", "⊥")
         self.write("Demands.antt", DEMANDS + "pub mod Kept\n")
-        self.refused("EveryCall.otherUnits supposes what cannot be: Lent bs")
+        self.refused("EveryCall.other_units supposes what cannot be: Lent bs")
 
     def add_cases(self, cases):
         self.promise("crates/laws/specs/Demands/Theorems.antt", ENDS)

@@ -8,7 +8,7 @@
   the list in .ci/promises.txt: none has gone or says something else, and one that is new is seen there.
 - Nothing that such a field supposes fails by its form; and where the record `Met` is declared, in the same
   crate, it has a case of each of these suppositions, and `met : Met` is proved. So no promise is empty.
-- The verdicts that `rt` kept of the crate say that it is proved.
+- `rt ci`, whose words stand in target/log/ci, says that the crate is proved.
 
 One line for each breach. usage: theorems.py [--write] [ROOT]; --write makes the list anew.
 """
@@ -18,7 +18,7 @@ import pathlib
 import re
 import sys
 
-from contracts import verdicts
+from contracts import LOG, verdicts
 from lexer import antt_words
 from promises import MET, MET_FILE, Meanings, listed, records, shown, supposed, unmet
 
@@ -75,7 +75,7 @@ def declares_another(text):
 
 def imported_from(text):
     """The modules of the crate from which a file has the name `Theorems`."""
-    front = rf"Rattle·{CRATE}·specs\.specs\."
+    front = rf"Rattle\.{CRATE}\.specs\."
     uses = re.findall(rf"^use {front}([\w.]+)\.\{{([^}}]*)\}}", text, re.M)
     return [module for module, names in uses if "Theorems" in [name.strip() for name in names.split(",")]]
 
@@ -127,7 +127,7 @@ def breaches(root):
     yield from breaches_of_suppositions(root, modules)
     lines = list(verdicts(root, CRATE))
     if not lines:
-        yield f"{root / 'target/log'}: no verdict on {CRATE}: run rt ci first"
+        yield f"{root / LOG}: no verdict on {CRATE}: run .ci/run first"
     for place, line in lines:
         if line.split()[0] != "logic=proved":
             yield f"{place}: {CRATE} is not proved: {line}"

@@ -7,21 +7,24 @@ import tempfile
 import unittest
 
 HERE = pathlib.Path(__file__).resolve().parent
-TARGET = HERE.parent / "target"
 
 LIB = """// A library's root.
+#![tactic(auto)]
+
 mod inner;
 
+ghost use Rattle.std.specs.Prelude.{◌≡◌, suc, ◌+◌};
+
 pub fn twice(x: u32) -> u64
-    ensures { λ r. ⌜ r ≡ x + x ⌝ }
+    ensures { result ≡ x + x }
 {
     inner::sum(x, x)
 }
 
-#[no_mangle]
+#[unsafe(no_mangle)]
 pub extern "C" fn tree_at(table: &[u8; 4], x: u8) -> [u8; 2]
     // requires { nothing: a comment }
-    ensures named { λ r. do ⌜ f {n = 2} r ≡ "}" ⌝ -- a } in a comment
+    ensures* named { ⌜ f {n = 2} result ≡ "}" ⌝ -- a } in a comment
     }
 {
     [b'}', b'{']
@@ -29,26 +32,26 @@ pub extern "C" fn tree_at(table: &[u8; 4], x: u8) -> [u8; 2]
 
 impl Counter {
     pub fn next(self) -> Counter
-        ensures { λ r. ⌜ r .n ≡ suc (self .n) ⌝ }
+        ensures { result.n ≡ suc self.n }
     {
         Counter { n: self.n + 1 }
     }
 }
 
 fn private(x: u32) -> u32
-    requires { ⌜ x < 4 ⌝ }
+    requires { x < 4 }
 {
     x
 }
 """
 INNER = """pub fn sum(x: u32, y: u32) -> u64
-    requires { ⌜ x ≤ y ⌝ }
-    ensures { λ r. ⌜ r ≡ x + y ⌝ }
+    requires { x ≤ y }
+    ensures { result ≡ x + y }
 {
     x as u64 + y as u64
 }
 """
-SPEC = """use Prim.Native.Nat.{ℕ}
+SPEC = """use Rattle.std.specs.Prelude.{ℕ}
 -- why not? an axiom ? no
 {- ? {- axiom -} ?h -}
 abbrev pub even? : ℕ → ℕ
@@ -57,30 +60,44 @@ even? n? = n?
 axioms : String
 axioms = "is it ? an axiom"
 """
-VERDICT = "fn tree::twice: proved\nlogic=proved functions=5 sum=0 native=nat\n"
+# What `rt ci` says of a crate that it proves, of its tests, and of one that an earlier run proved.
+LOG = "target/log/ci"
+TRUSTED = "native=nat,char,string logic-built=trusted libraries-built=trusted statements=trusted"
+LINE = f"logic=proved functions=5 sum=0 {TRUSTED}"
+
+
+def proved(crate, line=LINE):
+    return f"== {crate}\nfn {crate}::twice: proved\n{line}\nrt: {crate} proved\n== {crate}: its tests\nlogic=proved tests=1\n"
+
+
+def kept(crate):
+    return f"rt: {crate} is kept: an earlier run on this machine proved the same files over the same libraries\n"
 
 
 class Tree(unittest.TestCase):
     """The repository of one test, and what the check says of it."""
 
     def setUp(self):
-        TARGET.mkdir(exist_ok=True)
-        self.folder = tempfile.TemporaryDirectory(prefix="contracts-", dir=TARGET)
+        self.folder = tempfile.TemporaryDirectory(prefix="contracts-")
         self.addCleanup(self.folder.cleanup)
         self.root = pathlib.Path(self.folder.name)
         self.write("crates/tree/src/lib.rt", LIB)
         self.write("crates/tree/src/inner.rt", INNER)
         self.write("crates/tree/specs/Spec.antt", SPEC)
-        self.write("crates/tree/proofs/twice/Proof.antt", "t = search needs\n")
-        self.write("crates/show/src/main.rt", "pub fn bare() {}\nfn main() {}\n")
-        self.write("crates.txt", "tree:\nshow: tree io libc\n")
-        self.write("target/log/tree.say", VERDICT)
-        self.write("target/log/show.say", "logic=proved functions=1 axioms=2 sum=0\n")
+        self.write("crates/tree/proofs/twice/Answers.antt", "t = search rules\n")
+        self.write("crates/tree/out/rlib/tree.rlib/Other.antt", "axiom other : ℕ\n")
+        self.write("crates/show/src/main.rt", "pub fn bare() {}\nfn main(rt: HostRuntime) {}\n")
+        self.write("crates.txt", "tree:\nshow: tree regex\n")
+        self.say(proved("show", LINE.replace("sum", "axioms=2 sum")), proved("tree"))
 
     def write(self, name, text):
         file = self.root / name
         file.parent.mkdir(parents=True, exist_ok=True)
         file.write_text(text, encoding="utf-8")
+
+    def say(self, *parts):
+        """Has `rt ci` have said this."""
+        self.write(LOG, "".join(parts) + "rt: ok\n2 passed, 0 failed\n")
 
     def edit(self, name, old, new):
         text = (self.root / name).read_text(encoding="utf-8")

@@ -34,10 +34,11 @@ LEVELS = {
 OUTSIDE = {"memset", "memcpy", "memmove"}
 
 # The stack pointer goes down by a number; by a number below 0 that is added; to a multiple of a power of two; and, where
-# each page of a large frame is touched, in a loop down to a place.
+# each page of a large frame is touched, in a loop down to a place, which is told in one instruction or in two.
 TAKES = re.compile(r"\bsub\s+\$0x([0-9a-f]+),%rsp")
 ADDS = re.compile(r"\b(?:add|and)\s+\$0x(ffffffff[0-9a-f]{8}),%rsp")
-PROBES = re.compile(r"\blea\s+-0x([0-9a-f]+)\(%rsp\),%r11")
+PROBES = re.compile(r"\blea\s+-0x([0-9a-f]+)\(%rsp\),%r11|\bmov\s+%rsp,%r11\n.*\bsub\s+\$0x([0-9a-f]+),%r11")
+LOOPS = re.compile(r"\bcmp\s+%r11,%rsp")
 # It goes up again, or by itself; all else is not read.
 GOES_UP = re.compile(r"\badd\s+\$0x[0-9a-f]{1,8},%rsp|\blea\s+-?0x[0-9a-f]+\(%rbp\),%rsp|\bmov\s+%rbp,%rsp")
 MOVES = re.compile(r"\b(?:add|and|sub|lea|mov|xchg|pop)\s[^#<]*%rsp$")
@@ -68,9 +69,12 @@ def functions(text):
 
 def frame(name, lines):
     """The bytes that one call of the function takes."""
-    size = ADDRESS
+    probed = [int(one or other, 16) for one, other in PROBES.findall("\n".join(lines))]
+    if len(probed) != sum(map(bool, map(LOOPS.search, lines))):
+        raise Unknown(f"{name} touches its frame in a loop that is not read")
+    size = ADDRESS + sum(probed)
     for line in lines:
-        taken, added = TAKES.search(line) or PROBES.search(line), ADDS.search(line)
+        taken, added = TAKES.search(line), ADDS.search(line)
         if re.search(r"\bpush\b", line):
             size += 8
         elif taken:

@@ -35,8 +35,14 @@ class Frames(unittest.TestCase):
         self.assertEqual(self.frame("and    $0xffffffffffffffe0,%rsp"), 8 + 32)
 
     def test_a_frame_that_is_touched_in_a_loop_is_counted(self):
-        lines = ("lea    -0x7000(%rsp),%r11", "sub    $0x1000,%rsp", "movq   $0x0,(%rsp)", "cmp    %r11,%rsp")
-        self.assertGreaterEqual(self.frame(*lines), 8 + 0x7000)
+        loop = ("sub    $0x1000,%rsp", "movq   $0x0,(%rsp)", "cmp    %r11,%rsp", "jne    7 <f+0x7>")
+        for place in (("lea    -0x7000(%rsp),%r11",), ("mov    %rsp,%r11", "sub    $0x7000,%r11")):
+            self.assertEqual(self.frame(*place, *loop), 8 + 0x7000 + 0x1000)
+            self.assertEqual(self.frame(*place, *loop, "sub    $0x238,%rsp"), 8 + 0x8238)
+
+    def test_a_loop_that_is_not_read_is_told(self):
+        for place in ((), ("mov    %rsp,%r11",), ("mov    %rsp,%r10", "sub    $0x7000,%r11"), ("sub    $0x7000,%r11", "mov    %rsp,%r11")):
+            self.assertRaises(stack.Unknown, self.frame, *place, "sub    $0x1000,%rsp", "cmp    %r11,%rsp")
 
     def test_going_up_takes_nothing(self):
         lines = ("add    $0x18,%rsp", "pop    %rbx", "mov    %rsp,%rdi", "lea    0x10(%rsp),%rax", "mov    %rax,0x8(%rsp)")

@@ -1,44 +1,46 @@
 """Where wrong definitions and wrong programs are tried: what each answers, and where it is refused."""
-import os
-import platform
 import re
 import shutil
 import subprocess
 from pathlib import Path
 
 import check_answers
+import kit
 from answers.claims import claim
 from answers.definitions import copy_definitions, copy_part
 from answers.room import STOPS
 from rooms import CHECKS, ERROR, Room, refused
 
-DRIVER = 'driver'
-ENDED = ' ended, '
-SHOWN = 25   # sheets of whose numbers all fit into what `rt try` shows
-FOUND = re.compile(r'^(?:FAIL: (.*)\n(?:.*, found (".*"))?|ok: .*)', re.M)
+DRIVER, MAIN = 'driver', Path(__file__).with_name('wrong') / 'main.txt'
+SECONDS = 20   # of a try; what ends takes far less
+# How a try of a case ends, and how it does if it ends as it should.
+CASE, ENDED = re.compile(r'^case=(\S+) (run=.*)', re.M), re.compile(r'run=ended status=0 runners=\d')
+
+
+class Answers(check_answers.Room):
+    """What computes edited definitions: they are given as sources, over what was checked of them before."""
+
+    def given(self, name):
+        return kit.of_sources(self.place, self.used, self.used[name])
+
+    def rattle(self, verb, name, *more):
+        return super().rattle(verb, name, '--incremental', self.place / 'checked' / name, *more)
 
 
 class Definitions(Room):
     """Definitions without their laws and tables, and the crates of laws above them. The crates below a crate of laws are
     checked in its own runs, over its own folder: most of a run is loading."""
 
-    def __init__(self, place, crates, asked, built):
+    def __init__(self, place, crates, asked):
         self.defined = sorted({edit.crate for edit in asked})
         self.tops = sorted({edit.refused for edit in asked if edit.is_refused_above()})
-        # check_answers makes its own repository; the crates of laws are put beside its crate of checks
-        self.answers = check_answers.Room(place, crates.folder)
-        listed = (place / 'crates.txt').read_text()
-        uses = dict(line.split(':') for line in listed.splitlines())['answers'].split()
-        needed = [name for top in [*self.tops, *uses] for name in crates.reached(top)]
-        super().__init__(place, crates, list(dict.fromkeys(needed)), built)
-        self.list(answers=' '.join(uses))
+        # check_answers makes its own crate of checks; the crates of laws are put beside it
+        self.answers = Answers(place, crates.folder)
+        needed = [name for top in [*self.tops, *self.answers.used['answers']] for name in crates.reached(top)]
+        super().__init__(place, crates, list(dict.fromkeys(needed)))
         for top in self.tops:
-            below = crates.reached(top)[:-1]
-            used = {name: ','.join(crates.uses[name]) for name in below}
-            self.words[top] = [word for name in below for word in ('--lib', f'{name}:{used[name]}=crates/{name}/src/lib.rt')]
-            self.list(**{top: ''})
             self.guest(top)
-        self.kept = {top: self.warm(top, crates.reached(top)) for top in self.tops}
+        self.kept = {top: self.warm(top) for top in self.tops}
 
     def copy(self, name):
         # the laws of a crate that has a folder of them are used by those above
@@ -100,7 +102,7 @@ class Definitions(Room):
     def differs_and_refusal(self, crate):
         """Whether what stands in the guest is so, where the crate is refused, and why if nowhere. Where the guest is not
         reached, nothing is known of it."""
-        status, said = self.dev(crate)
+        status, said = self.check(crate)
         if not re.search(rf'^crate {crate}: modules ', said, re.M):
             return (None, *refused(crate, status, said))
         open_equations = [found for found in ERROR.finditer(said) if found[2] == CHECKS]
@@ -109,78 +111,27 @@ class Definitions(Room):
         return (not open_equations, *refused(crate, status, said))
 
 
-def kit_at():
-    return Path(os.environ.get('RATTLE_HOME') or Path(shutil.which('rt')).resolve().parent.parent)
-
-
-def own_of(kit):
-    """What the kit has for this machine."""
-    return kit / 'on' / platform.machine()
-
-
-# Stands for the compiler where the interpreter's run alone counts: every program becomes one that does nothing.
-NO_COMPILER = """#!/bin/sh
-while [ $# -gt 0 ]; do
-    if [ "$1" = -o ]; then cp "$(dirname "$0")/../empty.o" "$2"; exit 0; fi
-    shift
-done
-exit 1
-"""
-
-
-def without_compiler(kit, folder):
-    """The kit's toolchain with that in place of its compiler, which takes most of the time of a run; or the kit's own, where it
-    is laid out otherwise or gcc is not at hand."""
-    if not (kit / 'bin/clang').is_file() or not shutil.which('gcc'):
-        return kit
-    (folder / 'bin').mkdir(parents=True)
-    for part in [*kit.iterdir(), *(kit / 'bin').iterdir()]:
-        if part.name not in ('bin', 'clang'):
-            (folder / part.relative_to(kit)).symlink_to(part)
-    (folder / 'bin/clang').write_text(NO_COMPILER)
-    (folder / 'bin/clang').chmod(0o755)
-    subprocess.run(['gcc', '-c', '-x', 'c', '-', '-o', folder / 'empty.o'], input=b'int main(void) { return 0; }', check=True)
-    return folder
-
-
 class Programs(Room):
-    """Crates of code, and a program over them that prints what they tell of a sheet."""
+    """Crates of code, and a program over them that prints a digest of what they tell of a sheet. A crate is checked over those
+    below it as they were built; the program is tried over all of them as sources."""
 
-    def __init__(self, place, crates, asked, built, driver):
-        super().__init__(place, crates, crates.needed(asked, driver), built)
-        program = place / 'crates' / DRIVER / 'src/main.rt'
-        program.parent.mkdir(parents=True, exist_ok=True)
-        program.write_text(driver, encoding='utf-8')
-        self.list(**{DRIVER: f'{" ".join(self.names)} io libc'})
-        self.take_proved()
+    def __init__(self, place, crates, asked, built, digest):
+        super().__init__(place, crates, crates.needed(asked, digest))
+        self.built, self.digest = built, digest
 
-    def rt(self, *words):
-        return self.run(*self.of_try(*words[2:])) if words[0] == 'try' else super().rt(*words)
+    def given(self, crate):
+        return kit.of_libraries(self.built, self.crates.uses, crate)
 
-    def of_try(self, toolchain=None):
-        """The command that `rt try` gives, with each crate given those that it uses. `rt try` gives it all of them, and then none
-        may have a module named like another."""
-        kit, own, program = kit_at(), own_of(kit_at()), self.place / 'crates' / DRIVER
-        libraries = [f'{name}={kit}/libs/{name}/src/lib.rt' for name in ('std', 'io', 'libc')]
-        libraries += [f'{name}:{",".join(self.crates.uses[name])}={self.place}/crates/{name}/src/lib.rt' for name in self.names]
-        words = ['--toolchain', toolchain or own / 'toolchain', '--stdin', program / 'stdin', program / 'src/main.rt']
-        words += ['--crate-name', DRIVER]
-        return [own / 'bin/rattle-cases', *words, *(word for library in libraries for word in ('--lib', library))]
+    # ---- what the prover says
 
-    def interpreter(self):
-        """The toolchain for runs of which the interpreter's alone counts."""
-        folder = self.place / 'toolchain'
-        return folder if folder.is_dir() else without_compiler(own_of(kit_at()) / 'toolchain', folder)
-
-    def tried(self, edits, sheets, before, linked):
-        """Of edits of one crate: each with whether the program prints otherwise, where it is refused, why if nowhere. The
-        crate is accepted without an edit first and at the end. `before` has what the program prints without an edit."""
+    def refusals(self, edits, linked):
+        """Of edits of one crate: each with where it is refused, and why if nowhere. The crate is accepted without an edit
+        first and at the end."""
         crate, found = edits[0].crate, []
-        kept = None if all(edit in linked for edit in edits) else self.warm(crate, [crate])
+        kept = None if all(edit in linked for edit in edits) else self.warm(crate)
         for edit in edits:
-            differs = self.prints_otherwise(edit, sheets(edit.shown), before[edit.shown])
             where = (f'{crate}/must-fail, by rt ci', None) if edit in linked else self.edited_refusal(edit, kept)
-            found.append((edit, differs, *where))
+            found.append((edit, *where))
         if kept:
             self.accepts(crate)
         return found
@@ -192,50 +143,73 @@ class Programs(Room):
         kept.restore()
         return where
 
-    def prints_otherwise(self, edit, sheet, before):
-        """Whether an edit changes what the program prints of a sheet. Where it no longer ends, the interpreter must be seen
-        to end without the edit, since it may have had too few steps for either."""
+    # ---- what the program prints
+
+    def differing(self, edits, sheets):
+        """Whether each of some edits changes what the program prints of its sheet, or how that ends. Most of a try is making
+        the program, so that one has all: the crates as they are, and for each edit copies of its crate and of those above."""
+        batch = self.place / 'batch'
+        shutil.rmtree(batch, ignore_errors=True)
+        given, modules = kit.libraries(self.place, self.crates.uses, self.names), [self.digest]
+        for number, edit in enumerate(edits, 1):
+            names = {name: f'{name}_{number}' for name in self.names if edit.crate in self.crates.reached(name)}
+            given += self.copies(batch, edit, names)
+            modules.append(renamed(self.digest, names))
+        self.write_program(batch / 'crates' / DRIVER / 'src', modules)
+        cases = batch / 'cases'
+        cases.mkdir()
+        for number, edit in enumerate(edits, 1):
+            (cases / f'{number}-before').write_bytes(framed(0, sheets(edit.shown)))
+            (cases / f'{number}-after').write_bytes(framed(number, sheets(edit.shown)))
+        found = self.attempt(batch / 'crates' / DRIVER, cases, given)
+        for number, edit in enumerate(edits, 1):
+            before = found.get(f'{number}-before', '')
+            if not re.fullmatch(r' \d+\n', before):
+                raise SystemExit(f'the program without an edit does not tell of {edit.shown} in {self.place}: {before}')
+        return {edit: found.get(f'{number}-after') != found[f'{number}-before'] for number, edit in enumerate(edits, 1)}
+
+    def copies(self, batch, edit, names):
+        """Makes copies under other names of an edited crate and of those above it; the words that give them."""
         self.make(edit)
-        now = self.printed(sheet)
+        for name, other in names.items():
+            own = {crate: to for crate, to in names.items() if crate != name}
+            source = self.place / 'crates' / name / 'src'
+            for path in source.rglob('*.rt'):
+                copy = batch / 'crates' / other / 'src' / path.relative_to(source)
+                copy.parent.mkdir(parents=True, exist_ok=True)
+                copy.write_text(renamed(path.read_text(encoding='utf-8'), own), encoding='utf-8')
         self.undo()
-        return now != (before if now.startswith('"') else self.printed_to_the_end(sheet))
+        used = {other: [names.get(own, own) for own in self.crates.uses[name]] for name, other in names.items()}
+        return kit.libraries(batch, used, used)
 
-    def runs(self, sheets, *toolchain):
-        """How each run of the program on some sheets ends and what it prints, unproved: on the interpreter, then compiled."""
-        framed = b''.join(len(sheet).to_bytes(4, 'little') + sheet for sheet in sheets)
-        (self.place / 'crates' / DRIVER / 'stdin').write_bytes(framed)
-        _, said = self.rt('try', DRIVER, *toolchain)
-        found = [(run[1] or '', run[2] or '') for run in FOUND.finditer(said)]
-        if not found:
-            raise SystemExit(f'the program does not run in {self.place}:\n{said[-1500:]}')
-        return found
+    def write_program(self, folder, modules):
+        folder.mkdir(parents=True)
+        for number, text in enumerate(modules):
+            (folder / f'v{number}.rt').write_text(text, encoding='utf-8')
+        numbers = range(len(modules))
+        text = MAIN.read_text(encoding='utf-8').replace('MODULES', '\n'.join(f'mod v{number};' for number in numbers))
+        text = text.replace('ARMS', '\n'.join(f'        {number} => v{number}::digest(asked),' for number in numbers))
+        (folder / 'main.rt').write_text(text, encoding='utf-8')
 
-    def printed(self, sheet):
-        """What the program prints of a sheet on the interpreter; or how its run ends, if not as it should."""
-        how, text = self.runs([sheet], self.interpreter())[0]
-        return text if ENDED in how else how
+    def attempt(self, program, cases, given):
+        """What a try of the program prints of each case, by its name; or how it ends, if not as it should. The interpreter may
+        have too few steps, and then what is compiled tells alone; else they agree."""
+        words = [*kit.trying(seconds=SECONDS), '--cases', cases, '--crate-name', DRIVER, 'src/main.rt', *given, *kit.of_kit_sources()]
+        done = subprocess.run(words, cwd=program, capture_output=True, text=True, errors='replace', stdin=subprocess.DEVNULL)
+        ends, parts = dict(CASE.findall(done.stderr)), re.split(r'^== (\S+)\n', done.stdout, flags=re.M)[1:]
+        if not ends:
+            raise SystemExit(f'the program does not run in {self.place}:\n{(done.stdout + done.stderr)[-1500:]}')
+        texts = dict(zip(parts[::2], parts[1::2]))
+        return {name: texts.get(name, '') if ENDED.match(how) else how for name, how in ends.items()}
 
-    def printed_to_the_end(self, sheet):
-        """What the program without an edit prints on the interpreter; the script ends where its run does not."""
-        text = self.printed(sheet)
-        if not text.startswith('"'):
-            raise SystemExit(f'the program without an edit does not end in {self.place}: {text or "nothing is printed"}')
+
+def renamed(text, names):
+    """A text of code in which paths begin with other crates' names."""
+    if not names:
         return text
-
-    def printed_before(self, sheets):
-        """What the program without an edit prints of each of these, by their names. The interpreter has steps for one or
-        two, so it must agree as far as it comes, and what is compiled tells the others; else the script ends."""
-        before, names = {}, sorted(sheets)
-        for at in range(0, len(names), SHOWN):
-            some = names[at:at + SHOWN]
-            (_, first), (how, text), *_ = *self.runs([sheets[name] for name in some]), ('', ''), ('', '')
-            numbers = numbers_in(text)
-            if ENDED not in how or len(numbers) != len(some) or numbers_in(first)[:1] != numbers[:1]:
-                raise SystemExit(f'the program without an edit does not tell of each sheet in {self.place}: {first}, then {text}')
-            before |= {name: f'" {number}\\n"' for name, number in zip(some, numbers)}
-        return before
+    return re.sub(rf'(?<![\w:.])({"|".join(names)})(?=::)', lambda found: names[found[1]], text)
 
 
-def numbers_in(text):
-    """The numbers that a program printed, as `rt try` shows them."""
-    return text.strip('"').replace('\\n', '').split()
+def framed(variant, asked):
+    """What is asked of a variant, as the program takes it."""
+    return (len(asked) + 1).to_bytes(4, 'little') + bytes([variant]) + asked

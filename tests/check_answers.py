@@ -27,6 +27,7 @@ one within its limits. Standard error tells how far it is.
 import argparse
 import re
 import sys
+import tempfile
 import time
 from pathlib import Path
 from queue import Empty, SimpleQueue
@@ -134,7 +135,7 @@ def arguments():
     parser = argparse.ArgumentParser(description=__doc__, formatter_class=argparse.RawDescriptionHelpFormatter)
     parser.add_argument('answers', nargs='+')
     parser.add_argument('--crates', default='crates', type=Path, help='the folder of crates')
-    parser.add_argument('--room', default='target/answers', type=Path, help='the scratch folder')
+    parser.add_argument('--room', type=Path, help='the scratch folder; a new one, which goes again, if none is named')
     parser.add_argument('--outcome', action='store_true', help='compute `outcome`, twice for each answer')
     parser.add_argument('--names', default='', help='take only answers and calls whose names fit this pattern')
     parser.add_argument('--processes', default=2, type=int, help='checkers at a time')
@@ -147,7 +148,9 @@ def main():
     asked = all_asked(given.answers, given.names, given.outcome)
     if not asked:
         sys.exit('there are no such answers')
-    wrong, large = check(asked, given.crates.resolve(), given.room.resolve(), given.processes, given.first)
+    with tempfile.TemporaryDirectory(prefix='answers-') as made:
+        room = given.room or Path(made)
+        wrong, large = check(asked, given.crates.resolve(), room.resolve(), given.processes, given.first)
     for name, why in sorted(large.items()):
         print(f'not computed: {name}: {why}')
     for name, why in sorted(wrong.items()):

@@ -12,25 +12,25 @@ from rooms import CHECKS, Room, refused
 LAWS, MODULE = 'laws', 'Demands/Strings'
 STRING = 'string '
 FIELD = re.compile(r'^  pub (\w+) : (?:(Yes|No) (\([^)]*\)|\w+) (.*)|Empty (.*))$', re.M)
-SAID = re.compile(rf'{re.escape(CHECKS)}:\d+:\d+: (?!note)')   # of the contrary: that it is not proved
-OPENED = 'find eraseBlock eraseElement eraseLeaf quantified'
-HEAD = """use mathlib.Core.Path.{{refl}}
-use mathlib.Core.List.{{[], _∷_}}
-use Rattle·language.specs.Shape.{{tokenSymbol, unknownSymbol, otherSymbol, quantified, eraseLeaf, eraseElement, eraseBlock, find}}
-use Rattle·laws·specs.specs.Demands.Strings.{{{names}}}
+SAID = re.compile(rf'{re.escape(CHECKS)}:\d+:\d+: error: ')   # of the contrary: that it is not proved
+OPENED = 'find erase_block erase_element erase_leaf quantified'
+HEAD = """use Rattle.std.specs.Prelude.{{[], ◌∷◌}}
+use Rattle.std.proofs.Math.Path.{{refl}}
+use Rattle.language.specs.Shape.{{token_symbol, unknown_symbol, other_symbol, quantified, erase_leaf, erase_element, erase_block, find}}
+use Rattle.laws.specs.Demands.Strings.{{{names}}}
 """
-BY_TREE = """use Rattle·language.specs.Derive.{d-eps, d-symbol, d-call, d-unknown, d-seq, d-left, d-right}
-use Rattle·language.specs.Derive.{d-absent, d-present, d-none, d-more, d-some}
+BY_TREE = """use Rattle.language.specs.Derive.{d_eps, d_symbol, d_call, d_unknown, d_seq, d_left, d_right}
+use Rattle.language.specs.Derive.{d_absent, d_present, d_none, d_more, d_some}
 """
-BY_TEST = """use Rattle·laws·specs.specs.Derivation.Could.{could, failed}
+BY_TEST = """use Rattle.laws.specs.Derivation.Could.{could, failed}
 """
-BY_MARKS = """use mathlib.Core.Path.{_≡_}
-use mathlib.Core.Bool.{true, false≢true}
-use Rattle·grammar.specs.Lists.{all}
-use Rattle·language.specs.Shape.{endSymbol, isMark, Word}
+BY_MARKS = """use Rattle.std.specs.Prelude.{◌≡◌, true}
+use Rattle.std.proofs.Math.Bool.{false≢true}
+use Rattle.grammar.specs.Lists.{all}
+use Rattle.language.specs.Shape.{end_symbol, is_mark, Word}
 """
 NO_MARK = '\n'.join(f'full ({symbol} ∷ w) m = absurd (false≢true m)' for symbol in
-                    ('tokenSymbol n', 'unknownSymbol n', 'otherSymbol c', 'endSymbol'))
+                    ('token_symbol n', 'unknown_symbol n', 'other_symbol c', 'end_symbol'))
 
 
 def strings(folder):
@@ -45,9 +45,9 @@ def contrary(string, tree, names):
     is_derived, grammar, word = string
     head = HEAD.format(names=', '.join(names))
     if not word:
-        return (f'{head}{BY_TEST}{BY_MARKS}\nfull : (w : Word) → all isMark w ≡ true → No {grammar} w\n'
-                f'unfolding {OPENED} could all isMark\nfull [] m = failed {grammar} [] refl refl\n{NO_MARK}\n\n'
-                f'a0 : Empty {grammar} → ⊥\na0 x = full (x .word) (x .marks) (x .derives)\n')
+        return (f'{head}{BY_TEST}{BY_MARKS}\nfull : (w : Word) → all is_mark w ≡ true → No {grammar} w\n'
+                f'unfolding {OPENED} could all is_mark\nfull [] m = failed {grammar} [] refl refl\n{NO_MARK}\n\n'
+                f'a0 : Empty {grammar} → ⊥\na0 x = full x.word x.marks x.derives\n')
     if is_derived:
         return f'{head}{BY_TEST}\na0 : No {grammar} {word}\nunfolding {OPENED} could\na0 = failed {grammar} {word} refl refl\n'
     return f'{head}{BY_TREE}\na0 : Yes {grammar} {word}\nunfolding {OPENED}\na0 = record {{ body = _; found = refl; tree = {tree} }}\n'
@@ -56,13 +56,9 @@ def contrary(string, tree, names):
 class Derivations(Room):
     """The crate of laws and those below it, which are checked in its own runs."""
 
-    def __init__(self, place, crates, built):
-        below = crates.reached(LAWS)[:-1]
-        super().__init__(place, crates, [*below, LAWS], built)
-        self.words[LAWS] = [word for name in below
-                            for word in ('--lib', f'{name}:{",".join(crates.uses[name])}=crates/{name}/src/lib.rt')]
-        self.list(**{LAWS: ''})
-        self.kept = self.warm(LAWS, crates.reached(LAWS))
+    def __init__(self, place, crates):
+        super().__init__(place, crates, crates.reached(LAWS))
+        self.kept = self.warm(LAWS)
         text = (crates.folder / LAWS / f'specs/{MODULE}.antt').read_text(encoding='utf-8')
         self.stated = re.findall(r'^abbrev pub (\S+)', text, re.M)
 
@@ -77,7 +73,7 @@ class Derivations(Room):
         library = self.place / 'crates' / LAWS / 'specs/Lib.antt'
         library.write_text(library.read_text(encoding='utf-8') + 'pub mod Checks\n', encoding='utf-8')
         self.make(edit)
-        status, said = self.dev(LAWS)
+        status, said = self.check(LAWS)
         self.undo()
         self.kept.restore()
         where, why = refused(LAWS, status, said)

@@ -13,9 +13,12 @@
     old: TEXT           which stands there once; a text of more lines has an `old:` for each
     new: TEXT           as many lines
 
-An edit stands in a folder named like its crate. Those of one line are the form that `rt must-fail` takes.
+An edit stands in a folder named like its crate. Those of one line are the form that `rt must-fail` takes: a copy of them may stand
+in the crate's must-fail.
 """
 import re
+
+import kit
 
 ALONE = 'answers'
 ASKED = 'asked'
@@ -104,20 +107,12 @@ class Crates:
     """The crates of a repository and what each uses, as its crates.txt has them."""
 
     def __init__(self, folder):
-        self.folder, self.uses = folder, {}
-        for line in (folder.parent / 'crates.txt').read_text(encoding='utf-8').splitlines():
-            name, colon, uses = line.partition('#')[0].partition(':')
-            if colon:
-                self.uses[name.strip()] = uses.split()
+        self.folder = folder
+        self.uses = kit.uses((folder.parent / 'crates.txt').read_text(encoding='utf-8'))
 
     def reached(self, name):
         """A crate and all of the repository that it uses, itself last."""
-        if name not in self.uses:
-            return []
-        found = []
-        for used in self.uses[name]:
-            found += [inner for inner in self.reached(used) if inner not in found]
-        return found + [name]
+        return [*kit.below(self.uses, name), name] if name in self.uses else []
 
     def needed(self, some, program):
         """The crates that edits change and those that a program's text names, with all that these use."""
@@ -128,3 +123,8 @@ class Crates:
     def must_fail(self):
         """The edits that `rt ci` tries by itself, as paths."""
         return sorted(path for name in self.uses for path in (self.folder / name / 'must-fail').glob('*'))
+
+    def copies(self, edit):
+        """Those of them that are an edit of tests/wrong, to the last byte."""
+        path = self.folder / edit.crate / 'must-fail' / edit.path.name
+        return [path] if path.is_file() and path.read_bytes() == edit.path.read_bytes() else []

@@ -46,7 +46,8 @@ class Sources:
 
     def __init__(self, name="pass", root=ROOT):
         read = lambda path: path.read_text(encoding="utf-8")
-        own = sorted((root / "crates" / name / "src").glob("*.rt"))
+        # what a library exports to C stands in a crate of its own, over it
+        own = [path for crate in (name, f"{name}_c") for path in sorted((root / "crates" / crate / "src").glob("*.rt"))]
         shared = [root / "crates" / "words" / "src" / "numbers.rt", root / "crates" / "reach" / "src" / "rows.rt"]
         self.crates = [read(path) for path in [*shared, *own]]
         self.specification = read(root / "docs" / "SPECIFICATION.md")

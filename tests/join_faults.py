@@ -132,7 +132,7 @@ def scripts_through_links(program, folder, made):
     alone = {"PATH": "/usr/bin:/bin"}
     require(not any(shutil.which(tool, path=alone["PATH"]) for tool in ("rt", "cargo")), "they are beside the common tools")
     refused, case = written(made, "refused.sheet", bytes(32)), ROOT / "examples/case-1.sheet"
-    for name, built in (("join", ROOT / "rust/target/release/join"), ("listing", ROOT / "target/bin/listing")):
+    for name, built in (("join", ROOT / "rust/target/release/join"), ("listing", ROOT / "crates/listing/out/listing")):
         if not built.exists():
             continue
         link = made / name

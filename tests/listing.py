@@ -7,7 +7,7 @@
 - A directory, an input or output that is closed, and a full disk: a message on standard error and the status 3.
 - The script by a link, from another folder and with no prover on the path; its help; words that it does not know.
 
-usage: listing.py [PROGRAM SCRIPT]   (target/bin/listing and ./listing if none is named)
+usage: listing.py [PROGRAM SCRIPT]   (crates/listing/out/listing, as rt ci leaves it, and ./listing if none is named)
 """
 
 import os
@@ -155,7 +155,7 @@ def of_uses(script, folder):
 
 
 def main():
-    named = sys.argv[1:] or [str(ROOT / "target" / "bin" / "listing"), str(ROOT / "listing")]
+    named = sys.argv[1:] or [str(ROOT / "crates" / "listing" / "out" / "listing"), str(ROOT / "listing")]
     if len(named) != 2 or not all(os.access(it, os.X_OK) for it in named):
         print("usage: listing.py [PROGRAM SCRIPT]")
         return 2

@@ -1,6 +1,6 @@
 #!/usr/bin/env python3
 """Shows tools/archives making an archive where it is missing, made of other sources or not the one that was made, and only there;
-and dist/ taken, written and held to what is proved."""
+over what `rt ci` proved of a copy of the crates below it, or in a folder that is named."""
 
 import hashlib
 import os
@@ -10,20 +10,41 @@ import subprocess
 import tempfile
 import unittest
 
-TOOLS = pathlib.Path(__file__).resolve().parent.parent / "tools"
-# Says what the prover says, writes the archive, and keeps a line of each call.
+ROOT = pathlib.Path(__file__).resolve().parent.parent
+# Says what `rt` says, builds the libraries of a copy, and keeps a line of each proof: the crates.
 RT = """#!/bin/sh
 case $1 in
 version) cat "$ROOM/kit" ;;
-staticlib)
-    echo "$2" >>"$ROOM/calls"
-    echo "rt: lower proved (unchanged since it was last proved)"
-    echo "rt: middle proved (3 s)"
-    if [ -f "$ROOM/refuse" ]; then echo "crates/$2/src/lib.rt:1:1: error: not so"; exit 1; fi
-    echo "$2 made by $(cat "$ROOM/kit")" >"target/staticlib/lib$2.a" ;;
+doc) echo "$ROOM/home/START-HERE.md" ;;
+ci)
+    sed 's/[ :].*//' crates.txt | paste -sd ' ' >>"$ROOM/proofs"
+    echo "rt: lower is kept: an earlier run on this machine proved the same files over the same libraries"
+    echo "rt: middle proved"
+    if [ -f "$ROOM/refuse" ]; then echo "crates/lower/src/lib.rt:1:1: error: not so"; exit 1; fi
+    for crate in crates/*; do mkdir -p "$crate/out/rlib"; done
+    echo "3 passed, 0 failed" ;;
 esac
 """
-CRATES = "# names\nlower:\nmiddle: lower\nupper: lower middle io\nother:\nfacts:\npass:\nplans:\nsheet:\n"
+# Builds a static library over libraries that are there, and keeps its name.
+RATTLE = """#!/bin/sh
+for to; do :; done
+echo "$3" >>"$ROOM/builds"
+[ -d ../lower/out/rlib ] || { echo "error: no library"; exit 1; }
+echo "logic=proved functions=1 $(cat "$ROOM/words" 2>/dev/null) sum=0"
+echo "$3 made by $(cat "$ROOM/kit")" >"$to"
+"""
+CRATES = """# names
+lower:
+middle: lower  # the second
+upper: lower middle
+upper_c staticlib: lower middle upper
+other:
+other_c staticlib: lower other
+facts_c staticlib: lower
+pass_c staticlib: lower
+plans_c staticlib: lower
+sheet_c staticlib: lower
+"""
 SHIPPED = ["facts", "pass", "plans", "sheet"]
 
 
@@ -40,20 +61,29 @@ class Room(unittest.TestCase):
         self.addCleanup(made.cleanup)
         self.room = pathlib.Path(made.name)
         self.root = self.room / "root"
-        (self.root / "tools").mkdir(parents=True)
-        (self.root / "crates" / "lower" / "src").mkdir(parents=True)
-        (self.root / "crates" / "lower" / "must-fail").mkdir()
-        (self.root / "crates.txt").write_text(CRATES)
+        self.write("crates.txt", CRATES)
+        for line in CRATES.splitlines()[1:]:
+            self.write(f"crates/{line.split()[0].rstrip(':')}/src/lib.rt", "fn f() {}\n")
+        self.write("crates/lower/out/old.rt", "fn old() {}\n")
         self.source = self.root / "crates" / "lower" / "src" / "lib.rt"
-        self.source.write_text("fn f() {}\n")
-        for name in ("archives", "dist"):
-            shutil.copy(TOOLS / name, self.root / "tools")
+        for name in ("tools/archives", "tools/proved", "tools/dist", "tests/kit.py"):
+            self.write(name, "")
+            shutil.copy(ROOT / name, self.root / name)
         self.folder = self.root / "target" / "staticlib"
-        (self.room / "bin").mkdir()
-        rt = self.room / "bin" / "rt"
-        rt.write_text(RT)
-        rt.chmod(0o755)
+        self.program("bin/rt", RT)
+        self.program("home/bin/rattle", RATTLE)
         (self.room / "kit").write_text("kit 1\n")
+
+    def write(self, name, text):
+        file = self.root / name
+        file.parent.mkdir(parents=True, exist_ok=True)
+        file.write_text(text)
+
+    def program(self, name, text):
+        file = self.room / name
+        file.parent.mkdir(parents=True, exist_ok=True)
+        file.write_text(text)
+        file.chmod(0o755)
 
     def run_tool(self, *names, tool="archives", path=None):
         path = path or f"{self.room / 'bin'}:{os.environ['PATH']}"
@@ -61,12 +91,17 @@ class Room(unittest.TestCase):
         return subprocess.run(words, env={**os.environ, "PATH": path, "ROOM": str(self.room)}, cwd="/", capture_output=True, text=True)
 
     def made(self, *names):
-        """The archives that a run makes."""
-        calls = self.room / "calls"
+        """The archives that a run makes, each of its crate."""
+        calls = self.room / "builds"
         calls.unlink(missing_ok=True)
         said = self.run_tool(*names)
-        self.assertEqual((said.returncode, said.stdout), (0, ""))
-        return calls.read_text().split() if calls.exists() else []
+        self.assertEqual((said.returncode, said.stdout), (0, ""), said.stderr)
+        return calls.read_text().replace("_c", "").split() if calls.exists() else []
+
+    def proofs(self):
+        """The crates of each proof so far."""
+        calls = self.room / "proofs"
+        return calls.read_text().splitlines() if calls.exists() else []
 
     def record(self):
         return (self.folder / "PROVENANCE").read_text().splitlines()
@@ -78,20 +113,52 @@ class Made(Room):
         self.assertEqual(self.made("upper", "other"), [])
         (self.folder / "libupper.a").unlink()
         self.assertEqual(self.made("other", "upper"), ["upper"])
+        self.assertEqual(self.proofs(), ["lower middle upper upper_c other other_c", "lower middle upper upper_c"])
+
+    def test_over_a_copy(self):
+        """What stands in crates/*/out here is not taken, and not touched."""
+        self.program("home/bin/rattle", RATTLE + '[ ! -e ../lower/out/old.rt ] || exit 1\n[ ! -e ../../target ] || exit 1\n')
+        self.write("crates/lower/must-fail/one.edit", "file: src/lib.rt\n")
+        self.assertEqual(self.made("upper"), ["upper"])
+        self.assertFalse((self.root / "crates/lower/out/rlib").exists())
+
+    def test_copy_of_all_crates(self):
+        self.write("HANDLES", "Handles allowed: none.\n")
+        self.write("crates/other/stdin", "a\n")
+        copy = self.room / "copy"
+        said = self.run_tool(str(copy), tool="proved")
+        self.assertEqual((said.returncode, said.stdout), (0, ""), said.stderr)
+        names = [line.split()[0].rstrip(":") for line in CRATES.splitlines()[1:]]
+        self.assertEqual(self.proofs(), [" ".join(names)])
+        files = {path.relative_to(copy).as_posix() for path in copy.rglob("*") if path.is_file()}
+        self.assertEqual(files, {"HANDLES", "crates.txt", "proof.log", "crates/other/stdin", *(f"crates/{name}/src/lib.rt" for name in names)})
+        self.assertEqual(self.run_tool(tool="proved").returncode, 2)
+
+    def test_over_what_was_proved_in_a_folder(self):
+        said = self.run_tool("--proved", ".", "upper")
+        self.assertEqual((said.returncode, self.proofs()), (1, []))
+        self.assertIn("error: no library\n", said.stderr)
+        (self.root / "crates/lower/out/rlib").mkdir()
+        self.assertEqual(self.made("--proved", str(self.root), "upper"), ["upper"])
+        self.assertEqual(self.made("--prove", "upper"), [])
+        self.assertEqual(self.proofs(), [])
+        self.assertEqual(self.record()[0], "# made here")
 
     def test_other_bytes(self):
         self.made("upper", "other")
         (self.folder / "libupper.a").write_text("a stub\n")
         self.assertEqual(self.made("upper", "other"), ["upper"])
-        self.assertEqual((self.folder / "libupper.a").read_text(), "upper made by kit 1\n")
+        self.assertEqual((self.folder / "libupper.a").read_text(), "upper_c made by kit 1\n")
 
     def test_record(self):
         self.made("upper")
         self.made("other", "upper")
-        digest = lambda name: hashlib.sha256(f"{name} made by kit 1\n".encode()).hexdigest()
+        digest = lambda name: hashlib.sha256(f"{name}_c made by kit 1\n".encode()).hexdigest()
         sources = self.run_tool("--sources").stdout.strip()
         head = ["# made here", f"# sources {sources}", "# kit kit 1"]
         self.assertEqual(self.record(), [*head, f"{digest('other')}  libother.a", f"{digest('upper')}  libupper.a"])
+        self.write("crates/lower/out/old.rt", "fn older() {}\n")
+        self.assertEqual(self.run_tool("--sources").stdout.strip(), sources)
         self.source.write_text("fn g() {}\n")
         self.made("upper")
         self.assertEqual(len(self.record()), 4)
@@ -107,20 +174,20 @@ class Made(Room):
         for change in (
             lambda: self.source.write_text("fn g() {}\n"),
             lambda: (self.source.parent / "more.rt").write_text(""),
-            lambda: (self.root / "crates.txt").write_text(CRATES.replace("other:", "other: lower")),
+            lambda: self.write("crates.txt", CRATES.replace("other:", "other: lower")),
             lambda: (self.room / "kit").write_text("kit 2\n"),
         ):
             self.made("upper")
             change()
             self.assertEqual(self.made("upper"), ["upper"])
-        (self.root / "crates" / "lower" / "must-fail" / "one.edit").write_text("file: src/lib.rt\n")
+        self.write("crates/lower/must-fail/one.edit", "file: src/lib.rt\n")
         self.assertEqual(self.made("upper"), [])
 
     def test_what_is_said(self):
         said = self.run_tool("upper").stderr
-        self.assertIn("archives: upper: proving the 3 crates of target/staticlib/libupper.a, and building it\n", said)
-        self.assertRegex(said, r"\narchives: upper: \d+ s, 2 of 3 crates: middle proved \(3 s\)\n")
-        self.assertRegex(said, r"\narchives: upper: target/staticlib/libupper.a made \(\d+ s\)\n$")
+        self.assertIn("proved: proving 4 crates\n", said)
+        self.assertRegex(said, r"\nproved: \d+ s, 2 of 4 crates: middle proved\n")
+        self.assertRegex(said, r"\nproved: proved \(\d+ s\)\narchives: upper: target/staticlib/libupper.a made \(\d+ s\)\n$")
         self.assertEqual(self.run_tool("upper").stderr, "")
 
     def test_refused(self):
@@ -129,128 +196,35 @@ class Made(Room):
         (self.room / "refuse").write_text("")
         said = self.run_tool("upper", "other")
         self.assertEqual(said.returncode, 1)
-        self.assertIn("crates/upper/src/lib.rt:1:1: error: not so\n", said.stderr)
-        self.assertRegex(said.stderr, r"archives: upper: NOT MADE \(\d+ s; target/staticlib/upper.log has all that was said\)\n$")
+        self.assertIn("crates/lower/src/lib.rt:1:1: error: not so\n", said.stderr)
+        self.assertRegex(said.stderr, r"proved: NOT PROVED \(\d+ s\)\narchives: NOT PROVED \(target/staticlib/proof.log has all that was said\)\n$")
+        self.assertIn("error: not so\n", (self.folder / "proof.log").read_text())
         # what was made before does not count
         (self.room / "refuse").unlink()
         self.assertEqual(self.made("upper"), ["upper"])
 
+    def test_rests_on_axioms(self):
+        for words, status in (("axioms=0", 0), ("axioms=2", 1), ("foreign=upper::f", 1)):
+            self.source.write_text(f"fn f() {{}} // {words}\n")
+            (self.room / "words").write_text(words)
+            said = self.run_tool("upper")
+            self.assertEqual((said.returncode, (self.folder / "libupper.a").exists()), (status, status == 0), said.stderr)
+        self.assertRegex(said.stderr, r"archives: upper: NOT MADE \(\d+ s; target/staticlib/upper.log has all that was said\)\n$")
+
     def test_changed_meanwhile(self):
-        rt = self.room / "bin" / "rt"
-        rt.write_text(RT.replace("staticlib)", f"staticlib)\n    echo >>{self.source}"))
+        self.program("bin/rt", RT.replace("ci)", f"ci)\n    echo >>{self.source}"))
         said = self.run_tool("upper")
         self.assertEqual(said.returncode, 1)
         self.assertIn("archives: upper: NOT MADE: the sources were changed meanwhile\n", said.stderr)
-        rt.write_text(RT)
+        self.program("bin/rt", RT)
         self.assertEqual(self.made("upper"), ["upper"])
 
     def test_wrong_words(self):
-        for words in ([], ["--prove"], ["--other", "upper"]):
+        for words in ([], ["--prove"], ["--other", "upper"], ["--proved", "upper"]):
             self.assertEqual(self.run_tool(*words).returncode, 2)
-        said = self.run_tool("none")
-        self.assertEqual((said.returncode, said.stderr), (1, "archives: none: crates.txt has no such crate\n"))
-
-
-class Shipped(Room):
-    """dist/, made by kit 1 of the sources as they stand."""
-
-    def setUp(self):
-        super().setUp()
-        self.dist = self.root / "dist"
-        self.assertEqual(self.run_tool(tool="dist").returncode, 0)
-        shutil.rmtree(self.folder)
-
-    def test_written(self):
-        lines = (self.dist / "DIGESTS").read_text().splitlines()
-        self.assertEqual([line.split()[-1] for line in lines[2:]], [f"lib{name}.a" for name in SHIPPED])
-        self.assertEqual(lines[:2], [f"# sources {self.run_tool('--sources').stdout.strip()}", "# kit kit 1"])
-        self.assertEqual(subprocess.run(["sha256sum", "--check", "--strict", "--status", "DIGESTS"], cwd=self.dist).returncode, 0)
-
-    def test_taken(self):
-        for path in (None, without_rt()):
-            said = self.run_tool(*SHIPPED, path=path)
-            self.assertEqual(said.returncode, 0)
-            self.assertIn("taken from dist/, which was made of these sources by kit 1; not proved on this machine\n", said.stderr)
-            self.assertEqual(self.record(), ["# made dist", *(self.dist / "DIGESTS").read_text().splitlines()])
-            for name in SHIPPED:
-                self.assertEqual((self.folder / f"lib{name}.a").read_text(), f"{name} made by kit 1\n")
-            said = self.run_tool(*SHIPPED, path=path)
-            self.assertEqual((said.returncode, said.stderr), (0, ""))
-            shutil.rmtree(self.folder)
-        # a newer kit takes it too
-        (self.room / "kit").write_text("kit 2\n")
-        self.assertEqual(self.made(*SHIPPED), [])
-
-    def test_not_taken(self):
-        stub = lambda: (self.dist / "libpass.a").write_text("a stub\n")
-        sources = lambda: self.source.write_text("fn g() {}\n")
-        missing = lambda: (self.dist / "DIGESTS").unlink()
-        for change in (stub, sources, missing):
-            change()
-            said = self.run_tool("--at-hand", *SHIPPED)
-            self.assertEqual((said.returncode, said.stderr), (3, ""))
-            self.assertEqual(self.made(*SHIPPED), SHIPPED)
-            self.assertEqual(self.record()[0], "# made here")
-            shutil.rmtree(self.folder)
-            self.run_tool(tool="dist")
-            shutil.rmtree(self.folder)
-
-    def test_proved_where_asked(self):
-        self.assertEqual(self.made(*SHIPPED), [])
-        self.assertEqual(self.made("--prove", *SHIPPED), SHIPPED)
-        self.assertEqual(self.made("--prove", *SHIPPED), [])
-        self.assertEqual(self.made(*SHIPPED), [])
-        self.assertEqual(self.record()[0], "# made here")
-
-    def test_both_do_not_mix(self):
-        self.made("pass")
-        self.assertEqual(self.record()[0], "# made dist")
-        self.assertEqual(self.made("pass", "upper"), ["pass", "upper"])
-        self.assertEqual(self.record()[0], "# made here")
-        self.assertEqual(self.made("pass", "facts"), [])
-        self.assertEqual(self.record()[0], "# made dist")
-
-    def held(self):
-        said = self.run_tool("--check", tool="dist")
-        return said.returncode, said.stdout
-
-    def test_held(self):
-        self.assertEqual(self.held(), (0, "dist: byte for byte what kit 1 makes of the proved crates\n"))
-
-    def test_not_held(self):
-        for change, what in (
-            (lambda: self.source.write_text("fn g() {}\n"), "DIGESTS is of other sources than crates/ and crates.txt"),
-            (lambda: (self.dist / "libpass.a").write_text("a stub\n"), "an archive is not the one that DIGESTS names"),
-            (lambda: self.forge("libpass.a", "a stub\n"), "libpass.a is not what kit 1 makes of the proved crates"),
-            (lambda: (self.dist / "libplans.a").unlink(), "an archive is not the one that DIGESTS names"),
-            (lambda: self.write_behind("DIGESTS", "# more\n"), "DIGESTS has other lines than it should have"),
-        ):
-            with self.subTest(what=what):
-                change()
-                self.assertEqual(self.held(), (1, f"dist: NOT UP TO DATE: {what}\ndist: tools/dist brings it up to date\n"))
-                self.assertEqual(self.run_tool(tool="dist").returncode, 0)
-                self.assertEqual(self.held()[0], 0)
-
-    def write_behind(self, name, text):
-        with open(self.dist / name, "a", encoding="utf-8") as file:
-            file.write(text)
-
-    def forge(self, name, text):
-        """Another archive, with its digest in place of the right one."""
-        digest = hashlib.sha256(text.encode()).hexdigest()
-        (self.dist / name).write_text(text)
-        lines = (self.dist / "DIGESTS").read_text().splitlines()
-        lines = [f"{digest}  {name}" if line.endswith(f"  {name}") else line for line in lines]
-        (self.dist / "DIGESTS").write_text("\n".join(lines) + "\n")
-
-    def test_another_kit(self):
-        (self.room / "kit").write_text("kit 2\n")
-        (self.root / "tests").mkdir()
-        compared = self.root / "tests" / "alike.py"
-        for status, last in ((0, ""), (1, "dist: NOT UP TO DATE: it answers otherwise than what is proved here\ndist: tools/dist brings it up to date\n")):
-            compared.write_text(f"import sys\nprint('alike', *sys.argv[1:])\nsys.exit({status})\n")
-            said = "dist: made by kit 1, and here is kit 2: answers are compared, and not bytes\nalike dist target/staticlib\n"
-            self.assertEqual(self.held(), (status, said + last))
+        for name in ("none", "lower"):
+            said = self.run_tool(name)
+            self.assertEqual((said.returncode, said.stderr), (1, f"archives: {name}: crates.txt has no static library {name}_c\n"))
 
 
 if __name__ == "__main__":

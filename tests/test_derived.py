@@ -10,15 +10,15 @@ import edits
 import wrong
 
 STATED = """pub record StringsTold : Type 0 where
-  pub anyTwice : Yes (often 3) (A ∷ A ∷ [])
-  pub callIsNoToken : No tokenOrCall (tokenSymbol 5 ∷ [])
-  pub endlessNothing : (w : Word) → No endless w
-  pub endEmpty : Empty (oftenEnd 0)
+  pub any_twice : Yes (often 3) (A ∷ A ∷ [])
+  pub call_is_no_token : No token_or_call (token_symbol 5 ∷ [])
+  pub endless_nothing : (w : Word) → No endless w
+  pub end_empty : Empty (often_end 0)
 """
 EDIT = """# all tokens are one symbol
 refused: laws/Derivation/From
-shown: string anyTwice
-tree: d-left d-eps
+shown: string any_twice
+tree: d_left d_eps
 file: specs/Shape.antt
 old: a
 new: b
@@ -40,9 +40,9 @@ class Strings(unittest.TestCase):
 
     def test_found_by_their_names(self):
         found = derived.strings(self.root / 'crates')
-        self.assertEqual(found, {'string anyTwice': (True, '(often 3)', '(A ∷ A ∷ [])'),
-                                 'string callIsNoToken': (False, 'tokenOrCall', '(tokenSymbol 5 ∷ [])'),
-                                 'string endEmpty': (True, '(oftenEnd 0)', '')})
+        self.assertEqual(found, {'string any_twice': (True, '(often 3)', '(A ∷ A ∷ [])'),
+                                 'string call_is_no_token': (False, 'token_or_call', '(token_symbol 5 ∷ [])'),
+                                 'string end_empty': (True, '(often_end 0)', '')})
 
     def test_none_where_there_are_no_laws(self):
         self.assertEqual(derived.strings(self.root), {})
@@ -53,25 +53,26 @@ class Strings(unittest.TestCase):
         self.assertIn('Demands.Strings.{often, A}\n', text)
 
     def test_contrary_of_a_string_that_is_not(self):
-        text = derived.contrary((False, 'tokenOrCall', '(B ∷ [])'), 'd-left d-eps', ['tokenOrCall'])
-        self.assertIn('\na0 : Yes tokenOrCall (B ∷ [])\n', text)
-        self.assertIn('tree = d-left d-eps }', text)
+        text = derived.contrary((False, 'token_or_call', '(B ∷ [])'), 'd_left d_eps', ['token_or_call'])
+        self.assertIn('\na0 : Yes token_or_call (B ∷ [])\n', text)
+        self.assertIn('tree = d_left d_eps }', text)
         self.assertNotIn('Could', text)
 
     def test_contrary_of_a_grammar_that_can_be_empty(self):
-        text = derived.contrary((True, '(oftenEnd 0)', ''), '', ['oftenEnd', 'Empty'])
-        self.assertIn('\nfull (endSymbol ∷ w) m = absurd (false≢true m)\n', text)
-        self.assertIn('\na0 : Empty (oftenEnd 0) → ⊥\n', text)
+        text = derived.contrary((True, '(often_end 0)', ''), '', ['often_end', 'Empty'])
+        self.assertIn('\nfull (end_symbol ∷ w) m = absurd (false≢true m)\n', text)
+        self.assertIn('\na0 : Empty (often_end 0) → ⊥\n', text)
 
     def test_an_edit_names_one(self):
         edit = edits.read(self.root / 'wrong')[0]
         named = wrong.Named([], self.root / 'crates')
-        self.assertEqual(edit.tree, 'd-left d-eps')
+        self.assertEqual(edit.tree, 'd_left d_eps')
         self.assertIn(edit.shown, named.of(edit))
 
     def test_what_is_said_of_the_contrary(self):
-        self.assertTrue(derived.SAID.search('crates/laws/specs/Checks.antt:9:56: error: expected `)` here'))
-        self.assertFalse(derived.SAID.search('crates/laws/specs/Checks.antt:9:56: note: large solution'))
+        self.assertTrue(derived.SAID.search('./specs/Checks.antt:9:56: error: expected `)` here'))
+        self.assertFalse(derived.SAID.search('./specs/Checks.antt:9:56: note: large solution'))
+        self.assertFalse(derived.SAID.search('./specs/Checks.antt:3:1: warning: an import that nothing uses'))
 
 
 if __name__ == '__main__':

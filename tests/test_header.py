@@ -16,7 +16,7 @@ impl Sheet {
     pub const MOST_BYTES: usize = 32768;
 }
 """
-ENTRY = """#[no_mangle]
+ENTRY = """#[unsafe(no_mangle)]
 pub extern "C" fn pass(
     sheet: &[u8],
     work: &mut [u8],

@@ -24,9 +24,9 @@ class Tree(unittest.TestCase):
         folder = tempfile.TemporaryDirectory()
         self.addCleanup(folder.cleanup)
         self.root = pathlib.Path(folder.name)
-        self.write('crates.txt', '# crates\nlower:\nupper: lower  # above\napart:\n')
+        self.write('crates.txt', '# crates\nlower:\nupper: lower  # above\napart staticlib:\n')
         self.write('crates/lower/specs/A.antt', 'f : Bool → Bool\nf x = not x\ng x = x\n')
-        self.write('crates/upper/specs/Laws/L.antt', 'f-law : f true ≡ false\n')
+        self.write('crates/upper/specs/Laws/L.antt', 'f_law : f true ≡ false\n')
         self.write('wrong/lower/turned.edit', TEXT)
 
     def write(self, name, text):
@@ -103,16 +103,25 @@ class Fitting(Tree):
     def test_nothing_said(self):
         self.assertEqual(len(self.misfits('# the test is turned round\n')), 1)
 
-    def test_must_fail_holds_links_only(self):
+    def copied(self, text=None, name='turned'):
+        """The path of a copy of the edit in the crate's must-fail, with this text if one is given."""
+        copy = f'crates/lower/must-fail/{name}.edit'
+        self.write(copy, text or (self.root / 'wrong/lower/turned.edit').read_text(encoding='utf-8'))
+        return self.root / copy
+
+    def test_must_fail_holds_copies_only(self):
         crates, edit = edits.Crates(self.root / 'crates'), self.edit('refused: upper/Laws/L', 'refused: lower')
-        link = self.root / 'crates/lower/must-fail/turned.edit'
-        link.parent.mkdir()
-        link.symlink_to(edit.path)
+        copy = self.copied()
         self.assertEqual(list(wrong.strangers(crates, [edit])), [])
-        link.unlink()
+        self.assertEqual(crates.copies(edit), [copy])
+        copy.unlink()
         self.assertEqual(len(list(wrong.strangers(crates, [edit]))), 1, 'a definition that nothing tries')
-        link.write_text(TEXT)
+        self.copied(TEXT)
         self.assertEqual(len(list(wrong.strangers(crates, [edit]))), 2)
+        self.copied(name='again').unlink()
+        self.copied()
+        self.copied(name='again')
+        self.assertEqual(len(list(wrong.strangers(crates, [edit]))), 1, 'a copy under another name')
 
     def test_must_fail_of_a_crate_without_edits_here(self):
         self.write('crates/apart/must-fail/own.edit', TEXT)
@@ -126,9 +135,7 @@ class Fitting(Tree):
 
     def test_must_fail_of_an_edit_refused_above(self):
         crates, edit = edits.Crates(self.root / 'crates'), self.edit()
-        link = self.root / 'crates/lower/must-fail/turned.edit'
-        link.parent.mkdir()
-        link.symlink_to(edit.path)
+        self.copied()
         self.assertEqual(len(list(wrong.strangers(crates, [edit]))), 1)
 
 
@@ -151,14 +158,25 @@ class Units(Tree):
         self.assertEqual(letters, [b'r', b'p', b'\x01'])
 
 
+    def test_those_that_one_program_shows(self):
+        code = TEXT.replace('upper/Laws/L', 'lower').replace('specs/A.antt', 'src/a.rt')
+        for number in range(wrong.MANY + 1):
+            self.write(f'wrong/lower/code{number}.edit', code)
+        self.write('wrong/lower/whole.edit', code.replace('sheet 1', 'pass-7'))
+        trial = wrong.Trial(edits.read(self.root / 'wrong'), None, wrong.Named([]), [], None)
+        found = [[edit.name for edit in batch] for batch in trial.batches()]
+        self.assertEqual([len(batch) for batch in found], [5, 4, 1])
+        self.assertEqual(sorted(sum(found, [])), [*(f'code{number}' for number in range(wrong.MANY + 1)), 'whole'])
+
+
 class Telling(Tree):
     def test_wrong_and_refused(self):
-        line, good = wrong.told(self.edit(), True, 'f-law in crates/upper/specs/L.antt', None)
+        line, good = wrong.told(self.edit(), True, 'f_law in crates/upper/specs/L.antt', None)
         self.assertTrue(good)
-        self.assertTrue(line.endswith('answers sheet 1 otherwise, refused at f-law in crates/upper/specs/L.antt'), line)
+        self.assertTrue(line.endswith('answers sheet 1 otherwise, refused at f_law in crates/upper/specs/L.antt'), line)
 
     def test_refused_but_answers_as_before(self):
-        line, good = wrong.told(self.edit(), False, 'f-law in crates/upper/specs/L.antt', None)
+        line, good = wrong.told(self.edit(), False, 'f_law in crates/upper/specs/L.antt', None)
         self.assertFalse(good)
         self.assertIn('NOT WRONG', line)
 
@@ -179,8 +197,8 @@ class Telling(Tree):
         self.assertEqual(len(found), 1, found)
 
     def test_equal_is_not_taken_for_wrong(self):
-        self.assertTrue(wrong.told(self.edit(), False, 'f-law in L.antt', None, equal=True)[1])
-        self.assertFalse(wrong.told(self.edit(), True, 'f-law in L.antt', None, equal=True)[1])
+        self.assertTrue(wrong.told(self.edit(), False, 'f_law in L.antt', None, equal=True)[1])
+        self.assertFalse(wrong.told(self.edit(), True, 'f_law in L.antt', None, equal=True)[1])
 
 
 class Promised(unittest.TestCase):

@@ -6,8 +6,8 @@
 Each edit of tests/wrong (its form is in edits.py) is tried on copies of the crates. An edited definition is computed on
 the stored answer, the call of `outcome` or the sheet of tests/reading that the edit names, as check_answers.py does, or
 shown wrong by a string that a grammar derives or does not (derived.py); edited code is run, unproved, on the sheet that it
-names, by the program in tests/wrong/driver.txt, or that in pass.txt where the sheet is named for the whole pass. What comes
-out must differ from what the unedited one gives, and the prover must refuse the edit: edited code in its crate, an edited
+names, by the program in tests/wrong/main.txt, which prints the digest in driver.txt, or that in pass.txt where the sheet is named
+for the whole pass. What comes out must differ from what the unedited one gives, and the prover must refuse the edit: edited code in its crate, an edited
 definition at the module of laws that the edit names, which is checked with what it uses alone. An edit that is accepted,
 that is refused at another module, or that answers as before, fails.
 
@@ -16,14 +16,16 @@ must be found to answer as before: a refusal alone shows nothing wrong.
 
 Edits that wait to be asked for (`when: asked`) are tried where they are named, and all of them with --all.
 
-The edits in crates/CRATE/must-fail are links to some of these. `rt ci` sees that they are refused, so here they are
+The edits in crates/CRATE/must-fail are copies of some of these. `rt ci` sees that they are refused, so here they are
 only shown to be wrong.
+
+Edited code is checked over the libraries below its crate as `rt ci` or `rt check` built them in the repository that --built names.
 """
 import argparse
 import queue
 import shutil
 import sys
-import threading
+import tempfile
 from concurrent.futures import ThreadPoolExecutor
 from pathlib import Path
 
@@ -35,7 +37,8 @@ from derived import STRING, Derivations, strings
 
 HERE = Path(__file__).resolve().parent
 DEFINITIONS, PROGRAMS = 'definitions', 'programs'
-ASKED = {'plan': ('driver', b'p'), 'pass': ('pass', b'')}   # the program and its letter, by what a sheet's name begins with
+ASKED = {'plan': ('driver', b'p'), 'pass': ('pass', b'')}   # the digest and its letter, by what a sheet's name begins with
+MANY = 8   # edits that one program shows
 
 
 class Named:
@@ -51,11 +54,11 @@ class Named:
         return self.sheets if edit.is_code() else self.strings if edit.shown.startswith(STRING) else self.answers
 
     def sheet(self, name):
-        """What the program is asked: a letter, for plans where the sheet is named for them, and the sheet."""
+        """What the digest is asked for: a letter, for plans where the sheet is named for them, and the sheet."""
         return self.asked(name)[1] + words.sheet(self.sheets[name].read_text(encoding='utf-8'))
 
     def program(self, edit):
-        """The program that shows an edit of code: that for the whole pass is over more crates."""
+        """The digest that shows an edit of code: that of the whole pass is over more crates."""
         return self.asked(edit.shown)[0] if edit.is_code() else ''
 
     def asked(self, name):
@@ -76,20 +79,28 @@ class Lane:
         self.place, self.trial = place, trial
         self.definitions, self.derivations, self.programs = None, None, {}
 
+    def program(self, name):
+        """The room of a digest."""
+        if name not in self.programs:
+            code = [edit for edit in self.trial.asked if self.trial.named.program(edit) == name]
+            digest = (HERE / f'wrong/{name}.txt').read_text(encoding='utf-8')
+            self.programs[name] = Programs(self.place / name, self.trial.crates, code, self.trial.built, digest)
+        return self.programs[name]
+
+    def differing(self, batch):
+        """Whether each of some edits of code changes what is printed of its sheet."""
+        return self.program(self.trial.named.program(batch[0])).differing(batch, self.trial.named.sheet)
+
     def tried(self, unit):
         trial, program = self.trial, self.trial.named.program(unit[0])
         if program:
-            code = [edit for edit in trial.asked if trial.named.program(edit) == program]
-            driver = (HERE / f'wrong/{program}.txt').read_text(encoding='utf-8')
-            if program not in self.programs:
-                self.programs[program] = Programs(self.place / program, trial.crates, code, trial.built, driver)
-            room = self.programs[program]
-            return room.tried(unit, trial.named.sheet, trial.printed(room, program, code), trial.linked)
+            found = self.program(program).refusals(unit, trial.linked)
+            return [(edit, trial.differs[edit], *where) for edit, *where in found]
         if unit[0].shown.startswith(STRING):
-            self.derivations = self.derivations or Derivations(self.place / 'derivations', trial.crates, trial.built)
+            self.derivations = self.derivations or Derivations(self.place / 'derivations', trial.crates)
             return self.derivations.tried(unit, trial.named.strings)
         defined = [edit for edit in trial.asked if not (edit.is_code() or edit.shown.startswith(STRING))]
-        self.definitions = self.definitions or Definitions(self.place / 'definitions', trial.crates, defined, trial.built)
+        self.definitions = self.definitions or Definitions(self.place / 'definitions', trial.crates, defined)
         return [(edit, differs, trial.by_gate(edit) or where, why)
                 for edit, differs, where, why in self.definitions.tried(unit, trial.named.answers)]
 
@@ -99,34 +110,37 @@ class Lane:
 
 
 class Trial:
-    """Edits tried in lanes, those together that are refused at the same place."""
+    """Edits tried in lanes: those of code together that one program shows, then all together that are refused at the same place."""
 
     def __init__(self, asked, crates, named, linked, built):
         self.asked, self.crates, self.named, self.linked, self.built = asked, crates, named, linked, built
-        self.before, self.one, self.free = {}, threading.Lock(), queue.Queue()
-
-    def printed(self, room, program, code):
-        """What a program prints without an edit of all sheets that edits of code name; asked once for all lanes."""
-        with self.one:
-            if program not in self.before:
-                self.before[program] = room.printed_before({edit.shown: self.named.sheet(edit.shown) for edit in code})
-        return self.before[program]
+        self.differs, self.free = {}, queue.Queue()
 
     def by_gate(self, edit):
         return f'{edit.crate}/must-fail, by rt ci' if edit in self.linked else None
 
+    def batches(self):
+        """The edits of code, in lists that one program shows."""
+        found = {}
+        for edit in self.asked:
+            found.setdefault(self.named.program(edit), []).append(edit)
+        for program, edits in found.items():
+            parts = -(-len(edits) // MANY) if program else 0
+            yield from (edits[at::parts] for at in range(parts))
+
     def units(self):
-        """Edits of code by their crate and program, since they take longer, then definitions; the large units first."""
+        """Edits of code by their crate and digest, since they take longer, then definitions; the large units first."""
         found = {}
         for edit in self.asked:
             key = self.named.program(edit), edit.crate, edit.refused, edit.module, edit.shown.startswith(STRING)
             found.setdefault(key, []).append(edit)
         return sorted(found.values(), key=lambda unit: (unit[0].is_code(), len(unit)), reverse=True)
 
-    def of(self, unit):
+    def of(self, task, *given):
+        """What a lane that is free finds by one of its tasks."""
         lane = self.free.get()
         try:
-            return lane.tried(unit)
+            return task(lane, *given)
         finally:
             self.free.put(lane)
 
@@ -136,7 +150,9 @@ class Trial:
         for lane in lanes:
             self.free.put(lane)
         with ThreadPoolExecutor(at_once) as pool:
-            for found in pool.map(self.of, self.units()):
+            for found in pool.map(lambda batch: self.of(Lane.differing, batch), self.batches()):
+                self.differs.update(found)
+            for found in pool.map(lambda unit: self.of(Lane.tried, unit), self.units()):
                 yield from found
             for _ in pool.map(Lane.end, lanes):
                 pass
@@ -158,17 +174,16 @@ def told(edit, differs, where, why, equal=False):
 
 
 def strangers(crates, every):
-    """What stands in a crate's must-fail and is no link to an edit that this crate must refuse; and which definition must be
-    refused by its own crate and has no link there."""
-    good = {edit.path.resolve(): edit for edit in every if edit.refused == edit.crate}
+    """What stands in a crate's must-fail and is no copy of an edit that this crate must refuse; and which definition must be
+    refused by its own crate and has no copy there."""
+    good = [edit for edit in every if edit.refused == edit.crate]
+    copies = [path for edit in good for path in crates.copies(edit)]
     for path in crates.must_fail():
-        edit = good.get(path.resolve())
-        if not edit or edit.crate != path.parent.parent.name:
-            yield f'{path.relative_to(crates.folder)}: it is no link to an edit of tests/wrong that this crate refuses'
-    links = [path.resolve() for path in crates.must_fail()]
-    for edit in good.values():
-        if not edit.is_code() and edit.path.resolve() not in links:
-            yield f'{edit}: refused: {edit.crate}, which `rt ci` has no link to try; name a module of laws'
+        if path not in copies:
+            yield f'{path.relative_to(crates.folder)}: it is no copy of an edit of tests/wrong that this crate refuses'
+    for edit in good:
+        if not edit.is_code() and not crates.copies(edit):
+            yield f'{edit}: refused: {edit.crate}, which `rt ci` has no copy of to try; name a module of laws'
 
 
 def arguments():
@@ -179,8 +194,8 @@ def arguments():
     parser.add_argument('--lanes', default=2, type=int, help='how many are tried side by side')
     parser.add_argument('--crates', default=HERE.parent / 'crates', type=Path, help='the folder of crates')
     parser.add_argument('--answers', default=HERE.parent / 'harness/answers', type=Path, help='the stored answers')
-    parser.add_argument('--built', default=HERE.parent / 'target', type=Path, help="what rt built of the crates, if it did")
-    parser.add_argument('--room', default=HERE.parent / 'target/wrong', type=Path, help='the scratch folder')
+    parser.add_argument('--built', default=HERE.parent, type=Path, help='the repository in which the crates are built')
+    parser.add_argument('--room', type=Path, help='the scratch folder; a new one, which goes again, if none is named')
     parser.add_argument('--fits', action='store_true', help='see only whether the edits fit the crates')
     return parser.parse_args()
 
@@ -212,14 +227,14 @@ def main():
     if given.fits or not wrong + equal:
         print(f'{len(wrong)} edits fit, and {len(equal)} equal ones')
         return 0 if given.fits else 1
-    room, failed = given.room.resolve(), 0
-    shutil.rmtree(room, ignore_errors=True)
-    links = [path.resolve() for path in crates.must_fail()]
-    linked = [edit for edit in wrong if edit.path.resolve() in links]
-    for edit, *found in Trial(wrong + equal, crates, named, linked, given.built.resolve()).run(room, given.lanes):
-        line, good = told(edit, *found, equal=edit in equal)
-        print(line, flush=True)
-        failed += not good
+    linked, failed = [edit for edit in wrong if crates.copies(edit)], 0
+    with tempfile.TemporaryDirectory(prefix='wrong-') as made:
+        room = (given.room or Path(made)).resolve()
+        shutil.rmtree(room, ignore_errors=True)
+        for edit, *found in Trial(wrong + equal, crates, named, linked, given.built.resolve()).run(room, given.lanes):
+            line, good = told(edit, *found, equal=edit in equal)
+            print(line, flush=True)
+            failed += not good
     print(f'{len(wrong + equal) - failed} passed, {failed} failed')
     return 1 if failed else 0
 

@@ -37,11 +37,11 @@ class Call:
         done = number == 0
         stored, (result, trail, work) = self.stored, self.at_exit(number)
         numbers = [number] + ([stored.plans, stored.steps, 4 * len(stored.result), 4 * len(stored.trail)] if done else [0] * 4)
-        names = ('number', 'plans', 'steps', 'resultLength', 'trailLength')
+        names = ('number', 'plans', 'steps', 'result_length', 'trail_length')
         fields = [f'{name} = {value}' for name, value in zip(names, numbers)]
         fields += [f'result = {result}', f'trail = {trail}', f'work = {work}']
         buffers = ' '.join(f'({replicate(length, fill)})' for length, fill in zip(self.lengths, FILLS))
-        return f'call {self.reading} {self.sheet} {buffers}', f'record {{ {"; ".join(fields)} }}', 'sameOutcome'
+        return f'call {self.reading} {self.sheet} {buffers}', f'record {{ {"; ".join(fields)} }}', 'same_outcome'
 
 
 def replicate(many, value):

@@ -34,7 +34,7 @@ def node_term(node):
 
 
 def asked_term(stored):
-    """The computation: by `answerTo`, or from the tree of a sheet that is long for `read`."""
+    """The computation: by `answer_to`, or from the tree of a sheet that is long for `read`."""
     if len(stored.sheet) <= READ or stored.refused in (1, 3, 4, 5, 6):
         return f'to {stored.reading} {sheet_term(stored.sheet)}'
     return f'from {stored.reading} ({literal(words_of(stored.sheet))})'
@@ -45,11 +45,11 @@ def answer_terms(stored):
     asked too, and its clauses where a cycle is left."""
     asked, answer = asked_term(stored), answer_term(stored)
     if stored.refused is not None or len(stored.result) > LONG:
-        return asked, answer, 'sameAnswer'
+        return asked, answer, 'same_answer'
     nodes = ' ∷ '.join([node_term(node) for node in stored.origins] + ['[]'])
     origins = lists_term([node[2:] for node in stored.origins] + [[len(stored.origins)]])
     how = f'left {stored.reading}' if stored.clauses else 'joined'
-    return f'{how} ({asked}) ({nodes})', f'whole ({answer}) ({lists_term(stored.clauses)}) ({origins})', 'sameWhole'
+    return f'{how} ({asked}) ({nodes})', f'whole ({answer}) ({lists_term(stored.clauses)}) ({origins})', 'same_whole'
 
 
 def claim(index, asked, differs=False):

@@ -16,7 +16,7 @@ def modules(crate):
 
 def used(text):
     """The modules of crates that a text uses, each with its crate's name."""
-    return re.findall(r'^(?:pub )?use Rattle·(\w+?)(?:·specs\.specs|\.specs)\.([\w.·′]+?)(?:\.\{| |$)', text, re.M)
+    return re.findall(r'^(?:pub )?use Rattle\.(\w+)\.specs\.([\w.+\']+?)(?:\.\{| |$)', text, re.M)
 
 
 def is_law(module):
@@ -48,7 +48,7 @@ def copy_part(crate, copy, module):
 def copy_without(crate, copy, gone):
     """A crate without some modules of its specs, and without its proofs."""
     shutil.rmtree(copy, ignore_errors=True)
-    shutil.copytree(crate, copy, ignore=shutil.ignore_patterns('must-fail', 'proofs'))
+    shutil.copytree(crate, copy, ignore=shutil.ignore_patterns('must-fail', 'proofs', 'out'))
     for path, module in list(modules(copy)):
         if module in gone:
             path.unlink()
@@ -86,7 +86,8 @@ def crates_of(crates, first):
         laws = law_files(crates / name)
         texts = [path.read_text() for path, module in modules(crates / name) if module not in laws]
         for owner in sorted({owner for text in texts for owner, _ in used(text)} - {name}):
-            visit(owner)
+            if (crates / owner).is_dir():
+                visit(owner)
         found.append(name)
 
     visit(first)
@@ -115,7 +116,7 @@ def imports(crates, names, wanted):
     for crate in names:
         for path, module in modules(crates / crate):
             for name in declared(path.read_text()):
-                places.setdefault(name, []).append(f'Rattle·{crate}.specs.{module}')
+                places.setdefault(name, []).append(f'Rattle.{crate}.specs.{module}')
     by_module = {}
     for name in wanted:
         if len(places.get(name, [])) != 1:
@@ -130,5 +131,5 @@ def opened(crates, names):
     for crate in names:
         for path, module in modules(crates / crate):
             for name in re.findall(r'^ *unfoldable pub (\S+)', path.read_text(), re.M):
-                found.append(f'Rattle·{crate}.specs.{module}.{name}')
+                found.append(f'Rattle.{crate}.specs.{module}.{name}')
     return ' '.join(found)

@@ -75,7 +75,7 @@ class Answered:
         self.sheet = self.stored.sheet
 
     def terms(self):
-        return asked_term(self.stored), answer_term(self.stored), 'sameAnswer'
+        return asked_term(self.stored), answer_term(self.stored), 'same_answer'
 
 
 class AlikeButCarried(Answered):
@@ -84,7 +84,7 @@ class AlikeButCarried(Answered):
     def terms(self):
         carried = [at for at, sort in enumerate(Sorts(self.stored.result).sorts) if sort == CARRIED]
         self.stored.result = changed(self.stored.result, carried=lambda word: 0)
-        return f'blanked ({literal(carried)}) (to rust {sheet_term(self.sheet)})', answer_term(self.stored), 'sameAnswer'
+        return f'blanked ({literal(carried)}) (to rust {sheet_term(self.sheet)})', answer_term(self.stored), 'same_answer'
 
 
 def short(stored):
