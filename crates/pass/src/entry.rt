@@ -33,7 +33,9 @@ fn wipe(res: &mut [u8], trail: &mut [u8], work: &mut [u8], at: usize, to: usize)
     clear_from(work, 0);
 }
 
-// The answer to a sheet of good length, with zeros behind what the buffers hold.
+// The answer to a sheet of good length, with zeros behind what the buffers hold. Not to be inlined: where a function tests its
+// arguments in front of a large frame, LLVM's stack probe overwrites a register that still holds one of them.
+#[inline(never)]
 fn hand(sheet: &[u8], res: &mut [u8], trail: &mut [u8], work: &mut [u8], past: bool) -> Answer
     requires { Lent sheet.now res.old trail.old work.old × AreBytes sheet.now }
     ensures { Handed (reading past) sheet.now res.old trail.old work.old result
