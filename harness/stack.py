@@ -1,6 +1,9 @@
 #!/usr/bin/env python3
 """How much stack the functions of a proved archive take, told from its frames: `stack.py [ARCHIVE [LIMIT]]`.
 
+A frame that is touched page by page goes by way of r11: that the function has a value there is a fault of the compiler, which has
+been met, and is told as one. Of a program, as of an archive, `stack.py --frames FILE` asks that alone.
+
 A frame is a return address, what the function pushes, and what it takes from the stack pointer. The deepest chain of
 calls counts functions that call themselves, or each other in a ring, as often as they can be on the stack at once. What
 the C library's memset and memcpy take comes on top. Above the limit, in bytes, the exit status is 1.
@@ -67,12 +70,20 @@ def functions(text):
     return found
 
 
+def probes(name, lines):
+    """The bytes of each loop in which the function touches its frame."""
+    text = "\n".join(lines)
+    found = list(PROBES.finditer(text))
+    if len(found) != sum(map(bool, map(LOOPS.search, lines))):
+        raise Unknown(f"{name} touches its frame in a loop that is not read")
+    if any("%r11" in text[: one.start()] for one in found):
+        raise Unknown(f"{name} touches its frame by way of r11, which it has used before")
+    return [int(one[1] or one[2], 16) for one in found]
+
+
 def frame(name, lines):
     """The bytes that one call of the function takes."""
-    probed = [int(one or other, 16) for one, other in PROBES.findall("\n".join(lines))]
-    if len(probed) != sum(map(bool, map(LOOPS.search, lines))):
-        raise Unknown(f"{name} touches its frame in a loop that is not read")
-    size = ADDRESS + sum(probed)
+    size = ADDRESS + sum(probes(name, lines))
     for line in lines:
         taken, added = TAKES.search(line), ADDS.search(line)
         if re.search(r"\bpush\b", line):
@@ -144,7 +155,21 @@ class Archive:
         return self.known[name]
 
 
+def look_at_frames(file):
+    """That no frame of a file is made over a value; the script ends where one is."""
+    code = functions(listing(file))
+    try:
+        loops = [probe for name, lines in code.items() for probe in probes(name, lines)]
+    except Unknown as what:
+        sys.exit(f"stack.py: {what}")
+    if not code:
+        sys.exit(f"stack.py: {file} names no functions")
+    print(f"{file}: {len(loops)} frames of {len(code)} functions are touched page by page, none over a value")
+
+
 def main(words):
+    if words[:1] == ["--frames"]:
+        return look_at_frames(words[1])
     archive = words[0] if words else "target/staticlib/libsheet.a"
     limit = int(words[1]) if len(words) > 1 else None
     try:

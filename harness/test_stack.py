@@ -53,6 +53,13 @@ class Frames(unittest.TestCase):
             self.assertRaises(stack.Unknown, self.frame, line)
 
 
+    def test_a_frame_that_is_made_over_a_value_is_told(self):
+        loop = ("sub    $0x1000,%rsp", "movq   $0x0,(%rsp)", "cmp    %r11,%rsp", "jne    7 <f+0x7>")
+        for place in (("lea    -0x7000(%rsp),%r11",), ("mov    %rsp,%r11", "sub    $0x7000,%r11")):
+            self.assertRaises(stack.Unknown, self.frame, "mov    %rcx,%r11", "push   %rbp", *place, *loop)
+            self.assertEqual(self.frame("push   %rbp", *place, *loop, "mov    %rcx,%r11"), 8 + 8 + 0x8000)
+
+
 class Chains(unittest.TestCase):
     def size(self, **functions):
         return listed(**functions).deepest("top")[0]
