@@ -10,7 +10,7 @@ use crate::clearing::{clear_from, first_byte};
 use crate::deliver::deliver;
 use crate::lent::are_lent;
 use sheet::answer::is_length;
-use words::numbers::Refusal;
+use words::numbers::OldRefusal;
 
 // The bytes of a word, and of an entry.
 #[derive(Drop)]
@@ -66,10 +66,10 @@ fn call(sheet: &[u8], res: &mut [u8], trail: &mut [u8], work: &mut [u8], past: b
 {
     first_byte(sheet);
     if !is_length(sheet.len()) {
-        return Answer::Refused(Refusal::BAD_LENGTH);
+        return Answer::Refused(OldRefusal::BAD_LENGTH);
     }
     if !are_lent(res.len(), trail.len(), work.len()) {
-        return Answer::Refused(Refusal::SHORT_BUFFER);
+        return Answer::Refused(OldRefusal::SHORT_BUFFER);
     }
     hand(sheet, res, trail, work, past)
 }

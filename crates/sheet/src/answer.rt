@@ -10,7 +10,7 @@ ghost use Rattle.sheet.specs.Answer.{CountersAt, EndAt, Lent, ReadAs, TrailerAt}
 use crate::judge::judge;
 use ids::lists::is_rising;
 use records::rules::{Rules, read_rules};
-use words::numbers::{Refusal, Sheet, UnitKind};
+use words::numbers::{OldRefusal, Sheet, UnitKind};
 use words::words::word;
 use writing::counters::Counters;
 
@@ -109,10 +109,10 @@ fn judged(s: &[u8], t: usize, end: usize, rules: Rules, work: &mut [u8]) -> Read
     let counters = counters_at(s, t);
     let verdict = judge(s, end, rules, counters, work);
     if !verdict.distinct {
-        return refused(Refusal::SHARED_NUMBER);
+        return refused(OldRefusal::SHARED_NUMBER);
     }
     if !verdict.below {
-        return refused(Refusal::ID_PAST_COUNTER);
+        return refused(OldRefusal::ID_PAST_COUNTER);
     }
     let parts = Parts {
         kind: word(s, t),
@@ -134,17 +134,17 @@ pub fn examine(s: &[u8], work: &mut [u8]) -> Reading
 {
     let t = s.len() / 4 - Sheet::TRAILER_WORDS;
     if !is_trailer(s, t) {
-        return refused(Refusal::BAD_TRAILER);
+        return refused(OldRefusal::BAD_TRAILER);
     }
     let end = rules_end(s, t);
     let rows = read_rules(s, end);
     let good = rows.good;
     let rules = rows.rules;
     if !good {
-        return refused(Refusal::BAD_RECORD);
+        return refused(OldRefusal::BAD_RECORD);
     }
     if !is_rising(s, end, t - end) {
-        return refused(Refusal::BAD_RECORD);
+        return refused(OldRefusal::BAD_RECORD);
     }
     judged(s, t, end, rules, work)
 }

@@ -13,7 +13,7 @@ pub use answer::{Answer, Parts, Reading};
 use answer::{examine, is_length, refused};
 pub use counts::{Sizes, Summary};
 use counts::{counted, refusal_numbers, sheet_numbers};
-use words::numbers::{Refusal, Work};
+use words::numbers::{OldRefusal, Work};
 use words::words::clear;
 
 // Reads a sheet. The work area ends as it was under refusals 1 and 2, else all zeros.
@@ -22,10 +22,10 @@ pub fn read(sheet: &[u8], work: &mut [u8]) -> Reading
     ensures work_after { work.new ≡ work_after sheet.now work.old }
 {
     if !is_length(sheet.len()) {
-        return refused(Refusal::BAD_LENGTH);
+        return refused(OldRefusal::BAD_LENGTH);
     }
     if work.len() < Work::BYTES {
-        return refused(Refusal::SHORT_BUFFER);
+        return refused(OldRefusal::SHORT_BUFFER);
     }
     let r = examine(sheet, work);
     clear(work);

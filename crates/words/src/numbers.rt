@@ -1,4 +1,5 @@
 // The limits of a sheet, and the numbers that have a meaning in it.
+ghost use Rattle.std.specs.Prelude.{◌≡◌};
 
 #[derive(Drop)]
 pub struct Sheet;
@@ -137,11 +138,11 @@ impl Sort {
     pub const PREDICATE: u32 = 6;
 }
 
-// Why a sheet is refused; the lowest that holds.
+// To go: the numbers of refusals 1 to 6.
 #[derive(Drop)]
-pub struct Refusal;
+pub struct OldRefusal;
 
-impl Refusal {
+impl OldRefusal {
     pub const BAD_LENGTH: u32 = 1;
 
     pub const SHORT_BUFFER: u32 = 2;
@@ -153,4 +154,39 @@ impl Refusal {
     pub const SHARED_NUMBER: u32 = 5;
 
     pub const ID_PAST_COUNTER: u32 = 6;
+}
+
+// Why a call is refused; the lowest that holds.
+#[derive(Clone, Copy, Debug, PartialEq, Eq)]
+pub enum Refusal {
+    BadLength,
+    ShortBuffer,
+    BadTrailer,
+    BadRecord,
+    SharedNumber,
+    IdPastCounter,
+    PlanTooLarge,
+    CounterPastEnd,
+    ResultTooLong,
+}
+
+// The number by which it is told (SPECIFICATION 4).
+impl From<Refusal> for u32 {
+    ghost use Rattle.words.specs.Refusal.{refusal_number};
+
+    ghost from_gives = { λ refusal number. number ≡ refusal_number refusal };
+
+    fn from(refusal: Refusal) -> u32 {
+        match refusal {
+            Refusal::BadLength => 1,
+            Refusal::ShortBuffer => 2,
+            Refusal::BadTrailer => 3,
+            Refusal::BadRecord => 4,
+            Refusal::SharedNumber => 5,
+            Refusal::IdPastCounter => 6,
+            Refusal::PlanTooLarge => 7,
+            Refusal::CounterPastEnd => 8,
+            Refusal::ResultTooLong => 9,
+        }
+    }
 }
