@@ -1,3 +1,4 @@
 pub mod Refusal
 pub mod Room
+pub mod Visit
 pub mod Words

@@ -3,5 +3,6 @@
 #![tactic(auto)]
 
 pub mod numbers;
+pub mod visit;
 pub mod walk;
 pub mod words;

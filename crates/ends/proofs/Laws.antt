@@ -1,2 +1,0 @@
--- The laws that the answers cite.
-pub mod Ends
