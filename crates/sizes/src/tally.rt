@@ -1,13 +1,16 @@
 // The fresh ids that a copy of an element takes, counted by sort in one walk over what is in it.
 ghost use Rattle.std.specs.Prelude.{◌≡◌, ◌+◌, ◌*◌, ◌<◌, ◌≤◌, ◌^◌, length};
 ghost use Rattle.grammar.specs.Words.{words};
-ghost use Rattle.grammar.specs.Found.{FoundElement, FoundElements, FoundAlternative, FoundAlternatives};
-ghost use Rattle.grammar.specs.Fold.{ElementWalked, ElementsWalked, AlternativeWalked, AlternativesWalked};
+ghost use Rattle.grammar.specs.Found.{FoundElement};
+ghost use Rattle.grammar.specs.Fold.{ElementWalked};
 ghost use Rattle.words.specs.Room.{Room};
 ghost use Rattle.sizes.specs.Tally.{one_if, ids_in, counting, OwnCounted, AlternativeCounted};
+ghost use Rattle.sizes.specs.declared.tally.Tally.{Tally};
+ghost use Rattle.std.proofs.Common.{rules};
 
 use words::numbers::Kind;
-use words::walk::{alternative_head, element_head, leaf_end};
+use words::visit::{Visitor, walk_element};
+use words::walk::Head;
 use words::words::word;
 
 // How many ids of each sort.
@@ -57,87 +60,45 @@ fn with_alternative(t: Tally) -> Tally
 {
     Tally {
         alternatives: t.alternatives + 1,
-        elements: t.elements,
-        labels: t.labels,
-        actions: t.actions,
-        predicates: t.predicates,
+        ..t
     }
 }
 
-// The element at `at`, with all that is in it. There are fewer ids than words.
-#[cycle(tree)]
+impl Visitor for Tally {
+    ghost State = { Tally };
+
+    ghost steps = { λ ws v. counting };
+
+    ghost state = { λ ws d t. t };
+
+    // There are fewer ids than words.
+    ghost Fits = { λ ws end d at t. ids_in t ≤ at };
+
+    ghost Kept = { λ ws end a b. Unit {0} };
+
+    fn leaf(&mut self, s: &[u8], _end: usize, _depth: u32, at: usize, head: Head) {
+        *self = with_own(s, at, head.kind, *self);
+    }
+
+    fn enter_block(&mut self, s: &[u8], _end: usize, _depth: u32, at: usize, head: Head) {
+        *self = with_own(s, at, head.kind, *self);
+    }
+
+    fn enter_alternative(&mut self, _s: &[u8], _end: usize, _depth: u32, _at: usize) {
+        *self = with_alternative(*self);
+    }
+
+    ghost laws = { Prim.search rules };
+}
+
+// The element at `at`, with all that is in it.
 pub fn element(s: &[u8], end: usize, depth: u32, at: usize, t: Tally) -> Passed
     requires room { Room s.now end × (ids_in t ≤ at) }
     requires found_element { FoundElement (words s.now) end depth at }
     ensures { (ids_in result.tally ≤ result.at)
         × ElementWalked counting (words s.now) end depth at t result.at result.tally }
 {
-    let head = element_head(s, end, depth, at);
-    let kind = head.kind;
-    let payload = head.payload;
-    let own = with_own(s, at, kind, t);
-    if kind == Kind::BLOCK {
-        let count = word(s, payload);
-        return alternatives(s, end, depth - 1, count, payload + 1, own);
-    }
-    let there = leaf_end(s, end, depth, at, kind, payload);
-    Passed {
-        at: there,
-        tally: own,
-    }
-}
-
-// n elements from `at` on, likewise.
-#[cycle(tree)]
-fn elements(s: &[u8], end: usize, depth: u32, n: u32, at: usize, t: Tally) -> Passed
-    requires room { Room s.now end × (ids_in t ≤ at) × (at ≤ end) }
-    requires found_elements { FoundElements (words s.now) end depth n at }
-    ensures { (ids_in result.tally ≤ result.at)
-        × ElementsWalked counting (words s.now) end depth n at t result.at result.tally }
-{
-    let mut i: u32 = n;
-    let mut p: usize = at;
-    let mut u = t;
-    while i != 0 {
-        let q = element(s, end, depth, p, u);
-        p = q.at;
-        u = q.tally;
-        i -= 1;
-    }
-    Passed { at: p, tally: u }
-}
-
-// The alternative at `at`, likewise.
-#[cycle(tree)]
-fn alternative(s: &[u8], end: usize, depth: u32, at: usize, t: Tally) -> Passed
-    requires room { Room s.now end × (ids_in t ≤ at) }
-    requires found_alternative { FoundAlternative (words s.now) end depth at }
-    ensures { (ids_in result.tally ≤ result.at)
-        × AlternativeWalked counting (words s.now) end depth at t result.at result.tally }
-{
-    let inner = alternative_head(s, end, depth, at);
-    let count = inner.count;
-    let first = inner.first;
-    let own = with_alternative(t);
-    elements(s, end, depth, count, first, own)
-}
-
-// n alternatives from `at` on, likewise.
-#[cycle(tree)]
-fn alternatives(s: &[u8], end: usize, depth: u32, n: u32, at: usize, t: Tally) -> Passed
-    requires room { Room s.now end × (ids_in t ≤ at) × (at ≤ end) }
-    requires found_alternatives { FoundAlternatives (words s.now) end depth n at }
-    ensures { (ids_in result.tally ≤ result.at)
-        × AlternativesWalked counting (words s.now) end depth n at t result.at result.tally }
-{
-    let mut i: u32 = n;
-    let mut p: usize = at;
-    let mut u = t;
-    while i != 0 {
-        let q = alternative(s, end, depth, p, u);
-        p = q.at;
-        u = q.tally;
-        i -= 1;
-    }
-    Passed { at: p, tally: u }
+    let mut tally = t;
+    let there = walk_element(&mut tally, s, end, depth, at);
+    Passed { at: there, tally }
 }

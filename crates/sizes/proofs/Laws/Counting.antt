@@ -1,5 +1,5 @@
 -- A walk that counts ids: its steps by the words of an element or alternative.
-use Prim.Native.Nat.{ℕ, ◌+◌, ◌-◌, ◌%◌, ◌<◌, ◌≤◌}
+use Prim.Native.Nat.{ℕ, ◌+◌, ◌%◌, ◌<◌, ◌≤◌}
 use mathlib.Core.Path.{◌≡◌, refl, ◌∙◌}
 use mathlib.Core.List.{List}
 use mathlib.Core.Bool.{true, not}
@@ -7,16 +7,15 @@ use native.Mathlib.Omega.{arith}
 use lib.ListN.{get_or}
 use lib.Dec.{eqb, leb}
 use borrow.Author.Tests.{ne_eqb, leb-true}
-use Rattle.grammar.specs.Numbers.{most_name, one_or_more_nongreedy, action_kind, predicate_kind, block_kind, kind_end}
+use Rattle.grammar.specs.Numbers.{most_name, one_or_more_nongreedy, action_kind, predicate_kind, kind_end}
 use Rattle.grammar.specs.Tree.{Label, unlabelled, labelled, ElementHead}
 use Rattle.grammar.specs.Encode.{label_name}
 use Rattle.grammar.specs.Valid.{ok_head, ok_label}
-use Rattle.grammar.specs.Found.{HeadAt, AlternativeAt, LeafEnd}
-use Rattle.grammar.specs.Fold.{ElementWalked, ElementsWalked, AlternativeWalked, AlternativesWalked}
+use Rattle.grammar.specs.Found.{HeadAt}
 use Rattle.grammar.specs.Laws.Parse.{left_true, right_true}
 use Rattle.grammar.specs.Laws.Complete.{leaf_kind_lem}
 use Rattle.grammar.specs.Laws.Opened.{HeadWords}
-use Rattle.grammar.specs.Laws.Fold.{fold_leaf, fold_block, fold_alternative}
+use Rattle.words.specs.Visit.{LeafPassed, BlockEntered, AlternativeEntered}
 use Rattle.sizes.specs.Tally.{one_if, is_labelled, with_own, with_alternative, counting, OwnCounted, AlternativeCounted}
 use Rattle.sizes.specs.declared.tally.Tally.{Tally}
 
@@ -66,21 +65,16 @@ own_is {ws} {at = at} {k} {kind} {h = h} t w low e =
     (left_true (ok_label h.label) _ (right_true (leb h.quantifier one_or_more_nongreedy) _ w.fine)) in
     rw (same, label) refl
 
-module _ (d : ℕ) {ws : List ℕ} {end at : ℕ} where
-  module _ {k p : ℕ} (head : HeadAt ws end at k p) where
-    pub count_leaf : (k ≡ block_kind → ⊥) → {there : ℕ} {t r : Tally} → LeafEnd ws end d at p there → OwnCounted ws at k t r
-        → ElementWalked counting ws end d at t there r
-    count_leaf other {t = t} e c =
-        fold_leaf counting head d other e λ h l q w u.
-        c.is ∙ own_is t w (let y = leaf_kind_lem l in omega arith) head.kind_is
+-- So are they by the steps of the walk.
+module _ {ws : List ℕ} {end at k p : ℕ} (head : HeadAt ws end at k p) {t r : Tally} (c : OwnCounted ws at k t r) where
+  pub count_leaf : LeafPassed counting ws end at p t r
+  count_leaf =
+      record { is = λ h l q w u. c.is ∙ own_is t w (let y = leaf_kind_lem l in omega arith) head.kind_is }
 
-    pub count_block : k ≡ block_kind → {m q : ℕ} {t i r : Tally} → m ≡ get_or ws p 0 → OwnCounted ws at k t i
-        → AlternativesWalked counting ws end (d - 1) m (p + 1) i q r → ElementWalked counting ws end d at t q r
-    count_block six {t = t} e c w =
-        fold_block counting head six d e (λ h y. c.is ∙ own_is t y (omega arith) head.kind_is) w λ h y. refl
+  pub count_block : BlockEntered counting ws end at p t r
+  count_block = record { is = λ h w. c.is ∙ own_is t w (omega arith) head.kind_is }
 
-  pub count_alternative : {count first : ℕ} → AlternativeAt ws end at count first → {q : ℕ} {t i r : Tally} → AlternativeCounted t i
-      → ElementsWalked counting ws end d count first i q r → AlternativeWalked counting ws end d at t q r
-  count_alternative head c w = fold_alternative counting d head (λ a z u. c.is) w λ a z u. refl
+pub count_alternative : {ws : List ℕ} {end at d : ℕ} {t r : Tally} → AlternativeCounted t r → AlternativeEntered counting ws end at d t r
+count_alternative c = record { is = λ a q w. c.is }
 
 pub ruleset counts = (count_leaf, count_block, count_alternative)
