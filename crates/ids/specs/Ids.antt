@@ -1,18 +1,16 @@
 -- Walks that see the ids of a tree, in the order in which they stand; and the one that collects those of one sort.
-use Rattle.std.specs.Prelude.{ℕ, ◌+◌, ◌%◌, ◌≤◌, ◌≡◌, List, [], ◌∷◌, ◌++◌, ◌&&◌, not, length, get_or, take, eqb}
-use Rattle.grammar.specs.Tree.{Rule}
+use Rattle.std.specs.Prelude.{ℕ, refl, ◌+◌, ◌%◌, ◌≤◌, ◌≡◌, List, [], ◌∷◌, ◌++◌, ◌&&◌, not, length, get_or, take, eqb, Option, Some, None}
+use Rattle.grammar.specs.Tree.{ElementHead, Rule}
 use Rattle.grammar.specs.Lists.{only}
 use Rattle.grammar.specs.Numbers.{alternative_sort, element_sort, label_sort, action_sort, predicate_sort, action_kind, predicate_kind}
 use Rattle.grammar.specs.Numbers.{kind_end}
 use Rattle.grammar.specs.Ids.{head_ids, leaf_ids, body_ids}
 use Rattle.grammar.specs.Found.{RulesSpan}
-use Rattle.grammar.specs.Fold.{Steps}
-use Rattle.ids.specs.declared.ids.Own.{Own}
-use Rattle.ids.specs.declared.ids.Own.TheVariants.{Id, Nothing}
+use Rattle.grammar.specs.Fold.{AlternativeHead, Steps}
 
-abbrev pub own_of : Own → List ℕ
-own_of (Id i) = i ∷ []
-own_of Nothing = []
+abbrev pub own_of : Option ℕ → List ℕ
+own_of (Some i) = i ∷ []
+own_of None = []
 
 -- The id of each sort that an element's own words hold, or none.
 unfoldable pub own_ids : List ℕ → ℕ → ℕ → ℕ → List ℕ
@@ -36,6 +34,16 @@ seeing see =
       into_alternative = λ s a. see s λ sort. only (eqb sort alternative_sort) a.id;
       past_alternative = λ s a t. t;
     }
+
+-- Behind a block or an alternative it goes on from the state at its end.
+pub seeing_past_block : {S : Type 0} (see : S → (ℕ → List ℕ) → S) (s t : S) (h : ElementHead) → (seeing see).past_block s h t ≡ t
+unfolding seeing
+seeing_past_block see s t h = refl
+
+pub seeing_past_alternative : {S : Type 0} (see : S → (ℕ → List ℕ) → S) (s t : S) (h : AlternativeHead)
+    → (seeing see).past_alternative s h t ≡ t
+unfolding seeing
+seeing_past_alternative see s t h = refl
 
 -- The ids of one sort, behind those that are there.
 abbrev pub behind : ℕ → List ℕ → (ℕ → List ℕ) → List ℕ

@@ -6,50 +6,49 @@ use native.Mathlib.Omega.{arith}
 use lib.ListN.{length, get_or, set, take}
 use lib.Seq.{take-suc-set}
 use borrow.Author.Tests.{ne_eqb}
-use Rattle.ids.specs.declared.ids.Own.TheVariants.{Id, Nothing}
+use Rattle.std.specs.Prelude.{Option, Some, None}
 use native.Mathlib.Numerals.{add-one}
 use Rattle.grammar.specs.Numbers.{alternative_sort, element_sort, label_sort, action_sort, predicate_sort, action_kind, predicate_kind, kind_end}
 use Rattle.grammar.specs.Words.{words}
 use Rattle.grammar.specs.Laws.Words.{length_words}
-use Rattle.ids.specs.declared.ids.Own.{Own}
 use Rattle.ids.specs.Ids.{own_of, own_ids, alternative_id}
 
 module _ (ws : List ℕ) (sort at payload : ℕ) {w : ℕ} where
-  pub own_element : sort ≡ element_sort → w ≡ get_or ws at 0 → own_of (Id w) ≡ own_ids ws at payload sort
+  pub own_element : sort ≡ element_sort → w ≡ get_or ws at 0 → own_of (Some w) ≡ own_ids ws at payload sort
   unfolding own_ids
   own_element e f = rw (e, f)
 
-  pub own_unlabelled : sort ≡ label_sort → w ≡ get_or ws (at + 4) 0 → w ≡ 0 → own_of Nothing ≡ own_ids ws at payload sort
+  pub own_unlabelled : sort ≡ label_sort → w ≡ get_or ws (at + 4) 0 → w ≡ 0 → own_of None ≡ own_ids ws at payload sort
   unfolding own_ids
   own_unlabelled e f g = rw (e, ← f, g)
 
   pub own_label : {i : ℕ} → sort ≡ label_sort → w ≡ get_or ws (at + 4) 0 → (w ≡ 0 → ⊥) → i ≡ get_or ws (at + 3) 0
-      → own_of (Id i) ≡ own_ids ws at payload sort
+      → own_of (Some i) ≡ own_ids ws at payload sort
   unfolding own_ids
   own_label e f g h = simp (e, ← f, ne_eqb w 0 g, h)
 
   module _ (f : w ≡ get_or ws (at + 2) 0) where
     pub own_action : {i : ℕ} → sort ≡ action_sort → w % kind_end ≡ action_kind → i ≡ get_or ws payload 0
-        → own_of (Id i) ≡ own_ids ws at payload sort
+        → own_of (Some i) ≡ own_ids ws at payload sort
     unfolding own_ids
     own_action e g h = simp (e, ← f, g, h)
 
-    pub own_no_action : sort ≡ action_sort → (w % kind_end ≡ action_kind → ⊥) → own_of Nothing ≡ own_ids ws at payload sort
+    pub own_no_action : sort ≡ action_sort → (w % kind_end ≡ action_kind → ⊥) → own_of None ≡ own_ids ws at payload sort
     unfolding own_ids
     own_no_action e g = simp (e, ← f, ne_eqb (w % kind_end) action_kind g)
 
     pub own_predicate : {i : ℕ} → sort ≡ predicate_sort → w % kind_end ≡ predicate_kind → i ≡ get_or ws payload 0
-        → own_of (Id i) ≡ own_ids ws at payload sort
+        → own_of (Some i) ≡ own_ids ws at payload sort
     unfolding own_ids
     own_predicate e g h = simp (e, ← f, g, h)
 
-    pub own_no_predicate : sort ≡ predicate_sort → (w % kind_end ≡ predicate_kind → ⊥) → own_of Nothing ≡ own_ids ws at payload sort
+    pub own_no_predicate : sort ≡ predicate_sort → (w % kind_end ≡ predicate_kind → ⊥) → own_of None ≡ own_ids ws at payload sort
     unfolding own_ids
     own_no_predicate e g = simp (e, ← f, ne_eqb (w % kind_end) predicate_kind g)
 
 module _ (ws : List ℕ) (sort at payload : ℕ) where
   pub own_nothing : (sort ≡ element_sort → ⊥) → (sort ≡ label_sort → ⊥) → (sort ≡ action_sort → ⊥) → (sort ≡ predicate_sort → ⊥)
-      → own_of Nothing ≡ own_ids ws at payload sort
+      → own_of None ≡ own_ids ws at payload sort
   unfolding own_ids
   own_nothing a b c d =
       simp (ne_eqb sort element_sort a, ne_eqb sort label_sort b, ne_eqb sort action_sort c, ne_eqb sort predicate_sort d)
@@ -63,11 +62,11 @@ pushed bs after out w h e =
     rw (add-one out, e) (take-suc-set (words bs) out w (rw length_words (omega arith)))
 
 module _ (own : List ℕ) (before after : List ℕ) (out r : ℕ) where
-  pub put_id : {o : Own} {w : ℕ} → o ≡ Id w → own_of o ≡ own → take r after ≡ take out before ++ (w ∷ [])
+  pub put_id : {o : Option ℕ} {w : ℕ} → o ≡ Some w → own_of o ≡ own → take r after ≡ take out before ++ (w ∷ [])
       → take r after ≡ take out before ++ own
   put_id e f g = g ∙ ap (λ l. take out before ++ l) (sym (ap own_of e) ∙ f)
 
-pub put_nothing : (own before : List ℕ) (out : ℕ) {o : Own} → o ≡ Nothing → own_of o ≡ own → take out before ≡ take out before ++ own
+pub put_nothing : (own before : List ℕ) (out : ℕ) {o : Option ℕ} → o ≡ None → own_of o ≡ own → take out before ≡ take out before ++ own
 put_nothing own before out e f = sym (append-nil (take out before)) ∙ ap (λ l. take out before ++ l) (sym (ap own_of e) ∙ f)
 
 module _ (ws before after : List ℕ) (at sort out : ℕ) where

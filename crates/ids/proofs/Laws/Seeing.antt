@@ -1,5 +1,5 @@
 -- A walk that sees ids: its steps by the words of an element or alternative, and what it comes to.
-use Prim.Native.Nat.{ℕ, zero, suc, ◌+◌, ◌-◌, ◌%◌, ◌<◌, ◌≤◌}
+use Prim.Native.Nat.{ℕ, zero, suc, ◌+◌, ◌%◌, ◌<◌, ◌≤◌}
 use mathlib.Core.Path.{◌≡◌, refl, sym, ap, ◌∙◌}
 use mathlib.Core.List.{List, [], ◌∷◌, ◌++◌, append_assoc, append-nil}
 use mathlib.Core.Bool.{true, ◌&&◌, not, and-true, and-false}
@@ -15,16 +15,15 @@ use Rattle.grammar.specs.Tree.{end_of_input, Element, leaf, block, AlternativeOf
 use Rattle.grammar.specs.Encode.{label_id, label_name, encode_leaf, leaf_kind}
 use Rattle.grammar.specs.Lists.{each, only}
 use Rattle.grammar.specs.Valid.{ok_head, ok_label}
+use Rattle.grammar.specs.Words.{words}
 use Rattle.grammar.specs.Ids.{label_ids, head_ids, leaf_ids, element_ids, alternative_ids, block_ids, body_ids}
-use Rattle.grammar.specs.Found.{HeadAt, AlternativeAt, LeafEnd}
 use Rattle.grammar.specs.Fold.{folded, element_fold, alternative_fold, block_fold, rule_fold, rules_fold}
-use Rattle.grammar.specs.Fold.{ElementWalked, ElementsWalked, AlternativeWalked, AlternativesWalked, RulesWalked}
+use Rattle.grammar.specs.Fold.{RulesWalked}
 use Rattle.grammar.specs.Laws.Stands.{stands_head}
 use Rattle.grammar.specs.Laws.Parse.{left_true, right_true}
 use Rattle.grammar.specs.Laws.Complete.{leaf_kind_lem}
 use Rattle.grammar.specs.Laws.Opened.{HeadWords}
-use Rattle.grammar.specs.Laws.Fold.{fold_leaf, fold_block, fold_alternative}
-use Rattle.ids.specs.declared.ids.Place.{Place}
+use Rattle.words.specs.Visit.{LeafPassed, BlockEntered, AlternativeEntered}
 use Rattle.ids.specs.Ids.{own_ids, alternative_id, seeing, behind, CollectedSort}
 
 -- the own ids of an element's words are those of its tree
@@ -78,25 +77,20 @@ module _ {ws : List ℕ} {end at : ℕ} (sort : ℕ) {h : ElementHead} {kind p :
   block_own e = own_are [] (omega arith) (rw e (simp and-false)) ∙ append-nil (head_ids sort h)
 
 -- the steps of a walk that sees ids
-module _ {S : Type 0} (see : S → (ℕ → List ℕ) → S) (d : ℕ) {ws : List ℕ} {end at : ℕ} where
-  module _ {k p : ℕ} (head : HeadAt ws end at k p) where
-    pub seeing_leaf : (k ≡ block_kind → ⊥) → {there : ℕ} {s r : S} → LeafEnd ws end d at p there → r ≡ see s (own_ids ws at p)
-        → ElementWalked (seeing see) ws end d at s there r
+module _ {S : Type 0} (see : S → (ℕ → List ℕ) → S) {ws : List ℕ} {end at : ℕ} {s r : S} where
+  module _ {p : ℕ} (f : r ≡ see s (own_ids ws at p)) where
+    pub seeing_leaf : LeafPassed (seeing see) ws end at p s r
     unfolding seeing
-    seeing_leaf other {s = s} e f =
-        fold_leaf (seeing see) head d other e λ h l q w u. f ∙ ap (see s) λ i sort. leaf_own sort w l refl u.stands i
+    seeing_leaf = record { is = λ h l q w u. f ∙ ap (see s) λ i sort. leaf_own sort w l refl u.stands i }
 
-    pub seeing_block : k ≡ block_kind → {m q : ℕ} {s i t : S} → m ≡ get_or ws p 0 → i ≡ see s (own_ids ws at p)
-        → AlternativesWalked (seeing see) ws end (d - 1) m (p + 1) i q t → ElementWalked (seeing see) ws end d at s q t
+    pub seeing_block : BlockEntered (seeing see) ws end at p s r
     unfolding seeing
-    seeing_block six {s = s} c f w =
-        fold_block (seeing see) head six d c (λ h y. f ∙ ap (see s) λ i sort. block_own sort y refl i) w λ h y. refl
+    seeing_block = record { is = λ h y. f ∙ ap (see s) λ i sort. block_own sort y refl i }
 
-  pub seeing_alternative : {count first : ℕ} → AlternativeAt ws end at count first → {q : ℕ} {s i t : S} → i ≡ see s (alternative_id ws at)
-      → ElementsWalked (seeing see) ws end d count first i q t → AlternativeWalked (seeing see) ws end d at s q t
+  pub seeing_alternative : {d : ℕ} → r ≡ see s (alternative_id ws at) → AlternativeEntered (seeing see) ws end at d s r
   unfolding seeing alternative_id
-  seeing_alternative head {s = s} f c =
-      fold_alternative (seeing see) d head (λ a z w. f ∙ ap (see s) λ i sort. only (eqb sort alternative_sort) (w.id i)) c λ a z w. refl
+  seeing_alternative f =
+      record { is = λ a z w. f ∙ ap (see s) λ i sort. only (eqb sort alternative_sort) (w.id i) }
 
 pub ruleset seeings = (seeing_leaf, seeing_block, seeing_alternative)
 
@@ -137,12 +131,14 @@ module _ {S : Type 0} (see : S → (ℕ → List ℕ) → S) (none : (s : S) →
       folded_each (rule_fold (seeing see) body_depth) (λ sort r. block_ids sort body_depth r.body)
       (λ s r. block_ids_lem body_depth s r.body) s rs
 
--- the ids of one sort collected
-pub collected_sort : {ws : List ℕ} {end n : ℕ} (sort : ℕ) (before after : List ℕ) {r : Place} → r.out ≤ r.at
-    → RulesWalked (seeing (behind sort)) ws end n 0 (take 0 before) r.at (take r.out after)
-    → CollectedSort ws end n sort after r.out
-collected_sort sort before after few c =
+-- the ids of one sort collected, in the buffer as the collector leaves it
+pub collected_sort : {ws : List ℕ} {end n : ℕ} (sort : ℕ) (before : List ℕ) {after left : List ℕ} → left ≡ after → {p r : ℕ} → r ≤ p
+    → RulesWalked (seeing (behind sort)) ws end n 0 (take 0 before) p (take r (words after))
+    → CollectedSort ws end n sort (words left) r
+collected_sort sort before same {r = r} few c =
     record {
-      wrote = λ rs q s e. c.value rs q s e ∙ rules_ids (behind sort) append-nil (λ s f g. append_assoc s (f sort) (g sort)) [] rs;
+      wrote =
+          λ rs q s e. ap (λ bs. take r (words bs)) same
+          ∙ (c.value rs q s e ∙ rules_ids (behind sort) append-nil (λ s f g. append_assoc s (f sort) (g sort)) [] rs);
       few = let w = c.within in omega arith;
     }

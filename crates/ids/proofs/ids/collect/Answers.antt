@@ -1,7 +1,9 @@
 use Rattle.std.proofs.Common.{rules}
+use Rattle.grammar.specs.Words.{words}
 use Rattle.ids.proofs.ids.collect.Goals as goal
 use Rattle.ids.proofs.Laws.Seeing.{collected_sort}
 
--- src/ids.rt:231:1
 pub returns : goal.returns
-returns c = search (rules, collected_sort)
+returns c =
+    let walked = c.walk_rules.ensures in
+    collected_sort c.args.sort (words c.args.work.now) (search rules) walked.1.0 walked.2

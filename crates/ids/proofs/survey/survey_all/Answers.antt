@@ -1,7 +1,6 @@
 use Rattle.std.proofs.Common.{rules}
+use Rattle.ids.proofs.Laws.Survey.{survey_done}
 use Rattle.ids.proofs.survey.survey_all.Goals as goal
-use Rattle.ids.proofs.Laws.Survey.{survey_read}
 
--- src/survey.rt:224:1
 pub returns : goal.returns
-returns c = search (rules, survey_read)
+returns c = survey_done (search rules) c.walk_rules.ensures.2

@@ -1,7 +1,6 @@
 use Rattle.std.proofs.Common.{rules}
-use Rattle.ids.proofs.survey.see_element.Goals as goal
 use Rattle.ids.proofs.Laws.Survey.{parts}
+use Rattle.ids.proofs.survey.Survey.see_alternative.Goals as goal
 
--- src/survey.rt:74:1
 pub returns : goal.returns
 returns c = search (rules, parts)
