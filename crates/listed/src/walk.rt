@@ -1,18 +1,20 @@
 // The lines of what stands in a sheet, in one walk over it. A word of the sheet makes at most ten bytes of text.
-ghost use Rattle.std.specs.Prelude.{◌≡◌, [], ◌∷◌, ◌+◌, ◌*◌, ◌/◌, ◌<◌, ◌≤◌, ◌^◌, length, get_or};
+ghost use Rattle.std.specs.Prelude.{◌≡◌, [], ◌∷◌, ◌+◌, ◌-◌, ◌*◌, ◌/◌, ◌<◌, ◌≤◌, ◌^◌, length, get_or};
+ghost use Rattle.std.proofs.Common.{rules};
 ghost use Rattle.grammar.specs.Numbers.{kind_end};
 ghost use Rattle.grammar.specs.Words.{words};
-ghost use Rattle.grammar.specs.Found.{FoundElement, FoundElements, FoundAlternative, FoundAlternatives};
-ghost use Rattle.grammar.specs.Fold.{ElementWalked, ElementsWalked, AlternativeWalked, AlternativesWalked};
+ghost use Rattle.grammar.specs.Found.{FoundAlternatives};
+ghost use Rattle.grammar.specs.Fold.{AlternativesWalked};
 ghost use Rattle.words.specs.Room.{Room};
 ghost use Rattle.listed.specs.Text.{line};
 ghost use Rattle.listed.specs.Listed.{element_word, alternative_line};
 ghost use Rattle.listed.specs.Put.{PutFew};
-ghost use Rattle.listed.specs.Walk.{pen, listing, name_of};
+ghost use Rattle.listed.specs.Walk.{Pen, pen, listing, name_of};
 
 use crate::lines::{Byte, line_of_five, short_line};
 use words::numbers::Kind;
-use words::walk::{alternative_head, element_head, leaf_end};
+use words::visit::{Visitor, walk_alternatives};
+use words::walk::Head;
 use words::words::word;
 
 // Past what was listed, and where text goes on.
@@ -65,88 +67,53 @@ fn alternative_line(s: &[u8], at: usize, level: u32, text: &mut [u8], n: usize) 
     short_line(text, n, Byte::ALTERNATIVE, level, id)
 }
 
-// The element at `at`, with all that is in it.
-#[cycle(tree)]
-fn element(
-    s: &[u8],
-    end: usize,
-    depth: u32,
-    level: u32,
-    at: usize,
-    text: &mut [u8],
+// What lists: the text up to `n`, at a level that rises as the depth falls; both together are `top`.
+#[derive(Drop)]
+struct Lister<'a> {
+    text: &'a mut [u8],
     n: usize,
-) -> Passed
-    requires room { Room s.now end × (level + depth ≤ 8) × (n ≤ 10 * at + 64) }
-    requires found_element { FoundElement (words s.now) end depth at }
-    ensures { (result.n ≤ 10 * result.at + 64) × ElementWalked listing (words s.now) end depth at
-        (pen text.old n level) result.at (pen text.new result.n level) }
-{
-    let head = element_head(s, end, depth, at);
-    let kind = head.kind;
-    let payload = head.payload;
-    let p = element_line(s, at, kind, payload, level, text, n);
-    if kind == Kind::BLOCK {
-        let count = word(s, payload);
-        return alternatives(s, end, depth - 1, level + 1, count, payload + 1, text, p);
+    top: u32,
+}
+
+impl Lister<'_> {
+    fn level(&self, depth: u32) -> u32
+        requires { depth ≤ self.now.top }
+        ensures { result ≡ self.now.top - depth }
+    {
+        self.top - depth
     }
-    let there = leaf_end(s, end, depth, at, kind, payload);
-    Passed { at: there, n: p }
 }
 
-// n elements from `at` on, likewise.
-#[cycle(tree)]
-fn elements(
-    s: &[u8],
-    end: usize,
-    depth: u32,
-    level: u32,
-    count: u32,
-    at: usize,
-    text: &mut [u8],
-    n: usize,
-) -> Passed
-    requires room { Room s.now end × (level + depth ≤ 8) × (n ≤ 10 * at + 64) × (at ≤ end) }
-    requires found_elements { FoundElements (words s.now) end depth count at }
-    ensures { (result.n ≤ 10 * result.at + 64) × ElementsWalked listing (words s.now) end depth count at
-        (pen text.old n level) result.at (pen text.new result.n level) }
-{
-    let mut i: u32 = count;
-    let mut p: usize = at;
-    let mut q: usize = n;
-    while i != 0 {
-        let e = element(s, end, depth, level, p, text, q);
-        p = e.at;
-        q = e.n;
-        i -= 1;
+impl Visitor for Lister<'_> {
+    ghost State = { Pen };
+
+    ghost steps = { λ ws v. listing };
+
+    ghost state = { λ ws d v. pen v.text.now v.n (v.top - d) };
+
+    ghost Fits = { λ ws end d at v. (v.n ≤ 10 * at + 64) × (d ≤ v.top) × (v.top ≤ 8) };
+
+    ghost Kept = { λ ws end a b. (a.text.ghost_name ≡ b.text.ghost_name) × (a.top ≡ b.top) };
+
+    fn leaf(&mut self, s: &[u8], _end: usize, depth: u32, at: usize, head: Head) {
+        let level = self.level(depth);
+        self.n = element_line(s, at, head.kind, head.payload, level, self.text, self.n);
     }
-    Passed { at: p, n: q }
+
+    fn enter_block(&mut self, s: &[u8], _end: usize, depth: u32, at: usize, head: Head) {
+        let level = self.level(depth);
+        self.n = element_line(s, at, head.kind, head.payload, level, self.text, self.n);
+    }
+
+    fn enter_alternative(&mut self, s: &[u8], _end: usize, depth: u32, at: usize) {
+        let level = self.level(depth);
+        self.n = alternative_line(s, at, level, self.text, self.n);
+    }
+
+    ghost laws = { Prim.search rules };
 }
 
-// The alternative at `at`, likewise.
-#[cycle(tree)]
-fn alternative(
-    s: &[u8],
-    end: usize,
-    depth: u32,
-    level: u32,
-    at: usize,
-    text: &mut [u8],
-    n: usize,
-) -> Passed
-    requires room { Room s.now end × (level + depth ≤ 8) × (n ≤ 10 * at + 64) }
-    requires found_alternative { FoundAlternative (words s.now) end depth at }
-    ensures { (result.n ≤ 10 * result.at + 64) × AlternativeWalked listing (words s.now) end depth at
-        (pen text.old n level) result.at (pen text.new result.n level) }
-{
-    let inner = alternative_head(s, end, depth, at);
-    let count = inner.count;
-    let first = inner.first;
-    let p = alternative_line(s, at, level, text, n);
-    elements(s, end, depth, level, count, first, text, p)
-}
-
-// n alternatives from `at` on, likewise.
-#[cycle(tree)]
+// n alternatives from `at` on, with all that is in them.
 pub fn alternatives(
     s: &[u8],
     end: usize,
@@ -162,14 +129,11 @@ pub fn alternatives(
     ensures { (result.n ≤ 10 * result.at + 64) × AlternativesWalked listing (words s.now) end depth count at
         (pen text.old n level) result.at (pen text.new result.n level) }
 {
-    let mut i: u32 = count;
-    let mut p: usize = at;
-    let mut q: usize = n;
-    while i != 0 {
-        let a = alternative(s, end, depth, level, p, text, q);
-        p = a.at;
-        q = a.n;
-        i -= 1;
+    let top = level + depth;
+    let mut lister = Lister { text, n, top };
+    let there = walk_alternatives(&mut lister, s, end, depth, count, at);
+    Passed {
+        at: there,
+        n: lister.n,
     }
-    Passed { at: p, n: q }
 }

@@ -1,5 +1,5 @@
 -- The walk that lists: its steps by the words of an element, an alternative or a rule.
-use Prim.Native.Nat.{ℕ, suc, ◌+◌, ◌-◌, ◌/◌, ◌%◌, ◌<◌, ◌≤◌}
+use Prim.Native.Nat.{ℕ, suc, ◌+◌, ◌/◌, ◌%◌, ◌<◌}
 use mathlib.Core.Path.{◌≡◌, refl, ap, ◌∙◌}
 use mathlib.Core.List.{List, [], ◌∷◌}
 use native.Mathlib.Omega.{arith}
@@ -11,13 +11,12 @@ use Rattle.grammar.specs.Stands.{Spans}
 use Rattle.grammar.specs.Tree.{ElementHead, Leaf, epsilon, action, predicate, call, token, terminal, end_of_input}
 use Rattle.grammar.specs.Encode.{leaf_kind, encode_leaf}
 use Rattle.grammar.specs.Valid.{ok_leaf}
-use Rattle.grammar.specs.Found.{FoundElement, HeadAt, AlternativeAt, LeafEnd}
-use Rattle.grammar.specs.Fold.{ElementWalked, ElementsWalked, AlternativeWalked, AlternativesWalked}
+use Rattle.grammar.specs.Found.{HeadAt}
+use Rattle.grammar.specs.Fold.{AlternativesWalked}
 use Rattle.grammar.specs.Laws.Stands.{stands_head}
 use Rattle.grammar.specs.Laws.Complete.{leaf_kind_lem}
 use Rattle.grammar.specs.Laws.Opened.{HeadWords}
-use Rattle.grammar.specs.Laws.Found.{block_depth}
-use Rattle.grammar.specs.Laws.Fold.{fold_leaf, fold_block, fold_alternative}
+use Rattle.words.specs.Visit.{LeafPassed, BlockEntered, AlternativeEntered}
 use Rattle.listed.specs.Text.{line}
 use Rattle.listed.specs.Listed.{leaf_name, element_word, element_line, alternative_line}
 use Rattle.listed.specs.Put.{Put, PutFew}
@@ -86,42 +85,35 @@ line_is {ws} {at = at} {k} {kind} {p} {h} level name w low e f =
     let quantifier : get_or ws (at + 2) 0 / kind_end ≡ h.quantifier = let y = w.packed in omega arith in
     rw (same, quantifier, w.id, f) refl
 
-module _ (d level : ℕ) {ws : List ℕ} {end at : ℕ} where
-  module _ {k p : ℕ} (head : HeadAt ws end at k p) where
-    pub list_leaf : (k ≡ block_kind → ⊥) → {there : ℕ} {b a : List ℕ} {n r : ℕ} → LeafEnd ws end d at p there
-        → PutFew b a n r (line_at ws level at k p) 57
-        → ElementWalked listing ws end d at (pen b n level) there (pen a r level)
-    list_leaf other {b = b} {n = n} e x =
-        fold_leaf listing head d other e λ h l q w u.
-        put_is level x.put
-        ∙ ap (put (pen b n level)) (line_is level (leaf_name l) w (let y = leaf_kind_lem l in omega arith) head.kind_is (name_is l u))
+-- The steps: past a leaf, into a block, whose level is one more, and into an alternative.
+module _ {ws : List ℕ} {end at : ℕ} {b a : List ℕ} {n r level : ℕ} where
+  module _ {k p : ℕ} (head : HeadAt ws end at k p) (x : PutFew b a n r (line_at ws level at k p) 57) where
+    pub list_leaf : LeafPassed listing ws end at p (pen b n level) (pen a r level)
+    list_leaf =
+        record {
+          is = λ h l q w u. put_is level x.put
+              ∙ ap (put (pen b n level)) (line_is level (leaf_name l) w (let y = leaf_kind_lem l in omega arith) head.kind_is (name_is l u));
+        }
 
-    pub list_block : k ≡ block_kind → {m q : ℕ} {b i a : List ℕ} {n j r : ℕ} → m ≡ get_or ws p 0 → PutFew b i n j (line_at ws level at k p) 57
-        → AlternativesWalked listing ws end (d - 1) m (p + 1) (pen i j (level + 1)) q (pen a r (level + 1))
-        → ElementWalked listing ws end d at (pen b n level) q (pen a r level)
-    list_block six {b = b} {n = n} e x w =
-        fold_block listing head six d e
-        (λ h y.
-        let l = line_is level 0 y (omega arith) head.kind_is (name_block (get_or ws p 0)) in
-        let z = put_is level x.put ∙ ap (put (pen b n level)) l in
-        rw (add-one level) (ap (λ q. pen q.buffer q.place (suc level)) z))
-        w
-        λ h y. refl
+    pub list_block : {inner : ℕ} → inner ≡ level + 1 → BlockEntered listing ws end at p (pen b n level) (pen a r inner)
+    list_block deeper =
+        record {
+          is = λ h y.
+              let l = line_is level 0 y (omega arith) head.kind_is (name_block (get_or ws p 0)) in
+              let z = put_is level x.put ∙ ap (put (pen b n level)) l in
+              rw deeper (rw (add-one level) (ap (λ q. pen q.buffer q.place (suc level)) z));
+        }
 
-  pub list_alternative : {count first : ℕ} → AlternativeAt ws end at count first → {q : ℕ} {b i a : List ℕ} {n j r : ℕ}
-      → PutFew b i n j (alternative_line level (get_or ws at 0)) 24
-      → ElementsWalked listing ws end d count first (pen i j level) q (pen a r level)
-      → AlternativeWalked listing ws end d at (pen b n level) q (pen a r level)
-  list_alternative head {b = b} {n = n} x w =
-      fold_alternative listing d head
-      (λ a z u. put_is level x.put ∙ ap (put (pen b n level)) (ap (alternative_line level) u.id))
-      w
-      λ a z u. refl
-
--- The level rises as the depth falls.
-pub block_level : {ws : List ℕ} {end at k p : ℕ} (level d : ℕ) → HeadAt ws end at k p → k ≡ block_kind → FoundElement ws end d at
-    → level + d ≤ 8
-    → level + 1 + (d - 1) ≤ 8
-block_level level d head six f h = let z = block_depth head six d f in omega arith
+  pub list_alternative : {d : ℕ} → PutFew b a n r (alternative_line level (get_or ws at 0)) 24
+      → AlternativeEntered listing ws end at d (pen b n level) (pen a r level)
+  list_alternative x =
+      record { is = λ z q u. put_is level x.put ∙ ap (put (pen b n level)) (ap (alternative_line level) u.id) }
 
 pub ruleset walks = (list_leaf, list_block, list_alternative)
+
+-- All that was walked, in the buffer as the walk leaves it.
+pub listed_alternatives : (d : ℕ) {ws : List ℕ} {end m at p : ℕ} {b a left : List ℕ} {n r level from to : ℕ} → left ≡ a → from ≡ level
+    → to ≡ level
+    → AlternativesWalked listing ws end d m at (pen b n from) p (pen a r to)
+    → AlternativesWalked listing ws end d m at (pen b n level) p (pen left r level)
+listed_alternatives d same e f w = rw same (rw (e, f) at w)
