@@ -5,6 +5,7 @@ use Rattle.grammar.specs.Numbers.{most_words, work_bytes}
 use Rattle.grammar.specs.Lists.{member}
 use Rattle.planned.specs.Layout.{half, hand_end}
 use Rattle.planned.specs.List.{SameList}
+use Rattle.planned.specs.Laws.Same.{same_refl, same_trans}
 
 -- The halves that say where the entries begin and end; where they may stand.
 abbrev pub entries_at : ℕ
@@ -68,6 +69,13 @@ pub record Ordered (ws : List ℕ) (end : ℕ) (bs : List ℕ) : Type 0 where
 pub record Kept (ws : List ℕ) (end : ℕ) (before after : List ℕ) : Type 0 where
   pub list : SameList before after
   pub ordered : Ordered ws end after
+
+module _ {ws : List ℕ} {end : ℕ} where
+  pub kept_refl : {bs : List ℕ} → Ordered ws end bs → Kept ws end bs bs
+  kept_refl {bs} o = record { list = same_refl bs; ordered = o }
+
+  pub kept_trans : {as' bs cs : List ℕ} → Kept ws end as' bs → Kept ws end bs cs → Kept ws end as' cs
+  kept_trans s t = record { list = same_trans s.list t.list; ordered = t.ordered }
 
 -- One name more in a set, and none in the other.
 pub record NamePut (ws : List ℕ) (end : ℕ) (before after : List ℕ) (w name : ℕ) : Type 0 where

@@ -1,13 +1,13 @@
 -- Walks that look at labels and leaves alone, whatever blocks and alternatives these stand in.
-use Rattle.std.specs.Prelude.{ℕ, ◌+◌, ◌-◌, ◌≡◌, List, map, true, length, get_or, take, drop, leb}
+use Rattle.std.specs.Prelude.{ℕ, refl, ◌+◌, ◌-◌, ◌≡◌, List, map, true, length, get_or, take, drop, leb}
 use Rattle.grammar.specs.Numbers.{qualified}
-use Rattle.grammar.specs.Tree.{Label, Leaf, Element, Block}
+use Rattle.grammar.specs.Tree.{Label, ElementHead, Leaf, Element, Block}
 use Rattle.grammar.specs.Stands.{Spans}
 use Rattle.grammar.specs.Encode.{encode_reference, label_name, leaf_kind, encode_leaf}
 use Rattle.grammar.specs.Valid.{ok_reference, ok_label, ok_leaf}
 use Rattle.grammar.specs.Lists.{keep}
 use Rattle.grammar.specs.Found.{Found, FoundMany}
-use Rattle.grammar.specs.Fold.{Steps, folded, element_fold, block_fold}
+use Rattle.grammar.specs.Fold.{AlternativeHead, Steps, folded, element_fold, block_fold}
 use Rattle.reference.specs.Walks.{references}
 
 -- The names that a leaf refers to; and those by which something is bound to it, an attribute's or a qualified one's.
@@ -26,6 +26,16 @@ noting of_label of_leaf =
       into_alternative = λ s a. s;
       past_alternative = λ s a t. t;
     }
+
+-- Behind a block or an alternative it goes on from the state at its end.
+module _ {S : Type 0} (of_label : S → Label → S) (of_leaf : S → Leaf → S) (s t : S) where
+  pub noting_past_block : (h : ElementHead) → (noting of_label of_leaf).past_block s h t ≡ t
+  unfolding noting
+  noting_past_block h = refl
+
+  pub noting_past_alternative : (h : AlternativeHead) → (noting of_label of_leaf).past_alternative s h t ≡ t
+  unfolding noting
+  noting_past_alternative h = refl
 
 -- Past the label of the element that stands at a place.
 pub record LabelSeen (ws : List ℕ) (at : ℕ) {S : Type 0} (of_label : S → Label → S) (s r : S) : Type 0 where

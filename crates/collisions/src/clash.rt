@@ -1,32 +1,34 @@
 // Whether an alternative of a satellite collides with the elements around its call: one walk over it, against the sets of
 // names that are marked.
 ghost use Rattle.std.specs.Prelude.{◌≡◌, ◌+◌, ◌≤◌};
+ghost use Rattle.std.proofs.Common.{rules};
 ghost use Rattle.grammar.specs.Numbers.{block_kind};
 ghost use Rattle.grammar.specs.Tree.{inner_depth};
 ghost use Rattle.grammar.specs.Words.{words};
-ghost use Rattle.grammar.specs.Found.{FoundElement, FoundElements, FoundAlternative, FoundAlternatives, HeadAt};
-ghost use Rattle.grammar.specs.Fold.{ElementWalked, ElementsWalked, AlternativeWalked, AlternativesWalked};
+ghost use Rattle.grammar.specs.Found.{FoundElement, FoundAlternative, HeadAt};
 ghost use Rattle.words.specs.Room.{Room};
 ghost use Rattle.collisions.specs.Names.{labels_bit, references_bit, has_name, Ordered};
-ghost use Rattle.collisions.specs.Walks.{LabelSeen, LeafSeen};
+ghost use Rattle.collisions.specs.Walks.{noting_past_block, noting_past_alternative, LabelSeen, LeafSeen};
+ghost use Rattle.collisions.specs.declared.clash.Clash.{Clash};
 ghost use Rattle.collisions.specs.Clash.{clash_label, clash_leaf, comparing, NameBound, ClashesAt};
 
 use crate::names::{Names, has};
 use words::numbers::{Block, Kind};
-use words::walk::{alternative_head, element_head, leaf_end};
+use words::visit::{Visitor, walk_alternative};
+use words::walk::Head;
 use words::words::word;
 
 // Whether a label's name is in the set of labels, and whether a bound name is in the set of references.
-#[derive(Clone, Copy)]
+#[derive(Clone, Copy, Debug, PartialEq, Eq)]
 pub struct Clash {
     pub label: bool,
     pub binding: bool,
 }
 
-// Where the walk is, and what it has found.
-#[derive(Clone, Copy)]
-struct Place {
-    at: usize,
+// What compares with the sets in the work area, and what it has found.
+#[derive(Drop)]
+struct Comparer<'a> {
+    work: &'a [u8],
     found: Clash,
 }
 
@@ -83,88 +85,38 @@ fn see_leaf(
     c
 }
 
-// The element at `w.at`, a block with all that is in it.
-#[cycle(tree)]
-fn element(s: &[u8], end: usize, depth: u32, work: &[u8], w: Place) -> Place
-    requires room { Room s.now end × Ordered (words s.now) end work.now }
-    requires found_element { FoundElement (words s.now) end depth w.at }
-    ensures { ElementWalked (comparing (words s.now) work.now) (words s.now) end depth
-        w.at w.found result.at result.found }
-{
-    let at = w.at;
-    let head = element_head(s, end, depth, at);
-    let kind = head.kind;
-    let payload = head.payload;
-    let before = w.found;
-    let found = see_label(s, end, depth, at, work, before);
-    if kind == Kind::BLOCK {
-        let count = word(s, payload);
-        let inner = Place {
-            at: payload + 1,
-            found,
-        };
-        return alternatives(s, end, depth - 1, work, count, inner);
-    }
-    let there = leaf_end(s, end, depth, at, kind, payload);
-    let own = see_leaf(s, end, depth, at, kind, payload, work, found);
-    Place {
-        at: there,
-        found: own,
-    }
-}
+impl Visitor for Comparer<'_> {
+    ghost State = { Clash };
 
-// n elements from `w.at` on.
-#[cycle(tree)]
-fn elements(s: &[u8], end: usize, depth: u32, work: &[u8], n: u32, w: Place) -> Place
-    requires room { Room s.now end × Ordered (words s.now) end work.now × (w.at ≤ end) }
-    requires found_elements { FoundElements (words s.now) end depth n w.at }
-    ensures { ElementsWalked (comparing (words s.now) work.now) (words s.now) end depth n
-        w.at w.found result.at result.found }
-{
-    let mut i: u32 = n;
-    let mut p = w;
-    while i != 0 {
-        let q = element(s, end, depth, work, p);
-        p = q;
-        i -= 1;
-    }
-    p
-}
+    ghost steps = { λ ws v. comparing ws v.work.now };
 
-// The alternative at `w.at`.
-#[cycle(tree)]
-fn alternative(s: &[u8], end: usize, depth: u32, work: &[u8], w: Place) -> Place
-    requires room { Room s.now end × Ordered (words s.now) end work.now }
-    requires found_alternative { FoundAlternative (words s.now) end depth w.at }
-    ensures { AlternativeWalked (comparing (words s.now) work.now) (words s.now) end depth
-        w.at w.found result.at result.found }
-{
-    let head = alternative_head(s, end, depth, w.at);
-    let count = head.count;
-    let found = w.found;
-    let inner = Place {
-        at: head.first,
-        found,
-    };
-    elements(s, end, depth, work, count, inner)
-}
+    ghost state = { λ ws d v. v.found };
 
-// n alternatives from `w.at` on: a block.
-#[cycle(tree)]
-fn alternatives(s: &[u8], end: usize, depth: u32, work: &[u8], n: u32, w: Place) -> Place
-    requires room { Room s.now end × Ordered (words s.now) end work.now × (w.at ≤ end) }
-    requires found_alternatives { FoundAlternatives (words s.now) end depth n w.at }
-    ensures { AlternativesWalked (comparing (words s.now) work.now) (words s.now) end depth n
-        w.at w.found result.at result.found }
-{
-    let mut i: u32 = n;
-    let mut p = w;
-    while i != 0 {
-        let q = alternative(s, end, depth, work, p);
-        p = q;
-        i -= 1;
+    ghost Fits = { λ ws end d at v. Ordered ws end v.work.now };
+
+    ghost Kept = { λ ws end a b. a.work.now ≡ b.work.now };
+
+    fn leaf(&mut self, s: &[u8], end: usize, depth: u32, at: usize, head: Head) {
+        let labelled = see_label(s, end, depth, at, self.work, self.found);
+        self.found = see_leaf(
+            s,
+            end,
+            depth,
+            at,
+            head.kind,
+            head.payload,
+            self.work,
+            labelled,
+        );
     }
-    p
+
+    fn enter_block(&mut self, s: &[u8], end: usize, depth: u32, at: usize, _head: Head) {
+        self.found = see_label(s, end, depth, at, self.work, self.found);
+    }
+
+    fn enter_alternative(&mut self, _s: &[u8], _end: usize, _depth: u32, _at: usize) {}
+
+    ghost laws = { Prim.search (rules, noting_past_block, noting_past_alternative) };
 }
 
 // Whether the alternative at `at` collides with what is marked.
@@ -177,8 +129,10 @@ pub fn clash_at(s: &[u8], end: usize, work: &[u8], at: usize) -> Clash
         label: false,
         binding: false,
     };
-    let w = Place { at, found: nothing };
-    let r = alternative(s, end, Block::DEPTH, work, w);
-    let found = r.found;
-    found
+    let mut comparer = Comparer {
+        work,
+        found: nothing,
+    };
+    walk_alternative(&mut comparer, s, end, Block::DEPTH, at);
+    comparer.found
 }

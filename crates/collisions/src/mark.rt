@@ -1,31 +1,26 @@
 // What stands around a call in a planned alternative is marked in the two sets of names.
 ghost use Rattle.std.specs.Prelude.{◌≡◌, ◌+◌, ◌<◌, ◌≤◌};
+ghost use Rattle.std.proofs.Common.{rules};
 ghost use Rattle.grammar.specs.Numbers.{block_kind, most_words};
 ghost use Rattle.grammar.specs.Tree.{inner_depth};
 ghost use Rattle.grammar.specs.Words.{words};
-ghost use Rattle.grammar.specs.Found.{FoundElement, FoundElements, FoundAlternative, FoundAlternatives, HeadAt};
-ghost use Rattle.grammar.specs.Fold.{ElementWalked, ElementsWalked, AlternativeWalked, AlternativesWalked};
+ghost use Rattle.grammar.specs.Found.{FoundElement, HeadAt};
 ghost use Rattle.words.specs.Room.{Room};
 ghost use Rattle.planned.specs.Layout.{meaning};
 ghost use Rattle.planned.specs.List.{Located, ListedIn};
-ghost use Rattle.collisions.specs.Names.{Ordered, Kept};
-ghost use Rattle.collisions.specs.Walks.{LeafSeen, FoundReference, FoundReferences, ItemsWalked};
-ghost use Rattle.collisions.specs.Mark.{marks_of, mark_leaf, marking, LabelMarked, ReferenceMarked, ReferencesMarked, MarkedAround};
+ghost use Rattle.collisions.specs.Names.{Ordered, Kept, kept_refl, kept_trans};
+ghost use Rattle.collisions.specs.Names as names;
+ghost use Rattle.collisions.specs.Walks.{noting_past_block, noting_past_alternative, LeafSeen, FoundReference, FoundReferences, ItemsWalked};
+ghost use Rattle.collisions.specs.Mark.{Marks, marks_of, mark_leaf, marking, LabelMarked, ReferenceMarked, ReferencesMarked, MarkedAround};
 
 use crate::names::{Names, clear_both, put};
 use crate::references::reference_count;
 use planned::list::Listed;
 use planned::read::item;
-use words::numbers::{Block, Kind, ReferenceKind};
-use words::walk::{alternative_head, element_head, leaf_end};
+use words::numbers::{Block, ReferenceKind};
+use words::visit::{Visitor, walk_element};
+use words::walk::Head;
 use words::words::word;
-
-// Where the walk is, and whether something referred to the name that is sought.
-#[derive(Clone, Copy)]
-struct Place {
-    at: usize,
-    dangling: bool,
-}
 
 fn mark_label(s: &[u8], end: usize, depth: u32, at: usize, work: &mut [u8])
     requires room { Room s.now end × (at + 6 ≤ end) × Ordered (words s.now) end work.old }
@@ -80,13 +75,11 @@ fn mark_references(
         (words s.now) end n at (marks_of (words s.now) work.old dangling)
         (marks_of (words s.now) work.new result) }
 {
-    let mut i: u32 = n;
     let mut p: usize = at;
     let mut refers = dangling;
-    while i != 0 {
+    for _ in 0..n {
         refers = mark_reference(s, end, p, name, work, refers);
         p += 2;
-        i -= 1;
     }
     refers
 }
@@ -116,131 +109,67 @@ fn mark_leaf(
     mark_references(s, end, n, payload + 2, name, work, dangling)
 }
 
-// The element at `w.at`, a block with all that is in it.
-#[cycle(tree)]
-fn element(s: &[u8], end: usize, depth: u32, name: u32, work: &mut [u8], w: Place) -> Place
-    requires room { Room s.now end × Ordered (words s.now) end work.old }
-    requires found_element { FoundElement (words s.now) end depth w.at }
-    ensures { Kept (words s.now) end work.old work.new × ElementWalked (marking name)
-        (words s.now) end depth w.at (marks_of (words s.now) work.old w.dangling) result.at
-        (marks_of (words s.now) work.new result.dangling) }
-{
-    let at = w.at;
-    let head = element_head(s, end, depth, at);
-    let kind = head.kind;
-    let payload = head.payload;
-    mark_label(s, end, depth, at, work);
-    if kind == Kind::BLOCK {
-        let count = word(s, payload);
-        let inner = Place {
-            at: payload + 1,
-            dangling: w.dangling,
-        };
-        return alternatives(s, end, depth - 1, name, work, count, inner);
-    }
-    let there = leaf_end(s, end, depth, at, kind, payload);
-    let refers = mark_leaf(s, end, depth, at, kind, payload, name, work, w.dangling);
-    Place {
-        at: there,
-        dangling: refers,
-    }
-}
-
-// n elements from `w.at` on.
-#[cycle(tree)]
-fn elements(s: &[u8], end: usize, depth: u32, name: u32, work: &mut [u8], n: u32, w: Place) -> Place
-    requires room { Room s.now end × Ordered (words s.now) end work.old × (w.at ≤ end) }
-    requires found_elements { FoundElements (words s.now) end depth n w.at }
-    ensures { Kept (words s.now) end work.old work.new × ElementsWalked (marking name)
-        (words s.now) end depth n w.at (marks_of (words s.now) work.old w.dangling) result.at
-        (marks_of (words s.now) work.new result.dangling) }
-{
-    let mut i: u32 = n;
-    let mut p = w;
-    while i != 0 {
-        let q = element(s, end, depth, name, work, p);
-        p = q;
-        i -= 1;
-    }
-    p
-}
-
-// The alternative at `w.at`.
-#[cycle(tree)]
-fn alternative(s: &[u8], end: usize, depth: u32, name: u32, work: &mut [u8], w: Place) -> Place
-    requires room { Room s.now end × Ordered (words s.now) end work.old }
-    requires found_alternative { FoundAlternative (words s.now) end depth w.at }
-    ensures { Kept (words s.now) end work.old work.new × AlternativeWalked (marking name)
-        (words s.now) end depth w.at (marks_of (words s.now) work.old w.dangling) result.at
-        (marks_of (words s.now) work.new result.dangling) }
-{
-    let head = alternative_head(s, end, depth, w.at);
-    let count = head.count;
-    let inner = Place {
-        at: head.first,
-        dangling: w.dangling,
-    };
-    elements(s, end, depth, name, work, count, inner)
-}
-
-// n alternatives from `w.at` on: a block.
-#[cycle(tree)]
-fn alternatives(
-    s: &[u8],
-    end: usize,
-    depth: u32,
+// What marks, in the sets of the work area, and whether something referred to the name that is sought.
+#[derive(Drop)]
+struct Marker<'a> {
     name: u32,
-    work: &mut [u8],
-    n: u32,
-    w: Place,
-) -> Place
-    requires room { Room s.now end × Ordered (words s.now) end work.old × (w.at ≤ end) }
-    requires found_alternatives { FoundAlternatives (words s.now) end depth n w.at }
-    ensures { Kept (words s.now) end work.old work.new × AlternativesWalked (marking name)
-        (words s.now) end depth n w.at (marks_of (words s.now) work.old w.dangling) result.at
-        (marks_of (words s.now) work.new result.dangling) }
-{
-    let mut i: u32 = n;
-    let mut p = w;
-    while i != 0 {
-        let q = alternative(s, end, depth, name, work, p);
-        p = q;
-        i -= 1;
+    work: &'a mut [u8],
+    dangling: bool,
+}
+
+impl Visitor for Marker<'_> {
+    ghost State = { Marks };
+
+    ghost steps = { λ ws v. marking v.name };
+
+    ghost state = { λ ws d v. marks_of ws v.work.now v.dangling };
+
+    ghost Fits = { λ ws end d at v. Ordered ws end v.work.now };
+
+    ghost Kept = { λ ws end a b. (a.work.ghost_name ≡ b.work.ghost_name) × (a.name ≡ b.name) × names.Kept ws end a.work.now b.work.now };
+
+    fn leaf(&mut self, s: &[u8], end: usize, depth: u32, at: usize, head: Head) {
+        mark_label(s, end, depth, at, self.work);
+        self.dangling = mark_leaf(
+            s,
+            end,
+            depth,
+            at,
+            head.kind,
+            head.payload,
+            self.name,
+            self.work,
+            self.dangling,
+        );
     }
-    p
+
+    fn enter_block(&mut self, s: &[u8], end: usize, depth: u32, at: usize, _head: Head) {
+        mark_label(s, end, depth, at, self.work);
+    }
+
+    fn enter_alternative(&mut self, _s: &[u8], _end: usize, _depth: u32, _at: usize) {}
+
+    ghost laws = { Prim.search (rules, noting_past_block, noting_past_alternative, kept_refl, kept_trans) };
 }
 
 // The elements of a planned alternative from one index up to another.
-fn mark_items(
-    s: &[u8],
-    end: usize,
-    work: &mut [u8],
-    x: Listed,
-    from: usize,
-    to: usize,
-    name: u32,
-    dangling: bool,
-) -> bool
-    requires room { Room s.now end × Located work.old x × (from ≤ to) × (to ≤ x.ne) }
-    requires ordered { Ordered (words s.now) end work.old × ListedIn (words s.now) end inner_depth work.old x }
-    ensures { Kept (words s.now) end work.old work.new × ItemsWalked (marking name) inner_depth
-        (meaning (words s.now) end inner_depth work.old x).elements from to
-        (marks_of (words s.now) work.old dangling)
-        (marks_of (words s.now) work.new result) }
+fn mark_items(marker: &mut Marker<'_>, s: &[u8], end: usize, x: Listed, from: usize, to: usize)
+    requires room { Room s.now end × Located marker.old.work.now x × (from ≤ to) × (to ≤ x.ne) }
+    requires ordered { Ordered (words s.now) end marker.old.work.now × ListedIn (words s.now) end inner_depth marker.old.work.now x }
+    ensures same_reference { marker.old.work.ghost_name ≡ marker.new.work.ghost_name }
+    ensures same_name { marker.old.name ≡ marker.new.name }
+    ensures marked { Kept (words s.now) end marker.old.work.now marker.new.work.now × ItemsWalked (marking marker.old.name) inner_depth
+        (meaning (words s.now) end inner_depth marker.old.work.now x).elements from to
+        (marks_of (words s.now) marker.old.work.now marker.old.dangling)
+        (marks_of (words s.now) marker.new.work.now marker.new.dangling) }
 {
     let mut i: usize = from;
-    let mut refers = dangling;
     while i < to {
+        let work = &mut *marker.work;
         let e = item(work, x, i);
-        let w = Place {
-            at: e.at,
-            dangling: refers,
-        };
-        let r = element(s, end, Block::DEPTH, name, work, w);
-        refers = r.dangling;
+        walk_element(marker, s, end, Block::DEPTH, e.at);
         i += 1;
     }
-    refers
 }
 
 // All elements of a planned alternative but the one at an index are marked, and nothing else. The answer says whether one of
@@ -260,6 +189,12 @@ pub fn mark_around(
         work.old work.new result }
 {
     clear_both(work);
-    let before = mark_items(s, end, work, x, 0, index, name, false);
-    mark_items(s, end, work, x, index + 1, x.ne, name, before)
+    let mut marker = Marker {
+        name,
+        work,
+        dangling: false,
+    };
+    mark_items(&mut marker, s, end, x, 0, index);
+    mark_items(&mut marker, s, end, x, index + 1, x.ne);
+    marker.dangling
 }

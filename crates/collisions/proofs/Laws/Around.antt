@@ -129,6 +129,12 @@ module _ (d : ℕ) (ws : List ℕ) (end : ℕ) (name : ℕ) (index : ℕ) (bs cs
       whole : marks_of ws fs r ≡ folded step (marks_of ws cs false) rest
       whole = second ∙ ap (λ m. folded step m (drop (suc index) es)) first ∙ sym (folded_append step (marks_of ws cs false) (take index es) (drop (suc index) es))
 
+-- In the work area as the marker leaves it.
+pub around_left : {ws : List ℕ} {end d : ℕ} {es : List (Element (Block d))} {index name : ℕ} {before after left : List ℕ} {r : Bool}
+    → left ≡ after → MarkedAround ws end d es index name before after r
+    → MarkedAround ws end d es index name before left r
+around_left same m = rw same m
+
 -- While marks are put, a record is listed as it was.
 module _ {bs cs : List ℕ} {x : Listed} (z : Cleared bs cs) (at : Located bs x) where
   pub clear_located : Located cs x

@@ -1,5 +1,5 @@
 -- Labels and references marked: one name, one element, one reference, and the list that stays as it was.
-use Prim.Native.Nat.{ℕ, ◌+◌, ◌-◌, ◌<◌, ◌≤◌}
+use Prim.Native.Nat.{ℕ, ◌+◌, ◌<◌, ◌≤◌}
 use mathlib.Core.Path.{◌≡◌, refl, sym, ap, ap₂, ◌∙◌}
 use mathlib.Core.Logic.{◌⊎◌, inl, inr}
 use mathlib.Core.List.{List, [], ◌∷◌, map}
@@ -8,20 +8,20 @@ use native.Mathlib.Omega.{arith}
 use lib.ListN.{length, get_or}
 use lib.Dec.{leb, eqb}
 use borrow.Author.Tests.{leb-true, le-leb, lt-leb}
-use Rattle.grammar.specs.Numbers.{most_name, action_kind, predicate_kind, block_kind, qualified}
+use Rattle.grammar.specs.Numbers.{most_name, action_kind, predicate_kind, qualified}
 use Rattle.grammar.specs.Tree.{Reference, Label, unlabelled, labelled, Leaf, epsilon, action, predicate, call, token, terminal, end_of_input}
 use Rattle.grammar.specs.Stands.{Spans}
 use Rattle.grammar.specs.Encode.{encode_reference, label_name, leaf_kind, encode_leaf}
 use Rattle.grammar.specs.Valid.{ok_reference, ok_label, ok_leaf}
 use Rattle.grammar.specs.Lists.{member, keep, push}
-use Rattle.grammar.specs.Found.{HeadAt, LeafEnd}
-use Rattle.grammar.specs.Fold.{folded, ElementWalked, AlternativesWalked}
+use Rattle.grammar.specs.Found.{HeadAt}
+use Rattle.grammar.specs.Fold.{folded}
 use Rattle.grammar.specs.Laws.Parse.{left_true}
 use Rattle.grammar.specs.Laws.Stands.{stands_head, stands_length}
 use Rattle.grammar.specs.Laws.Fold.{Folding, folding_done, folding_found}
+use Rattle.words.specs.Visit.{LeafPassed, BlockEntered}
 use Rattle.reference.specs.Walks.{references}
-use Rattle.planned.specs.Laws.Same.{same_refl, same_trans}
-use Rattle.collisions.specs.Names.{labels_bit, references_bit, has_name, Ordered, Kept, NamePut}
+use Rattle.collisions.specs.Names.{labels_bit, references_bit, has_name, Ordered, Kept, kept_refl, kept_trans, NamePut}
 use Rattle.collisions.specs.Walks.{LeafSeen, FoundReference, FoundReferences, Refers}
 use Rattle.collisions.specs.Mark.{Marks, marks_of, mark_label, mark_reference, mark_leaf, marking, LabelMarked, ReferenceMarked, ReferencesMarked}
 use Rattle.collisions.proofs.Laws.Bits.{labels_set, references_set}
@@ -29,12 +29,6 @@ use Rattle.collisions.proofs.Laws.Walks.{note_leaf, note_block, body_of}
 
 -- The list is as it was, and names rise.
 module _ {ws : List ℕ} {end : ℕ} where
-  pub kept_refl : {bs : List ℕ} → Ordered ws end bs → Kept ws end bs bs
-  kept_refl {bs} o = record { list = same_refl bs; ordered = o }
-
-  pub kept_trans : {as' bs cs : List ℕ} → Kept ws end as' bs → Kept ws end bs cs → Kept ws end as' cs
-  kept_trans s t = record { list = same_trans s.list t.list; ordered = t.ordered }
-
   pub kept_ordered : {bs cs : List ℕ} → Kept ws end bs cs → Ordered ws end cs
   kept_ordered s = s.ordered
 
@@ -178,17 +172,14 @@ module _ (name : ℕ) where
         go terminal q e u = absurd (some (c.count terminal q e u))
         go end_of_input q e u = absurd (some (c.count end_of_input q e u))
 
-  -- One element.
-  module _ (d : ℕ) {ws : List ℕ} {end at k p : ℕ} (head : HeadAt ws end at k p) {bs cs : List ℕ} (b : LabelMarked ws end at bs cs) (dangling : Bool) where
-    pub mark_leaf_lem : (k ≡ block_kind → ⊥) → {there : ℕ} {r : Marks} → LeafEnd ws end d at p there
-        → LeafSeen ws end k p (mark_leaf name) (marks_of ws cs dangling) r
-        → ElementWalked (marking name) ws end d at (marks_of ws bs dangling) there r
-    mark_leaf_lem other e f = note_leaf mark_label (mark_leaf name) d head other e (b.seen dangling) f
+-- An element.
+module _ {ws : List ℕ} {end at p : ℕ} {bs cs : List ℕ} (name : ℕ) (b : LabelMarked ws end at bs cs) (dangling : Bool) where
+  pub mark_leaf_lem : {k : ℕ} → HeadAt ws end at k p → {r : Marks} → LeafSeen ws end k p (mark_leaf name) (marks_of ws cs dangling) r
+      → LeafPassed (marking name) ws end at p (marks_of ws bs dangling) r
+  mark_leaf_lem head f = note_leaf mark_label (mark_leaf name) head (b.seen dangling) f
 
-    pub mark_block : k ≡ block_kind → {m q : ℕ} {t : Marks} → m ≡ get_or ws p 0
-        → AlternativesWalked (marking name) ws end (d - 1) m (p + 1) (marks_of ws cs dangling) q t
-        → ElementWalked (marking name) ws end d at (marks_of ws bs dangling) q t
-    mark_block six c w = note_block mark_label (mark_leaf name) d head six c (b.seen dangling) w
+  pub mark_block : BlockEntered (marking name) ws end at p (marks_of ws bs dangling) (marks_of ws cs dangling)
+  mark_block = note_block mark_label (mark_leaf name) (b.seen dangling)
 
 pub ruleset marks = (mark_leaf_lem, mark_block)
 

@@ -1,5 +1,5 @@
 -- A walk that looks at labels and leaves: one element, one alternative, and what it comes to.
-use Prim.Native.Nat.{ℕ, zero, suc, ◌+◌, ◌-◌}
+use Prim.Native.Nat.{ℕ, zero, suc, ◌+◌}
 use mathlib.Core.Path.{◌≡◌, refl, sym, ap, ◌∙◌}
 use mathlib.Core.Logic.{◌⊎◌, inl, inr}
 use mathlib.Core.List.{List, [], ◌∷◌, ◌++◌}
@@ -14,14 +14,13 @@ use Rattle.grammar.specs.Stands.{Spans}
 use Rattle.grammar.specs.Encode.{encode_reference, leaf_kind, encode_leaf}
 use Rattle.grammar.specs.Valid.{ok_reference, ok_label, ok_head, ok_leaf}
 use Rattle.grammar.specs.Lists.{each, all}
-use Rattle.grammar.specs.Found.{FoundElement, HeadAt, AlternativeAt, LeafEnd}
-use Rattle.grammar.specs.Fold.{Steps, folded, element_fold, alternative_fold, block_fold, ElementWalked, ElementsWalked, AlternativeWalked}
-use Rattle.grammar.specs.Fold.{AlternativesWalked}
+use Rattle.grammar.specs.Found.{FoundElement, HeadAt}
+use Rattle.grammar.specs.Fold.{Steps, folded, element_fold, alternative_fold, block_fold}
 use Rattle.grammar.specs.Laws.Parse.{left_true, right_true}
 use Rattle.grammar.specs.Laws.Stands.{run_stands}
 use Rattle.grammar.specs.Laws.Complete.{leaf_kind_lem}
 use Rattle.grammar.specs.Laws.Opened.{HeadWords, Opened, opened_leaf, opened_block, opened}
-use Rattle.grammar.specs.Laws.Fold.{fold_leaf, fold_block, fold_alternative}
+use Rattle.words.specs.Visit.{LeafPassed, BlockEntered, AlternativeEntered}
 use Rattle.reference.specs.Walks.{element_gives, block_gives, elements_give, references}
 use Rattle.collisions.specs.Walks.{noting, LabelSeen, LeafSeen, FoundReferences, Refers}
 
@@ -31,29 +30,25 @@ unfolding ok_head
 head_label {h = h} w = left_true (ok_label h.label) _ (right_true (leb h.quantifier one_or_more_nongreedy) _ w.fine)
 
 -- the steps
-module _ {S : Type 0} (of_label : S → Label → S) (of_leaf : S → Leaf → S) (d : ℕ) {ws : List ℕ} {end at : ℕ} where
-  module _ {k p : ℕ} (head : HeadAt ws end at k p) where
-    pub note_leaf : (k ≡ block_kind → ⊥) → {there : ℕ} {s t r : S} → LeafEnd ws end d at p there → LabelSeen ws at of_label s t
-        → LeafSeen ws end k p of_leaf t r → ElementWalked (noting of_label of_leaf) ws end d at s there r
-    unfolding noting
-    note_leaf other e b f =
-        fold_leaf (noting of_label of_leaf) head d other e λ h l q w u.
-        let z = leaf_kind_lem l in
-        f.is l q (let x = w.packed in let y = head.kind_is in omega arith) u
-        ∙ ap (λ x. of_leaf x l) (b.is h.label w.named (head_label w))
-
-    pub note_block : k ≡ block_kind → {m q : ℕ} {s i t : S} → m ≡ get_or ws p 0 → LabelSeen ws at of_label s i
-        → AlternativesWalked (noting of_label of_leaf) ws end (d - 1) m (p + 1) i q t
-        → ElementWalked (noting of_label of_leaf) ws end d at s q t
-    unfolding noting
-    note_block six c b w =
-        fold_block (noting of_label of_leaf) head six d c (λ h y. b.is h.label y.named (head_label y)) w λ h y. refl
-
-  pub note_alternative : {count first : ℕ} → AlternativeAt ws end at count first → {q : ℕ} {s t : S}
-      → ElementsWalked (noting of_label of_leaf) ws end d count first s q t
-      → AlternativeWalked (noting of_label of_leaf) ws end d at s q t
+module _ {S : Type 0} (of_label : S → Label → S) (of_leaf : S → Leaf → S) {ws : List ℕ} {end at : ℕ} where
+  pub note_leaf : {k p : ℕ} → HeadAt ws end at k p → {s t r : S} → LabelSeen ws at of_label s t → LeafSeen ws end k p of_leaf t r
+      → LeafPassed (noting of_label of_leaf) ws end at p s r
   unfolding noting
-  note_alternative head c = fold_alternative (noting of_label of_leaf) d head (λ a z w. refl) c λ a z w. refl
+  note_leaf head b f =
+      record {
+        is = λ h l q w u.
+            let z = leaf_kind_lem l in
+            f.is l q (let x = w.packed in let y = head.kind_is in omega arith) u
+            ∙ ap (λ x. of_leaf x l) (b.is h.label w.named (head_label w));
+      }
+
+  pub note_block : {p : ℕ} {s r : S} → LabelSeen ws at of_label s r → BlockEntered (noting of_label of_leaf) ws end at p s r
+  unfolding noting
+  note_block b = record { is = λ h y. b.is h.label y.named (head_label y) }
+
+  pub note_alternative : {d : ℕ} (s : S) → AlternativeEntered (noting of_label of_leaf) ws end at d s s
+  unfolding noting
+  note_alternative s = record { is = λ a z w. refl }
 
 pub ruleset notes = (note_leaf, note_block, note_alternative)
 

@@ -1,12 +1,18 @@
 use Rattle.std.proofs.Common.{rules}
-use Rattle.collisions.proofs.mark.mark_around.Goals as goal
-use Rattle.collisions.proofs.Laws.Around.{clear_ordered, clear_listed, around_done}
+use Rattle.grammar.specs.Tree.{inner_depth}
+use Rattle.grammar.specs.Words.{words}
+use Rattle.collisions.proofs.Laws.Around.{clear_ordered, clear_listed, around_done, around_left}
 use Rattle.collisions.proofs.Laws.Mark.{same}
+use Rattle.collisions.proofs.mark.mark_around.Goals as goal
 
--- src/mark.rt:263:9
-pub mark_items-before-requires-clause-ordered : goal.mark_items-before-requires-clause-ordered
-mark_items-before-requires-clause-ordered c = search (rules, clear_ordered, clear_listed, same)
+pub mark_items-requires-clause-ordered : goal.mark_items-requires-clause-ordered
+mark_items-requires-clause-ordered c = search (rules, clear_ordered, clear_listed, same)
 
--- src/mark.rt:248:1
 pub returns : goal.returns
-returns c = search (rules, same, around_done)
+returns c =
+    let before = c.mark_items.ensures in
+    let behind = c.mark_items-2.ensures in
+    let second = rw (← before.same_name) at behind.marked.1 in
+    around_left (search rules)
+    (around_done inner_depth (words c.args.s.now) c.args.end c.args.name c.args.index c.args.work.now _ _ c.args.x _ c.requires.room.2
+    c.clear_both.ensures before.marked.0 before.marked.1 behind.marked.0 second)

@@ -1,4 +1,5 @@
 use Prim.Native.Nat.{◌-◌}
+use Rattle.std.specs.Prelude.{◌≡◌}
 use Rattle.grammar.specs.Tree.{inner_depth}
 use Rattle.grammar.specs.Words.{words}
 use Rattle.planned.specs.Layout.{meaning}
@@ -8,8 +9,11 @@ use Rattle.collisions.proofs.Laws.Items.{Itemizing}
 use Rattle.collisions.proofs.mark.mark_items.Given as goal
 
 abbrev pub invariant-loop-i : goal.invariant-loop-i
-invariant-loop-i l = Kept (words l.s) l.end l.initial.work l.work
-    × Itemizing (marking l.name) inner_depth (meaning (words l.s) l.end inner_depth l.initial.work l.x).elements l.from l.to (marks_of (words l.s) l.initial.work l.dangling) l.i (marks_of (words l.s) l.work l.refers)
+invariant-loop-i l =
+    let v = l.initial.marker in
+    (v.work.ghost_name ≡ l.marker.work.ghost_name) × (v.name ≡ l.marker.name) × Kept (words l.s) l.end v.work.now l.marker.work.now
+    × Itemizing (marking v.name) inner_depth (meaning (words l.s) l.end inner_depth v.work.now l.x).elements l.from l.to
+    (marks_of (words l.s) v.work.now v.dangling) l.i (marks_of (words l.s) l.marker.work.now l.marker.dangling)
 
 abbrev pub decreases-loop-i : goal.decreases-loop-i
 decreases-loop-i l = l.to - l.i

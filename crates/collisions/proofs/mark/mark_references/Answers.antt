@@ -1,21 +1,24 @@
-use Rattle.std.proofs.Common.{rules}
-use Rattle.collisions.proofs.mark.mark_references.Goals as goal
-use Rattle.grammar.specs.Laws.Fold.{folding}
+use Rattle.std.proofs.Common.{◌≡◌, ◌+◌, ◌-◌, rules, arith}
+use Rattle.collisions.specs.Names.{kept_trans}
+use Rattle.grammar.specs.Laws.Fold.{folding_found, folding_more}
 use Rattle.collisions.proofs.Laws.Mark.{next_room, references_done, same}
+use Rattle.collisions.proofs.mark.mark_references.Goals as goal
 
--- src/mark.rt:87:9
 pub mark_reference-refers-requires-clause-room : goal.mark_reference-refers-requires-clause-room
-mark_reference-refers-requires-clause-room c = search (rules, folding, same, next_room)
+mark_reference-refers-requires-clause-room c =
+    let room = next_room c.args.name c.loop.invariant.2 (λ e. absurd (omega arith)) in search (rules, same)
 
--- src/mark.rt:87:9
-pub mark_reference-refers-requires-clause-found_reference :
-    goal.mark_reference-refers-requires-clause-found_reference
-mark_reference-refers-requires-clause-found_reference c = search (rules, folding, same)
+pub mark_reference-refers-requires-clause-found_reference : goal.mark_reference-refers-requires-clause-found_reference
+mark_reference-refers-requires-clause-found_reference c = folding_found c.loop.invariant.2 (λ e. absurd (omega arith))
 
--- src/mark.rt:86:5
-pub loop-i-preserved : goal.loop-i-preserved
-loop-i-preserved c = search (rules, folding, same, next_room, references_done)
+pub loop-preserved : goal.loop-preserved
+loop-preserved c =
+    let less : c.args.n - c.loop.counter - 1 ≡ c.args.n - (c.loop.counter + 1) = omega arith in
+    let marked = c.mark_reference-refers.ensures in (
+      kept_trans c.loop.invariant.0 marked.0,
+      omega arith,
+      rw (← less) (folding_more c.loop.invariant.2 (λ e. absurd (omega arith)) marked.1),
+    )
 
--- src/mark.rt:68:1
 pub returns : goal.returns
-returns c = search (rules, folding, same, references_done)
+returns c = (c.loop.invariant.0, references_done c.loop.invariant.2 (omega arith))

@@ -1,12 +1,11 @@
-use Prim.Native.Nat.{◌<◌}
+use Prim.Native.Nat.{◌-◌, ◌<◌}
 use Rattle.grammar.specs.Words.{words}
 use Rattle.collisions.specs.Names.{Kept}
 use Rattle.collisions.specs.Mark.{marks_of}
 use Rattle.collisions.proofs.Laws.Mark.{ReferencesFolding}
 use Rattle.collisions.proofs.mark.mark_references.Given as goal
 
-abbrev pub invariant-loop-i : goal.invariant-loop-i
-invariant-loop-i l = Kept (words l.s) l.end l.initial.work l.work × (0 < l.p) × ReferencesFolding l.name (words l.s) l.end l.n l.at (marks_of (words l.s) l.initial.work l.dangling) l.i l.p (marks_of (words l.s) l.work l.refers)
-
-abbrev pub decreases-loop-i : goal.decreases-loop-i
-decreases-loop-i l = l.i
+abbrev pub invariant-loop : goal.invariant-loop
+invariant-loop l =
+    Kept (words l.s) l.end l.initial.work l.work × (0 < l.p)
+    × ReferencesFolding l.name (words l.s) l.end l.n l.at (marks_of (words l.s) l.initial.work l.dangling) (l.n - l.counter) l.p (marks_of (words l.s) l.work l.refers)

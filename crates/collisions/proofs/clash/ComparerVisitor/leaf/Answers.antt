@@ -1,0 +1,6 @@
+use Rattle.std.proofs.Common.{rules}
+use Rattle.collisions.proofs.Laws.Walks.{notes}
+use Rattle.collisions.proofs.clash.ComparerVisitor.leaf.Goals as goal
+
+pub returns : goal.returns
+returns c = search (rules, notes)
