@@ -99,14 +99,8 @@ pub fn collect<F: Fn(usize) -> bool>(n: usize, test: F) -> [u64; Row::WORDS]
     r
 }
 
-fn are_zero(a: u64, b: u64) -> bool
-    ensures { Empty (a ∷ b ∷ []) result }
-{
-    a | b == 0
-}
-
 pub fn is_empty(row: [u64; Row::WORDS]) -> bool
     ensures { Empty row result }
 {
-    are_zero(row[0], row[1])
+    row[0] | row[1] == 0
 }
