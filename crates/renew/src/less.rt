@@ -14,21 +14,15 @@ fn word_less(w: u64, k: usize) -> u64
     (w ^ (w & (high << k))) | ((high >> 1) << k)
 }
 
-// The two words of a row.
-fn words_less(low: u64, high: u64, k: usize) -> [u64; Row::WORDS]
+pub fn without_place(row: [u64; Row::WORDS], k: usize) -> [u64; Row::WORDS]
     requires { k < rule_limit }
-    ensures { Less (low ∷ high ∷ []) k result }
+    ensures { Less row k result }
 {
+    let low = row[0];
+    let high = row[1];
     if k < Row::BITS {
         let w = word_less(low, k);
         return [w | ((high % 2) << 63), high >> 1];
     }
     [low, word_less(high, k - Row::BITS)]
-}
-
-pub fn without_place(row: [u64; Row::WORDS], k: usize) -> [u64; Row::WORDS]
-    requires { k < rule_limit }
-    ensures { Less row k result }
-{
-    words_less(row[0], row[1], k)
 }

@@ -132,15 +132,9 @@ zero_row x y a b =
 pub empty_row : {row : List ℕ} {r : Bool} → Empty (get_or row 0 0 ∷ get_or row 1 0 ∷ []) r → Empty row r
 empty_row {row} e =
     record {
-      none = λ t k. sym (same k) ∙ e.none t k;
-      some = λ f. let (j, l, b) = e.some f in (j, l, sym (same j) ∙ b);
+      none = λ t k. sym (two_words row k) ∙ e.none t k;
+      some = λ f. let (j, l, b) = e.some f in (j, l, sym (two_words row j) ∙ b);
     }
-  where
-    same : (k : ℕ) → bit (get_or row 0 0 ∷ get_or row 1 0 ∷ []) k ≡ bit row k
-    same k =
-        let words = get_or row 0 0 ∷ get_or row 1 0 ∷ [] in
-        places k (λ h. low_bit words k h ∙ sym (low_bit row k h)) (λ h i. high_bit words k h i ∙ sym (high_bit row k h i))
-        (λ h. no_bit words k h ∙ sym (no_bit row k h))
 
 pub or_false : (b : Bool) → (b || false) ≡ b
 or_false true = refl
