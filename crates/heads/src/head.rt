@@ -54,11 +54,9 @@ fn write_fixed(
     ensures { Wrote work.old work.new to
         (id ∷ get_or (words s.now) (slot + 1) 0 ∷ get_or (words s.now) (slot + 2) 0 ∷ no ∷ ne ∷ []) }
 {
-    write_words(
-        work,
-        to,
-        &[id, word(s, slot + 1), word(s, slot + 2), no, ne],
-    );
+    let carried = word(s, slot + 1);
+    let flag = word(s, slot + 2);
+    write_words(work, to, &[id, carried, flag, no, ne]);
 }
 
 pub fn write_head(s: &[u8], end: usize, depth: u32, work: &mut [u8], x: Listed, id: u32, to: usize)
