@@ -10,7 +10,7 @@ ghost use Rattle.listed.specs.Listed.{element_word, alternative_line};
 ghost use Rattle.listed.specs.Put.{PutFew};
 ghost use Rattle.listed.specs.Walk.{pen, listing, name_of};
 
-use crate::lines::{Byte, line_of_five, short_line};
+use crate::lines::line;
 use words::numbers::Kind;
 use words::walk::{alternative_head, element_head, leaf_end};
 use words::words::word;
@@ -53,7 +53,7 @@ fn element_line(
     let id = word(s, at);
     let quantifier = word(s, at + 2) / Kind::END;
     let name = name_of(kind, word(s, payload));
-    line_of_five(text, n, Byte::ELEMENT, level, id, kind, quantifier, name)
+    line(text, n, b"e", &[level, id, kind, quantifier, name])
 }
 
 // The line of the alternative at `at` itself.
@@ -62,7 +62,7 @@ fn alternative_line(s: &[u8], at: usize, level: u32, text: &mut [u8], n: usize) 
     ensures { PutFew text.old text.new n result (alternative_line level (get_or (words s.now) at 0)) 24 }
 {
     let id = word(s, at);
-    short_line(text, n, Byte::ALTERNATIVE, level, id)
+    line(text, n, b"a", &[level, id])
 }
 
 // The element at `at`, with all that is in it.
