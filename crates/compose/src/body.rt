@@ -7,12 +7,10 @@ ghost use Rattle.planned.specs.List.{Laid, AllIn};
 ghost use Rattle.heads.specs.Front.{compose_at};
 ghost use Rattle.compose.specs.Hub.{Moved, rule_head, Closed, HubFits, BodyDrawn, HubDrawn};
 
-use copies::pen::{Pen, Reason, write_entry};
-use heads::several::write_three;
+use copies::pen::{Pen, Reason, write_entry, write_words};
 use planned::list::Sizes;
 use words::numbers::Sort;
 use words::words::word;
-use writing::copy::write;
 use written::list::write_planned;
 
 // Id, name and flags of the rule at `at`, and how many alternatives it has now.
@@ -20,13 +18,11 @@ fn begin_rule(s: &[u8], end: usize, at: usize, n: u32, work: &mut [u8], pen: Pen
     requires { Room s.now end × (at + 4 ≤ end) × (4 * (pen.to + 4) ≤ length work.old) }
     ensures { Moved (rule_head (words s.now) end at n) work.old work.new pen result }
 {
-    write_three(work, pen.to, word(s, at), word(s, at + 1), word(s, at + 2));
-    write(work, pen.to + 3, n);
-    let counters = pen.counters;
+    let head = [word(s, at), word(s, at + 1), word(s, at + 2), n];
+    write_words(work, pen.to, &head);
     Pen {
         to: pen.to + 4,
-        trail: pen.trail,
-        counters,
+        ..pen
     }
 }
 
@@ -35,12 +31,10 @@ fn close(trail: &mut [u8], pen: Pen, id: u32) -> Pen
     requires { 4 * (pen.trail + 4) ≤ length trail.old }
     ensures { Closed id trail.old trail.new pen result }
 {
-    write_entry(trail, pen.trail, Sort::RULE, id, Reason::RULE_BOUNDARY, id);
-    let counters = pen.counters;
+    write_entry(trail, pen.trail, Sort::RULE, id, Reason::RuleBoundary, id);
     Pen {
-        to: pen.to,
         trail: pen.trail + 4,
-        counters,
+        ..pen
     }
 }
 

@@ -39,12 +39,11 @@ pub fn compose(
     let none = Rules::empty();
     let d = Draft { rules: none, pen };
     let w = compose_rules(s, end, rules, p, work, trail, d);
-    let made = w.rules;
     let behind = w.pen;
     let last = write_end(s, end, to, work, behind);
     Composed {
         pen: last,
-        rules: made,
+        rules: w.rules,
         end: behind.to - Draft::FIRST,
     }
 }

@@ -8,9 +8,8 @@ ghost use Rattle.heads.specs.Front.{compose_at};
 ghost use Rattle.drafts.specs.Draft.{compose_end};
 ghost use Rattle.compose.specs.Hub.{Moved, trailer_words, end_words};
 
-use copies::pen::Pen;
+use copies::pen::{Pen, write_words};
 use drafts::draft::Draft;
-use heads::several::{write_five, write_three};
 use words::words::word;
 use writing::copy::copy_words;
 
@@ -24,17 +23,17 @@ fn write_trailer(s: &[u8], end: usize, to: usize, work: &mut [u8], pen: Pen)
     let n = to - end;
     let first = (pen.to - Draft::FIRST + n) as u32;
     let c = pen.counters;
-    let at = pen.to + n;
-    write_three(work, at, word(s, to), first, n as u32);
-    write_five(
-        work,
-        at + 3,
+    let trailer = [
+        word(s, to),
+        first,
+        n as u32,
         c.alternative,
         c.element,
         c.label,
         c.action,
         c.predicate,
-    );
+    ];
+    write_words(work, pen.to + n, &trailer);
 }
 
 pub fn write_end(s: &[u8], end: usize, to: usize, work: &mut [u8], pen: Pen) -> Pen
@@ -45,10 +44,8 @@ pub fn write_end(s: &[u8], end: usize, to: usize, work: &mut [u8], pen: Pen) -> 
     let n = to - end;
     copy_words(s, end, work, pen.to, n);
     write_trailer(s, end, to, work, pen);
-    let counters = pen.counters;
     Pen {
         to: pen.to + n + 8,
-        trail: pen.trail,
-        counters,
+        ..pen
     }
 }

@@ -33,17 +33,13 @@ fn add_hub(
         work.new trail.new result }
 {
     let hub = p.hub;
-    let ids = rules.ids;
-    let names = rules.names;
-    let places = rules.places;
+    let at = index(rules.places[hub]);
     let pen = d.pen;
-    let l = p.l;
-    let behind = write_hub(s, end, index(places[hub]), l, work, trail, pen);
-    let with = add_row(d, ids[hub], names[hub], behind.to - pen.to);
-    let more = with.rules;
+    let behind = write_hub(s, end, at, p.l, work, trail, pen);
+    let with = add_row(d, rules.ids[hub], rules.names[hub], behind.to - pen.to);
     Draft {
-        rules: more,
         pen: behind,
+        ..with
     }
 }
 

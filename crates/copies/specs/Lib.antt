@@ -1,3 +1,4 @@
+pub mod Reasons
 pub mod Pen
 pub mod Copy
 pub mod Heads

@@ -6,7 +6,6 @@ use Rattle.reference.specs.Apply.{Entry, Fresh, past}
 use Rattle.reference.specs.Run.{are_words, encode_entry}
 use Rattle.writing.specs.Wrote.{Wrote}
 use Rattle.writing.specs.Taken.{counters_of}
-use Rattle.writing.specs.declared.counters.Taken.{Taken}
 use Rattle.copies.specs.declared.pen.Pen.{Pen}
 
 -- Room for words and for words of entries, and counters that are no further than their ends.
@@ -36,14 +35,6 @@ module _ {A : Type 0} (enc : A → List ℕ) (f : Fresh A) where
 pub record EntryRoom (n : ℕ) (t : List ℕ) (p : Pen) : Type 0 where
   pub entry : 4 * (p.trail + 4) ≤ length t
   pub counter : n + 1 < 2 ^ 32
-
--- The entry of an id just taken is written.
-pub record Noted (sort reason owner : ℕ) (t t' : List ℕ) (p : Pen) (taken : Taken) (id : ℕ) (p' : Pen) : Type 0 where
-  pub id_is : id ≡ taken.id
-  pub told : Wrote t t' p.trail (sort ∷ taken.id ∷ reason ∷ owner ∷ [])
-  pub to : p'.to ≡ p.to
-  pub trail : p'.trail ≡ p.trail + 4
-  pub counters : counters_of p'.counters ≡ counters_of taken.counters
 
 -- A fresh id of a sort, the counter n, was given, and its entry written.
 pub record Gave (sort n reason owner : ℕ) (t t' : List ℕ) (p : Pen) (id : ℕ) (p' : Pen) : Type 0 where

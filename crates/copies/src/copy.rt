@@ -5,8 +5,8 @@ ghost use Rattle.words.specs.Room.{Room};
 ghost use Rattle.copies.specs.Copy.{ElementFits, ElementCopied, ElementsFit, ElementsCopied};
 ghost use Rattle.copies.specs.Copy.{AlternativeFits, AlternativeCopied, AlternativesFit, AlternativesCopied};
 
-use crate::parts::{copy_alternative_head, copy_count, copy_head, copy_leaf};
-use crate::pen::Pen;
+use crate::parts::{copy_count, copy_head, copy_leaf, copy_marked};
+use crate::pen::{IdSort, Pen};
 use words::numbers::Kind;
 use words::walk::{alternative_head, element_head, leaf_end};
 use words::words::word;
@@ -19,6 +19,7 @@ pub struct Copied {
 }
 
 // The element at `at`, made plain or not.
+// Stays: copying a block calls itself, since blocks nest and the pass has no heap for a stack of its own.
 #[cycle(tree)]
 pub fn copy_element(
     s: &[u8],
@@ -69,14 +70,12 @@ fn copy_elements(
     ensures { ElementsCopied (words s.now) end depth n at out.old out.new
         trail.old trail.new pen result.next result.pen }
 {
-    let mut i: u32 = n;
-    let mut p: usize = at;
-    let mut w: Pen = pen;
-    while i != 0 {
+    let mut p = at;
+    let mut w = pen;
+    for _ in 0..n {
         let c = copy_element(s, end, depth, p, false, out, trail, w);
         p = c.next;
         w = c.pen;
-        i -= 1;
     }
     Copied { next: p, pen: w }
 }
@@ -100,7 +99,7 @@ fn copy_alternative(
     let head = alternative_head(s, end, depth, at);
     let count = head.count;
     let first = head.first;
-    let inside = copy_alternative_head(s, end, at, first, out, trail, pen);
+    let inside = copy_marked(s, end, at, first, IdSort::Alternative, out, trail, pen);
     copy_elements(s, end, depth, count, first, out, trail, inside)
 }
 
@@ -121,14 +120,12 @@ fn copy_alternatives(
     ensures { AlternativesCopied (words s.now) end depth n at out.old out.new
         trail.old trail.new pen result.next result.pen }
 {
-    let mut i: u32 = n;
-    let mut p: usize = at;
-    let mut w: Pen = pen;
-    while i != 0 {
+    let mut p = at;
+    let mut w = pen;
+    for _ in 0..n {
         let c = copy_alternative(s, end, depth, p, out, trail, w);
         p = c.next;
         w = c.pen;
-        i -= 1;
     }
     Copied { next: p, pen: w }
 }

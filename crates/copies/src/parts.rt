@@ -1,16 +1,13 @@
 // Copies of single records: an element's head, the payload of a leaf, an alternative's head.
 ghost use Rattle.std.specs.Prelude.{◌≡◌, ◌∷◌, ◌+◌, ◌-◌, ◌*◌, ◌≤◌, length, get_or, take, drop};
-ghost use Rattle.grammar.specs.Numbers.{alternative_sort, action_sort, predicate_sort};
 ghost use Rattle.grammar.specs.Words.{words};
 ghost use Rattle.words.specs.Room.{Room};
 ghost use Rattle.writing.specs.Wrote.{Wrote};
+ghost use Rattle.copies.specs.Reasons.{sort_number, counter_of};
 ghost use Rattle.copies.specs.Heads.{LabelRoom, LabelGiven, HeadRoom, HeadCopied, packed_if};
 ghost use Rattle.copies.specs.Heads.{MarkedRoom, BehindRoom, CopiedBehind, MarkedCopied, LeafRoom, LeafCopied, CountCopied};
 
-use crate::pen::{
-    Given, Pen, Reason, fresh_action, fresh_alternative, fresh_element, fresh_label,
-    fresh_predicate, write_two,
-};
+use crate::pen::{Given, IdSort, Pen, Reason, fresh, write_words};
 use words::numbers::Kind;
 use words::words::word;
 use writing::copy::{copy_words, write};
@@ -35,7 +32,8 @@ fn label_id(s: &[u8], at: usize, trail: &mut [u8], pen: Pen) -> Given
     if word(s, at + 1) == 0 {
         return Given { id: 0, pen };
     }
-    fresh_label(trail, pen, word(s, at))
+    let owner = word(s, at);
+    fresh(trail, pen, IdSort::Label, Reason::BlockBoundary, owner)
 }
 
 // The words of an element's head, of which three are given.
@@ -55,8 +53,7 @@ fn write_head(
         ∷ take (payload - (at + 4)) (drop (at + 4) (words s.now))) }
 {
     let carried = word(s, at + 1);
-    write_two(out, to, id, carried);
-    write_two(out, to + 2, kind, label);
+    write_words(out, to, &[id, carried, kind, label]);
     copy_words(s, at + 4, out, to + 4, payload - (at + 4));
 }
 
@@ -77,17 +74,13 @@ pub fn copy_head(
 {
     let to = pen.to + (payload - at);
     let kind = packed(s, at + 2, plain);
-    let given = fresh_element(trail, pen, word(s, at));
+    let owner = word(s, at);
+    let given = fresh(trail, pen, IdSort::Element, Reason::BlockBoundary, owner);
     let first = given.pen;
     let named = label_id(s, at + 3, trail, first);
     write_head(s, at, payload, given.id, kind, named.id, out, pen.to);
     let behind = named.pen;
-    let counters = behind.counters;
-    Pen {
-        to,
-        trail: behind.trail,
-        counters,
-    }
+    Pen { to, ..behind }
 }
 
 // An id just given, and the words that stand behind the old one.
@@ -96,71 +89,31 @@ fn copy_behind(s: &[u8], at: usize, there: usize, given: Given, out: &mut [u8]) 
     ensures { CopiedBehind (words s.now) at there given out.old out.new result }
 {
     let pen = given.pen;
-    let counters = pen.counters;
     let to = pen.to + (there - at);
     write(out, pen.to, given.id);
     copy_words(s, at + 1, out, pen.to + 1, there - (at + 1));
-    Pen {
-        to,
-        trail: pen.trail,
-        counters,
-    }
+    Pen { to, ..pen }
 }
 
-// An action with a fresh id.
-fn copy_action(
+// What begins with an id of a sort, up to a place, with a fresh id: an action, a predicate, or the head of a block's alternative up to
+// its first element.
+pub fn copy_marked(
     s: &[u8],
     end: usize,
     at: usize,
     there: usize,
+    sort: IdSort,
     out: &mut [u8],
     trail: &mut [u8],
     pen: Pen,
 ) -> Pen
     requires room { Room s.now end × (there ≤ end) }
-    requires marked_room { MarkedRoom pen.counters.action at there out.old trail.old pen }
-    ensures { MarkedCopied action_sort pen.counters.action (words s.now) at there
+    requires marked_room { MarkedRoom (counter_of sort pen.counters) at there out.old trail.old pen }
+    ensures { MarkedCopied (sort_number sort) (counter_of sort pen.counters) (words s.now) at there
         out.old out.new trail.old trail.new pen result }
 {
-    let given = fresh_action(trail, pen, word(s, at));
-    copy_behind(s, at, there, given, out)
-}
-
-// A predicate with a fresh id.
-fn copy_predicate(
-    s: &[u8],
-    end: usize,
-    at: usize,
-    there: usize,
-    out: &mut [u8],
-    trail: &mut [u8],
-    pen: Pen,
-) -> Pen
-    requires room { Room s.now end × (there ≤ end) }
-    requires marked_room { MarkedRoom pen.counters.predicate at there out.old trail.old pen }
-    ensures { MarkedCopied predicate_sort pen.counters.predicate (words s.now) at there
-        out.old out.new trail.old trail.new pen result }
-{
-    let given = fresh_predicate(trail, pen, word(s, at));
-    copy_behind(s, at, there, given, out)
-}
-
-// The head of a block's alternative with a fresh id, up to its first element.
-pub fn copy_alternative_head(
-    s: &[u8],
-    end: usize,
-    at: usize,
-    there: usize,
-    out: &mut [u8],
-    trail: &mut [u8],
-    pen: Pen,
-) -> Pen
-    requires room { Room s.now end × (there ≤ end) }
-    requires marked_room { MarkedRoom pen.counters.alternative at there out.old trail.old pen }
-    ensures { MarkedCopied alternative_sort pen.counters.alternative (words s.now) at there
-        out.old out.new trail.old trail.new pen result }
-{
-    let given = fresh_alternative(trail, pen, Reason::BLOCK_BOUNDARY, word(s, at));
+    let owner = word(s, at);
+    let given = fresh(trail, pen, sort, Reason::BlockBoundary, owner);
     copy_behind(s, at, there, given, out)
 }
 
@@ -180,19 +133,14 @@ pub fn copy_leaf(
         trail.old trail.new pen result }
 {
     if kind == Kind::ACTION {
-        return copy_action(s, end, at, there, out, trail, pen);
+        return copy_marked(s, end, at, there, IdSort::Action, out, trail, pen);
     }
     if kind == Kind::PREDICATE {
-        return copy_predicate(s, end, at, there, out, trail, pen);
+        return copy_marked(s, end, at, there, IdSort::Predicate, out, trail, pen);
     }
-    let counters = pen.counters;
     let to = pen.to + (there - at);
     copy_words(s, at, out, pen.to, there - at);
-    Pen {
-        to,
-        trail: pen.trail,
-        counters,
-    }
+    Pen { to, ..pen }
 }
 
 // How many alternatives a block has.
@@ -201,10 +149,8 @@ pub fn copy_count(n: u32, out: &mut [u8], pen: Pen) -> Pen
     ensures { CountCopied n out.old out.new pen result }
 {
     write(out, pen.to, n);
-    let counters = pen.counters;
     Pen {
         to: pen.to + 1,
-        trail: pen.trail,
-        counters,
+        ..pen
     }
 }

@@ -1,9 +1,8 @@
 // The pen that draws copies, the entries of the trail, and fresh ids with their entries.
-ghost use Rattle.std.specs.Prelude.{[], ◌∷◌, ◌+◌, ◌*◌, ◌≤◌, length};
-ghost use Rattle.grammar.specs.Numbers.{alternative_sort, element_sort, label_sort, action_sort, predicate_sort};
-ghost use Rattle.reference.specs.Numbers.{block_boundary};
+ghost use Rattle.std.specs.Prelude.{◌≡◌, [], ◌∷◌, ◌+◌, ◌*◌, ◌≤◌, length};
 ghost use Rattle.writing.specs.Wrote.{Wrote};
-ghost use Rattle.copies.specs.Pen.{EntryRoom, Noted, Gave};
+ghost use Rattle.copies.specs.Reasons.{reason_number, sort_number, counter_of, Took};
+ghost use Rattle.copies.specs.Pen.{EntryRoom, Gave};
 
 use words::numbers::Sort;
 use writing::copy::write;
@@ -17,14 +16,52 @@ pub struct Pen {
     pub counters: Counters,
 }
 
-// Why an entry was made (SPECIFICATION 12.1).
-#[derive(Drop)]
-pub struct Reason;
+// Why an entry was made.
+#[derive(Clone, Copy, Debug, PartialEq, Eq)]
+pub enum Reason {
+    RuleBoundary,
+    BlockBoundary,
+}
 
-impl Reason {
-    pub const RULE_BOUNDARY: u32 = 1;
+// The number by which the trail tells it (SPECIFICATION 12.1).
+impl From<Reason> for u32 {
+    ghost use Rattle.copies.specs.Reasons.{reason_number};
 
-    pub const BLOCK_BOUNDARY: u32 = 2;
+    ghost from_gives = { λ reason number. number ≡ reason_number reason };
+
+    fn from(reason: Reason) -> u32 {
+        match reason {
+            Reason::RuleBoundary => 1,
+            Reason::BlockBoundary => 2,
+        }
+    }
+}
+
+// The sorts of ids that copies get; rules are not copied.
+#[derive(Clone, Copy, Debug, PartialEq, Eq)]
+pub enum IdSort {
+    Alternative,
+    Element,
+    Label,
+    Action,
+    Predicate,
+}
+
+// The number by which the trail tells it.
+impl From<IdSort> for u32 {
+    ghost use Rattle.copies.specs.Reasons.{sort_number};
+
+    ghost from_gives = { λ sort number. number ≡ sort_number sort };
+
+    fn from(sort: IdSort) -> u32 {
+        match sort {
+            IdSort::Alternative => Sort::ALTERNATIVE,
+            IdSort::Element => Sort::ELEMENT,
+            IdSort::Label => Sort::LABEL,
+            IdSort::Action => Sort::ACTION,
+            IdSort::Predicate => Sort::PREDICATE,
+        }
+    }
 }
 
 // A fresh id, and the pen behind its entry.
@@ -34,116 +71,52 @@ pub struct Given {
     pub pen: Pen,
 }
 
-// Two words.
-pub fn write_two(out: &mut [u8], at: usize, a: u32, b: u32)
-    requires { 4 * (at + 2) ≤ length out.old }
-    ensures { Wrote out.old out.new at (a ∷ b ∷ []) }
+// Words one after the other.
+pub fn write_words(out: &mut [u8], at: usize, ws: &[u32])
+    requires { 4 * (at + length ws.now) ≤ length out.old }
+    ensures { Wrote out.old out.new at ws.now }
 {
-    write(out, at, a);
-    write(out, at + 1, b);
+    for (i, w) in ws.iter().enumerate() {
+        write(out, at + i, *w);
+    }
 }
 
 // Every entry of the trail is written here.
-pub fn write_entry(trail: &mut [u8], at: usize, kind: u32, id: u32, reason: u32, owner: u32)
+pub fn write_entry(trail: &mut [u8], at: usize, kind: u32, id: u32, reason: Reason, owner: u32)
     requires { 4 * (at + 4) ≤ length trail.old }
-    ensures { Wrote trail.old trail.new at (kind ∷ id ∷ reason ∷ owner ∷ []) }
+    ensures { Wrote trail.old trail.new at (kind ∷ id ∷ reason_number reason ∷ owner ∷ []) }
 {
-    write_two(trail, at, kind, id);
-    write_two(trail, at + 2, reason, owner);
+    write_words(trail, at, &[kind, id, u32::from(reason), owner]);
 }
 
-// The entry of an id just taken.
-fn note(trail: &mut [u8], pen: Pen, sort: u32, taken: Taken, reason: u32, owner: u32) -> Given
-    requires { 4 * (pen.trail + 4) ≤ length trail.old }
-    ensures { Noted sort reason owner trail.old trail.new pen taken result.id result.pen }
+// An id of a sort just taken.
+fn take_id(counters: Counters, sort: IdSort) -> Taken
+    ensures { Took sort counters result.id result.counters }
 {
-    write_entry(trail, pen.trail, sort, taken.id, reason, owner);
+    match sort {
+        IdSort::Alternative => counters.take_alternative(),
+        IdSort::Element => counters.take_element(),
+        IdSort::Label => counters.take_label(),
+        IdSort::Action => counters.take_action(),
+        IdSort::Predicate => counters.take_predicate(),
+    }
+}
+
+// A fresh id of a sort, with its entry.
+pub fn fresh(trail: &mut [u8], pen: Pen, sort: IdSort, reason: Reason, owner: u32) -> Given
+    requires { EntryRoom (counter_of sort pen.counters) trail.old pen }
+    ensures { Gave (sort_number sort) (counter_of sort pen.counters) (reason_number reason) owner
+        trail.old trail.new pen result.id result.pen }
+{
+    let taken = take_id(pen.counters, sort);
+    write_entry(trail, pen.trail, u32::from(sort), taken.id, reason, owner);
     let counters = taken.counters;
     Given {
         id: taken.id,
         pen: Pen {
-            to: pen.to,
             trail: pen.trail + 4,
             counters,
+            ..pen
         },
     }
-}
-
-// A fresh id of each sort, with its entry; that of an alternative of the hub's new body has another reason.
-pub fn fresh_alternative(trail: &mut [u8], pen: Pen, reason: u32, owner: u32) -> Given
-    requires { EntryRoom pen.counters.alternative trail.old pen }
-    ensures { Gave alternative_sort pen.counters.alternative reason owner trail.old trail.new pen
-        result.id result.pen }
-{
-    let before = pen.counters;
-    let taken = before.take_alternative();
-    note(trail, pen, Sort::ALTERNATIVE, taken, reason, owner)
-}
-
-pub fn fresh_element(trail: &mut [u8], pen: Pen, owner: u32) -> Given
-    requires { EntryRoom pen.counters.element trail.old pen }
-    ensures { Gave element_sort pen.counters.element block_boundary owner trail.old trail.new pen
-        result.id result.pen }
-{
-    let before = pen.counters;
-    let taken = before.take_element();
-    note(
-        trail,
-        pen,
-        Sort::ELEMENT,
-        taken,
-        Reason::BLOCK_BOUNDARY,
-        owner,
-    )
-}
-
-pub fn fresh_label(trail: &mut [u8], pen: Pen, owner: u32) -> Given
-    requires { EntryRoom pen.counters.label trail.old pen }
-    ensures { Gave label_sort pen.counters.label block_boundary owner trail.old trail.new pen
-        result.id result.pen }
-{
-    let before = pen.counters;
-    let taken = before.take_label();
-    note(
-        trail,
-        pen,
-        Sort::LABEL,
-        taken,
-        Reason::BLOCK_BOUNDARY,
-        owner,
-    )
-}
-
-pub fn fresh_action(trail: &mut [u8], pen: Pen, owner: u32) -> Given
-    requires { EntryRoom pen.counters.action trail.old pen }
-    ensures { Gave action_sort pen.counters.action block_boundary owner trail.old trail.new pen
-        result.id result.pen }
-{
-    let before = pen.counters;
-    let taken = before.take_action();
-    note(
-        trail,
-        pen,
-        Sort::ACTION,
-        taken,
-        Reason::BLOCK_BOUNDARY,
-        owner,
-    )
-}
-
-pub fn fresh_predicate(trail: &mut [u8], pen: Pen, owner: u32) -> Given
-    requires { EntryRoom pen.counters.predicate trail.old pen }
-    ensures { Gave predicate_sort pen.counters.predicate block_boundary owner trail.old trail.new pen
-        result.id result.pen }
-{
-    let before = pen.counters;
-    let taken = before.take_predicate();
-    note(
-        trail,
-        pen,
-        Sort::PREDICATE,
-        taken,
-        Reason::BLOCK_BOUNDARY,
-        owner,
-    )
 }

@@ -28,7 +28,7 @@ fn with(mut rules: Rules, id: u32, name: u32, place: u32) -> Rules
     rules.ids[n] = id;
     rules.names[n] = name;
     rules.places[n] = place;
-    rules.n = rules.n + 1;
+    rules.n += 1;
     rules
 }
 
@@ -37,17 +37,13 @@ pub fn add_row(d: Draft, id: u32, name: u32, n: usize) -> Draft
     requires { (d.rules.n < rule_limit) × (compose_at ≤ d.pen.to) × (d.pen.to + n ≤ compose_end) }
     ensures { RowAdded id name n d result }
 {
-    let before = d.rules;
     let pen = d.pen;
     let place = (pen.to - Draft::FIRST) as u32;
-    let rules = with(before, id, name, place);
-    let counters = pen.counters;
     Draft {
-        rules,
+        rules: with(d.rules, id, name, place),
         pen: Pen {
             to: pen.to + n,
-            trail: pen.trail,
-            counters,
+            ..pen
         },
     }
 }

@@ -45,11 +45,9 @@ pub fn copy_rules(
     let names = rules.names;
     let places = rules.places;
     let pen = d.pen;
-    let counters = pen.counters;
     let mut made = d.rules;
     let mut to = pen.to;
-    let mut i = from;
-    while i < until {
+    for i in from..until {
         if !has(row, i) {
             let at = index(places[i]);
             let long = rule_end(&places, n, i, end) - at;
@@ -58,17 +56,12 @@ pub fn copy_rules(
             made.ids[k] = ids[i];
             made.names[k] = names[i];
             made.places[k] = (to - Draft::FIRST) as u32;
-            made.n = made.n + 1;
+            made.n += 1;
             to += long;
         }
-        i += 1;
     }
     Draft {
         rules: made,
-        pen: Pen {
-            to,
-            trail: pen.trail,
-            counters,
-        },
+        pen: Pen { to, ..pen },
     }
 }

@@ -1,5 +1,4 @@
 -- The laws that the answers cite, each in the shape of the facts that the code has at one of its returns.
-pub mod Several
 pub mod Read
 pub mod Options
 pub mod Same

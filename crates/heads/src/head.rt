@@ -12,8 +12,7 @@ ghost use Rattle.heads.specs.Front.{compose_at};
 ghost use Rattle.heads.specs.Head.{head_words};
 
 use crate::read::option_place;
-use crate::several::write_five;
-use copies::pen::write_two;
+use copies::pen::write_words;
 use planned::hand::place;
 use planned::list::Listed;
 use words::words::word;
@@ -24,7 +23,7 @@ fn write_option(s: &[u8], end: usize, p: usize, work: &mut [u8], to: usize)
     ensures { Wrote work.old work.new to
         (get_or (words s.now) p 0 ∷ get_or (words s.now) (p + 1) 0 ∷ []) }
 {
-    write_two(work, to, word(s, p), word(s, p + 1));
+    write_words(work, to, &[word(s, p), word(s, p + 1)]);
 }
 
 // The options, two words each.
@@ -34,11 +33,9 @@ fn write_options(s: &[u8], end: usize, depth: u32, work: &mut [u8], x: Listed, t
     ensures { Wrote work.old work.new to
         (each encode_option (options_from (words s.now) end depth work.old x.o x.no)) }
 {
-    let mut i: usize = 0;
-    while i < x.no {
+    for i in 0..x.no {
         let p = option_place(work, x, i);
         write_option(s, end, p, work, to + 2 * i);
-        i += 1;
     }
 }
 
@@ -57,7 +54,9 @@ fn write_fixed(
     ensures { Wrote work.old work.new to
         (id ∷ get_or (words s.now) (slot + 1) 0 ∷ get_or (words s.now) (slot + 2) 0 ∷ no ∷ ne ∷ []) }
 {
-    write_five(work, to, id, word(s, slot + 1), word(s, slot + 2), no, ne);
+    let carried = word(s, slot + 1);
+    let flag = word(s, slot + 2);
+    write_words(work, to, &[id, carried, flag, no, ne]);
 }
 
 pub fn write_head(s: &[u8], end: usize, depth: u32, work: &mut [u8], x: Listed, id: u32, to: usize)

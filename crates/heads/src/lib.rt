@@ -5,4 +5,3 @@
 pub mod head;
 pub mod read;
 pub mod same;
-pub mod several;

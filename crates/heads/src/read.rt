@@ -5,6 +5,7 @@ ghost use Rattle.planned.specs.List.{Laid, Located};
 ghost use Rattle.planned.specs.Reading.{OnTrack};
 ghost use Rattle.heads.specs.Front.{ReadHere};
 
+use planned::halves::half;
 use planned::list::{Listed, Sizes};
 use planned::read::{Cursor, Read, read_settled};
 
@@ -18,22 +19,14 @@ pub fn read_here(work: &[u8], l: Sizes, c: Cursor) -> Read
     let next = r.next;
     Read {
         x: Listed {
-            slot: x.slot,
-            origin: x.origin,
             ne: next.e - c.e,
             no: next.o - c.o,
             e: c.e,
             o: Sizes::FIRST_OPTION + c.o,
+            ..x
         },
         next,
     }
-}
-
-// A byte as a place.
-fn wide(x: u8) -> usize
-    ensures { (result ≡ x) × (result < 256) }
-{
-    x as usize
 }
 
 // Where the option at an index of an alternative stands in the sheet.
@@ -42,5 +35,5 @@ pub fn option_place(work: &[u8], x: Listed, i: usize) -> usize
     ensures { result ≡ half work.now (x.o + i) }
 {
     let at = x.o + i;
-    wide(work[2 * at]) + 256 * wide(work[2 * at + 1])
+    usize::from(half(work, at))
 }

@@ -4,7 +4,7 @@ ghost use Rattle.grammar.specs.Words.{words};
 ghost use Rattle.words.specs.Room.{Room};
 ghost use Rattle.heads.specs.Same.{ItemThere, SameFits, SameCopied, SpanCopied};
 
-use crate::several::write_three;
+use copies::pen::write_words;
 use ends::ends::element_end;
 use words::numbers::Kind;
 use words::words::word;
@@ -25,7 +25,7 @@ fn copy_span(
 {
     let n = q - at;
     if plain {
-        write_three(out, to, word(s, at), word(s, at + 1), Kind::CALL);
+        write_words(out, to, &[word(s, at), word(s, at + 1), Kind::CALL]);
         copy_words(s, at + 3, out, to + 3, n - 3);
         return to + n;
     }

@@ -6,7 +6,7 @@ ghost use Rattle.listed.specs.Listed.{entry_word};
 ghost use Rattle.listed.specs.Put.{PutFew};
 ghost use Rattle.listed.specs.Ready.{Recorded, EntriesPut};
 
-use crate::lines::{Byte, line_of_four};
+use crate::lines::line;
 use words::words::word;
 
 // The entry at `at`, counted in words.
@@ -20,7 +20,7 @@ fn entry(trail: &[u8], at: usize, text: &mut [u8], n: usize) -> usize
     let id = word(trail, at + 1);
     let reason = word(trail, at + 2);
     let owner = word(trail, at + 3);
-    line_of_four(text, n, Byte::ENTRY, kind, id, reason, owner)
+    line(text, n, b"t", &[kind, id, reason, owner])
 }
 
 // So many entries.
@@ -28,14 +28,9 @@ pub fn list_entries(trail: &[u8], count: usize, text: &mut [u8], n: usize) -> us
     requires { Recorded trail.now count × (n < 2 ^ 30) }
     ensures { EntriesPut trail.now count text.old text.new n result }
 {
-    let mut i: usize = count;
-    let mut at: usize = 0;
-    let mut p: usize = n;
-    while i != 0 {
-        let q = entry(trail, at, text, p);
-        p = q;
-        at += 4;
-        i -= 1;
+    let mut p = n;
+    for i in 0..count {
+        p = entry(trail, 4 * i, text, p);
     }
     p
 }

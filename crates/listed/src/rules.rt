@@ -6,7 +6,7 @@ ghost use Rattle.words.specs.Room.{Room};
 ghost use Rattle.listed.specs.Walk.{pen, RuleListed, RulesListed};
 ghost use Rattle.listed.specs.Ready.{Ruled, Counted, RulesPut};
 
-use crate::lines::{Byte, short_line};
+use crate::lines::line;
 use crate::walk::{Passed, alternatives};
 use records::rules::read_rules;
 use words::numbers::Block;
@@ -22,7 +22,7 @@ fn rule(s: &[u8], end: usize, at: usize, text: &mut [u8], n: usize) -> Passed
     let id = word(s, at);
     let name = word(s, at + 1);
     let count = word(s, at + 3);
-    let p = short_line(text, n, Byte::RULE, id, name);
+    let p = line(text, n, b"r", &[id, name]);
     alternatives(s, end, Block::DEPTH, 0, count, at + 4, text, p)
 }
 
@@ -33,14 +33,12 @@ fn rules(s: &[u8], end: usize, count: u32, text: &mut [u8], n: usize) -> Passed
     ensures { (result.n ≤ 10 * result.at + 64) × RulesListed (words s.now) end count 0
         (pen text.old n 0) result.at (pen text.new result.n 0) }
 {
-    let mut i: u32 = count;
-    let mut p: usize = 0;
-    let mut q: usize = n;
-    while i != 0 {
+    let mut p = 0;
+    let mut q = n;
+    for _ in 0..count {
         let r = rule(s, end, p, text, q);
         p = r.at;
         q = r.n;
-        i -= 1;
     }
     Passed { at: p, n: q }
 }

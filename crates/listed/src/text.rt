@@ -11,7 +11,6 @@ pub fn push(text: &mut [u8], n: usize, b: u8) -> usize
 {
     if n < text.len() {
         text[n] = b;
-        return n + 1;
     }
     n + 1
 }
@@ -21,12 +20,9 @@ pub fn write(text: &mut [u8], n: usize, word: &[u8]) -> usize
     requires { n + length word.now < 2 ^ 40 }
     ensures { Put text.old text.new n result word.now }
 {
-    let mut i: usize = 0;
     let mut p = n;
-    while i < word.len() {
-        let q = push(text, p, word[i]);
-        p = q;
-        i += 1;
+    for b in word {
+        p = push(text, p, *b);
     }
     p
 }
@@ -35,7 +31,7 @@ fn digit(d: u32) -> u8
     requires { d < 10 }
     ensures { result ≡ T.digit d }
 {
-    48 + d as u8
+    b'0' + d as u8
 }
 
 // A number in decimal.

@@ -11,7 +11,7 @@ ghost use Rattle.listed.specs.Listed.{element_word, alternative_line};
 ghost use Rattle.listed.specs.Put.{PutFew};
 ghost use Rattle.listed.specs.Walk.{Pen, pen, listing, name_of};
 
-use crate::lines::{Byte, line_of_five, short_line};
+use crate::lines::line;
 use words::numbers::Kind;
 use words::visit::{Visitor, walk_alternatives};
 use words::walk::Head;
@@ -55,7 +55,7 @@ fn element_line(
     let id = word(s, at);
     let quantifier = word(s, at + 2) / Kind::END;
     let name = name_of(kind, word(s, payload));
-    line_of_five(text, n, Byte::ELEMENT, level, id, kind, quantifier, name)
+    line(text, n, b"e", &[level, id, kind, quantifier, name])
 }
 
 // The line of the alternative at `at` itself.
@@ -64,7 +64,7 @@ fn alternative_line(s: &[u8], at: usize, level: u32, text: &mut [u8], n: usize) 
     ensures { PutFew text.old text.new n result (alternative_line level (get_or (words s.now) at 0)) 24 }
 {
     let id = word(s, at);
-    short_line(text, n, Byte::ALTERNATIVE, level, id)
+    line(text, n, b"a", &[level, id])
 }
 
 // What lists: the text up to `n`, at a level that rises as the depth falls; both together are `top`.

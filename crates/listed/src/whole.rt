@@ -5,7 +5,7 @@ ghost use Rattle.listed.specs.Put.{Filled};
 ghost use Rattle.listed.specs.Ready.{Held, Recorded, RulesEnd, JoinedPut, most_text};
 
 use crate::entries::list_entries;
-use crate::lines::{line_of_one, line_of_two};
+use crate::lines::line;
 use crate::rules::list_rules;
 use words::numbers::Sheet;
 use words::words::word;
@@ -14,7 +14,7 @@ use words::words::word;
 pub fn list_refused(number: u32, text: &mut [u8]) -> usize
     ensures { Filled text.old text.new result (listed_refusal number) most_text }
 {
-    line_of_one(text, 0, b"refused", number)
+    line(text, 0, b"refused", &[number])
 }
 
 // Where the rules of a sheet of n words end: in front of the preserved ids, whose number its trailer has.
@@ -43,7 +43,7 @@ pub fn list_joined(
         text.old text.new result }
 {
     let end = rules_end(res, n);
-    let p = line_of_two(text, 0, b"ok", plans, steps);
+    let p = line(text, 0, b"ok", &[plans, steps]);
     let q = list_rules(res, end, text, p);
     list_entries(trail, entries, text, q)
 }

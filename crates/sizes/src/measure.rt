@@ -9,7 +9,7 @@ ghost use Rattle.planned.specs.Layout.{meaning, settled};
 ghost use Rattle.planned.specs.List.{Laid, Located, ListedIn, AllIn};
 ghost use Rattle.sizes.specs.Sized.{ElementSized, ElementsSized, AlternativeSized, Measured};
 
-use crate::sums::{Measure, add};
+use crate::sums::Measure;
 use crate::tally::{Tally, element};
 use planned::list::{Listed, Mark, Sizes};
 use planned::read::{Cursor, item, read_settled};
@@ -46,22 +46,10 @@ fn measure_elements(s: &[u8], end: usize, depth: u32, work: &[u8], x: Listed) ->
     requires listed_in { ListedIn (words s.now) end depth work.now x }
     ensures { ElementsSized depth (meaning (words s.now) end depth work.now x).elements result }
 {
-    let mut m = Measure {
-        alternatives: 0,
-        elements: 0,
-        labels: 0,
-        actions: 0,
-        predicates: 0,
-        words: 0,
-    };
-    let mut i: usize = 0;
-    while i < x.ne {
+    let mut m = Measure::default();
+    for i in 0..x.ne {
         let e = item(work, x, i);
-        let at = e.at;
-        let n = measure_element(s, end, depth, at);
-        let both = add(m, n);
-        m = both;
-        i += 1;
+        m = m + measure_element(s, end, depth, e.at);
     }
     m
 }
@@ -77,20 +65,13 @@ fn measure_alternative(s: &[u8], end: usize, depth: u32, work: &[u8], x: Listed)
     if x.slot < Mark::BIT {
         return Measure {
             alternatives: m.alternatives + 1,
-            elements: m.elements,
-            labels: m.labels,
-            actions: m.actions,
-            predicates: m.predicates,
             words,
+            ..m
         };
     }
     Measure {
-        alternatives: 0,
-        elements: 0,
-        labels: 0,
-        actions: 0,
-        predicates: 0,
         words,
+        ..Measure::default()
     }
 }
 
@@ -99,21 +80,11 @@ fn measure_list(s: &[u8], end: usize, depth: u32, work: &[u8], l: Sizes) -> Meas
     requires laid { Laid work.now l × AllIn (words s.now) end depth work.now l }
     ensures { Measured depth (settled (words s.now) end depth work.now l) result }
 {
-    let mut m = Measure {
-        alternatives: 0,
-        elements: 0,
-        labels: 0,
-        actions: 0,
-        predicates: 0,
-        words: 0,
-    };
+    let mut m = Measure::default();
     let mut c = Cursor::front();
-    while c.a < l.outa {
+    for _ in 0..l.outa {
         let r = read_settled(work, l, c);
-        let x = r.x;
-        let n = measure_alternative(s, end, depth, work, x);
-        let both = add(m, n);
-        m = both;
+        m = m + measure_alternative(s, end, depth, work, r.x);
         c = r.next;
     }
     m

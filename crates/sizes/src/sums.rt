@@ -1,9 +1,8 @@
 // Measures, and their sums.
-ghost use Rattle.std.specs.Prelude.{◌≡◌, ◌^◌};
-ghost use Rattle.sizes.specs.Sized.{Under, plus};
+use std::ops::Add;
 
 // How many fresh ids of each sort, and how many words.
-#[derive(Clone, Copy)]
+#[derive(Clone, Copy, Debug, Default, PartialEq, Eq)]
 pub struct Measure {
     pub alternatives: usize,
     pub elements: usize,
@@ -14,16 +13,24 @@ pub struct Measure {
 }
 
 // Two measures together.
-pub fn add(m: Measure, n: Measure) -> Measure
-    requires { Under m (2 ^ 32) × Under n (2 ^ 32) }
-    ensures { result ≡ plus m n }
-{
-    Measure {
-        alternatives: m.alternatives + n.alternatives,
-        elements: m.elements + n.elements,
-        labels: m.labels + n.labels,
-        actions: m.actions + n.actions,
-        predicates: m.predicates + n.predicates,
-        words: m.words + n.words,
+impl Add for Measure {
+    type Output = Measure;
+
+    ghost use Rattle.std.specs.Prelude.{◌≡◌, ◌^◌};
+    ghost use Rattle.sizes.specs.Sized.{Under, plus};
+
+    ghost can_add = { λ m n. Under m (2 ^ 32) × Under n (2 ^ 32) };
+
+    ghost add_gives = { λ m n r. r ≡ plus m n };
+
+    fn add(self, n: Measure) -> Measure {
+        Measure {
+            alternatives: self.alternatives + n.alternatives,
+            elements: self.elements + n.elements,
+            labels: self.labels + n.labels,
+            actions: self.actions + n.actions,
+            predicates: self.predicates + n.predicates,
+            words: self.words + n.words,
+        }
     }
 }

@@ -27,20 +27,12 @@ fn write_item(
     ensures { ItemDrawn (words s.now) end depth e.at e.plain fresh work.old work.new
         trail.old trail.new pen result }
 {
-    let at = e.at;
-    let plain = e.plain;
     if fresh {
-        let c = copy_element(s, end, depth, at, plain, work, trail, pen);
-        let behind = c.pen;
-        return behind;
+        let c = copy_element(s, end, depth, e.at, e.plain, work, trail, pen);
+        return c.pen;
     }
-    let to = copy_same(s, end, depth, at, plain, work, pen.to);
-    let counters = pen.counters;
-    Pen {
-        to,
-        trail: pen.trail,
-        counters,
-    }
+    let to = copy_same(s, end, depth, e.at, e.plain, work, pen.to);
+    Pen { to, ..pen }
 }
 
 // All elements of an alternative that is listed.
@@ -59,13 +51,10 @@ pub fn write_items(
     ensures { ItemsDrawn (words s.now) end depth work.old x fresh work.new
         trail.old trail.new pen result }
 {
-    let mut i: usize = 0;
     let mut w = pen;
-    while i < x.ne {
+    for i in 0..x.ne {
         let e = item(work, x, i);
-        let p = write_item(s, end, depth, e, fresh, work, trail, w);
-        w = p;
-        i += 1;
+        w = write_item(s, end, depth, e, fresh, work, trail, w);
     }
     w
 }

@@ -14,7 +14,7 @@ ghost use Rattle.written.specs.Items.{Readable};
 ghost use Rattle.written.specs.Planned.{HeadDrawn, AlternativeFits, AlternativeDrawn, ListFits, ListDrawn, drawn_list};
 
 use crate::items::write_items;
-use copies::pen::{Pen, Reason, fresh_alternative};
+use copies::pen::{IdSort, Pen, Reason, fresh};
 use heads::head::write_head;
 use heads::read::read_here;
 use planned::list::{Listed, Mark, Sizes};
@@ -37,11 +37,9 @@ fn begin(s: &[u8], end: usize, depth: u32, work: &mut [u8], x: Listed, id: u32, 
     ensures { HeadDrawn (words s.now) end depth work.old x id work.new pen result }
 {
     write_head(s, end, depth, work, x, id, pen.to);
-    let counters = pen.counters;
     Pen {
         to: pen.to + 5 + 2 * x.no,
-        trail: pen.trail,
-        counters,
+        ..pen
     }
 }
 
@@ -83,9 +81,8 @@ fn write_new(
         trail.old trail.new pen result }
 {
     let owner = id_at(s, end, x.origin as usize);
-    let given = fresh_alternative(trail, pen, Reason::RULE_BOUNDARY, owner);
-    let first = given.pen;
-    let inside = begin(s, end, depth, work, x, given.id, first);
+    let given = fresh(trail, pen, IdSort::Alternative, Reason::RuleBoundary, owner);
+    let inside = begin(s, end, depth, work, x, given.id, given.pen);
     write_items(s, end, depth, work, x, true, trail, inside)
 }
 
@@ -127,11 +124,9 @@ fn write_list(
 {
     let mut c = Cursor::front();
     let mut w = pen;
-    while c.a < l.outa {
+    for _ in 0..l.outa {
         let r = read_here(work, l, c);
-        let x = r.x;
-        let p = write_one(s, end, depth, work, x, trail, w);
-        w = p;
+        w = write_one(s, end, depth, work, r.x, trail, w);
         c = r.next;
     }
     w

@@ -12,7 +12,7 @@ use Rattle.planned.specs.List.{Laid, AllIn}
 use Rattle.planned.specs.declared.list.Sizes.{Sizes}
 use Rattle.writing.specs.Wrote.{Wrote}
 use Rattle.writing.specs.Taken.{counters_of}
-use Rattle.writing.specs.Laws.Wrote.{wrote_then, wrote_nothing}
+use Rattle.writing.specs.Laws.Wrote.{wrote_nothing}
 use Rattle.copies.specs.Pen.{Space, Drawn, Fits, Drew}
 use Rattle.copies.specs.declared.pen.Pen.{Pen}
 use Rattle.copies.specs.Laws.Grown.{grown_same}
@@ -22,11 +22,10 @@ use Rattle.heads.specs.Laws.Front.{front_wrote, front_laid, front_settled, front
 use Rattle.written.specs.Planned.{drawn_list}
 use Rattle.compose.specs.Hub.{Moved, rule_head, closing, Closed, new_body, body_words, body_entries, HubFits, BodyDrawn, HubDrawn}
 
-pub rule_begun : (ws : List ℕ) (end at n : ℕ) {p : Pen} {b m a : List ℕ} {x y z : ℕ} → x ≡ get_or ws at 0 → y ≡ get_or ws (at + 1) 0
-    → z ≡ get_or ws (at + 2) 0 → Wrote b m p.to (x ∷ y ∷ z ∷ []) → Wrote m a (p.to + 3) (n ∷ [])
+pub rule_begun : (ws : List ℕ) (end at n : ℕ) {p : Pen} {b a : List ℕ} {x y z : ℕ} → x ≡ get_or ws at 0 → y ≡ get_or ws (at + 1) 0
+    → z ≡ get_or ws (at + 2) 0 → Wrote b a p.to (x ∷ y ∷ z ∷ n ∷ [])
     → Moved (rule_head ws end at n) b a p (record { to = p.to + 4; trail = p.trail; counters = p.counters })
-rule_begun ws end at n e f g u v =
-    record { wrote = rw (← e, ← f, ← g) (wrote_then (omega arith) u v); to = refl; trail = refl; counters = refl }
+rule_begun ws end at n e f g u = record { wrote = rw (← e, ← f, ← g) u; to = refl; trail = refl; counters = refl }
 
 -- Behind what was written the list is as it was.
 module _ {xs b m : List ℕ} {p q : Pen} {l : Sizes} (low : compose_at ≤ p.to) (h : Moved xs b m p q) (laid : Laid b l) where

@@ -1,7 +1,7 @@
 -- The preserved ids and the trailer, written behind the rules.
 use Prim.Native.Nat.{ℕ, ◌+◌, ◌-◌, ◌≤◌}
 use mathlib.Core.Path.{◌≡◌, refl}
-use mathlib.Core.List.{List, [], ◌∷◌}
+use mathlib.Core.List.{List, ◌∷◌}
 use native.Mathlib.Omega.{arith}
 use lib.ListN.{length, get_or, take, drop, length-take, length-drop, length-append}
 use Rattle.grammar.specs.Words.{words}
@@ -15,11 +15,10 @@ use Rattle.copies.specs.declared.pen.Pen.{Pen}
 use Rattle.heads.specs.Front.{compose_at}
 use Rattle.compose.specs.Hub.{Moved, trailer_words, end_words}
 
-pub trailer_wrote : (ws : List ℕ) (end to : ℕ) (p : Pen) {b m a : List ℕ} {at k f n : ℕ} → k ≡ get_or ws to 0
-    → f ≡ p.to - compose_at + (to - end) → n ≡ to - end → Wrote b m at (k ∷ f ∷ n ∷ [])
-    → Wrote m a (at + 3) (encode_counters (counters_of p.counters))
+pub trailer_wrote : (ws : List ℕ) (end to : ℕ) (p : Pen) {b a : List ℕ} {at k f n : ℕ} → k ≡ get_or ws to 0
+    → f ≡ p.to - compose_at + (to - end) → n ≡ to - end → Wrote b a at (k ∷ f ∷ n ∷ encode_counters (counters_of p.counters))
     → Wrote b a at (trailer_words ws end to p)
-trailer_wrote ws end to p e f g u v = rw (← e, ← f, ← g) (wrote_then (omega arith) u v)
+trailer_wrote ws end to p e f g u = rw (← e, ← f, ← g) u
 
 pub end_moved : {bs : List ℕ} {end to : ℕ} {p : Pen} {b m a : List ℕ} → Room bs to → end ≤ to
     → Wrote b m p.to (take (to - end) (drop end (words bs))) → Wrote m a (p.to + (to - end)) (trailer_words (words bs) end to p)

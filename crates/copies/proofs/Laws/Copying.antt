@@ -1,5 +1,5 @@
 -- The loop over trees that are copied, whatever they are.
-use Prim.Native.Nat.{ℕ, ◌-◌, ◌≤◌}
+use Prim.Native.Nat.{ℕ, ◌+◌, ◌-◌, ◌<◌, ◌≤◌}
 use mathlib.Core.Path.{◌≡◌, refl, sym, ◌∙◌}
 use mathlib.Core.List.{List, [], ◌∷◌}
 use mathlib.Core.Bool.{Bool}
@@ -89,39 +89,43 @@ module _ {ws : List ℕ} {end : ℕ} {A : Type 0} {enc : A → List ℕ} {ok : A
           }
 
 module _ (ws : List ℕ) (end : ℕ) {A : Type 0} (enc : A → List ℕ) (ok : A → Bool) (fresh : A → Counters → Fresh A) where
-  -- With i of n trees left: to copy those would be to copy all.
+  -- With i of n trees copied: to copy the others would be to copy all.
   pub record Copying (n at : ℕ) (out₀ t₀ : List ℕ) (p₀ : Pen) (i here : ℕ) (out t : List ℕ) (p : Pen) : Type 0 where
     pub long : length out ≡ length out₀
     pub long_trail : length t ≡ length t₀
     pub within : here ≤ end
-    pub fit : FitsMany ws end enc ok fresh i here out t p
-    pub rest : (out' t' : List ℕ) (q : ℕ) (p' : Pen) → CopiedMany ws end enc ok fresh i here out out' t t' p q p'
+    pub fit : FitsMany ws end enc ok fresh (n - i) here out t p
+    pub rest : (out' t' : List ℕ) (q : ℕ) (p' : Pen) → CopiedMany ws end enc ok fresh (n - i) here out out' t t' p q p'
         → CopiedMany ws end enc ok fresh n at out₀ out' t₀ t' p₀ q p'
 
 module _ {ws : List ℕ} {end : ℕ} {A : Type 0} {enc : A → List ℕ} {ok : A → Bool} {fresh : A → Counters → Fresh A} {n at : ℕ} where
   pub copying_all : {out t : List ℕ} {p : Pen} → FitsMany ws end enc ok fresh n at out t p → at ≤ end
-      → Copying ws end enc ok fresh n at out t p n at out t p
-  copying_all f h = record { long = refl; long_trail = refl; within = h; fit = f; rest = λ out' t' q p' c. c }
+      → Copying ws end enc ok fresh n at out t p 0 at out t p
+  copying_all f h =
+      let e : n - 0 ≡ n = omega arith in
+      record { long = refl; long_trail = refl; within = h; fit = rw e f; rest = λ out' t' q p' c. rw e at c }
 
   module _ {out₀ t₀ : List ℕ} {p₀ : Pen} {i here : ℕ} {out t : List ℕ} {p : Pen}
       (g : Copying ws end enc ok fresh n at out₀ t₀ p₀ i here out t p) where
-    pub copying_done : i ≡ 0 → CopiedMany ws end enc ok fresh n at out₀ out t₀ t p₀ here p
-    copying_done e = g.rest out t here p (copied_none e g.within)
+    pub copying_done : n ≤ i → CopiedMany ws end enc ok fresh n at out₀ out t₀ t p₀ here p
+    copying_done e = g.rest out t here p (copied_none (omega arith) g.within)
 
-    pub copying_fits : Grows fresh → (i ≡ 0 → ⊥) → FitsOne ws end enc ok fresh here out t p
-    copying_fits w some = one_fits w some g.fit
+    pub copying_fits : Grows fresh → i < n → FitsOne ws end enc ok fresh here out t p
+    copying_fits w some = one_fits w (omega arith) g.fit
 
-    pub copying_more : (i ≡ 0 → ⊥) → {out' t' : List ℕ} {q : ℕ} {p' : Pen}
+    pub copying_more : i < n → {out' t' : List ℕ} {q : ℕ} {p' : Pen}
         → CopiedOne ws end enc ok fresh here out out' t t' p q p'
-        → Copying ws end enc ok fresh n at out₀ t₀ p₀ (i - 1) q out' t' p'
-    copying_more some {out'} {t'} {q} {p'} o =
+        → Copying ws end enc ok fresh n at out₀ t₀ p₀ (i + 1) q out' t' p'
+    copying_more h {out'} {t'} {q} {p'} o =
+        let some : n - i ≡ 0 → ⊥ = λ e. omega arith in
+        let e : n - (i + 1) ≡ n - i - 1 = omega arith in
         let l = grow_same some o g.fit in
         record {
           long = l.0 ∙ g.long;
           long_trail = l.1 ∙ g.long_trail;
           within = o.within;
-          fit = rest_fits some o g.fit;
-          rest = λ out'' t'' z p'' c. g.rest out'' t'' z p'' (copied_more some o c);
+          fit = rw e (rest_fits some o g.fit);
+          rest = λ out'' t'' z p'' c. g.rest out'' t'' z p'' (copied_more some o (rw e at c));
         }
 
 pub ruleset copying = (copying_all, copying_done, copying_fits, copying_more)

@@ -41,10 +41,9 @@ pub packed_whole : {plain : Bool} {w v : ℕ} → plain ≡ false → w ≡ v �
 packed_whole e f = rw (e, f)
 
 -- Words written in parts.
-module _ {b m a : List ℕ} {at : ℕ} where
-  pub wrote_head : {l : List ℕ} {x y y' z u : ℕ} {xs : List ℕ} → y ≡ y' → Wrote b m at (x ∷ y ∷ []) → Wrote m l (at + 2) (z ∷ u ∷ [])
-      → Wrote l a (at + 4) xs → Wrote b a at (x ∷ y' ∷ z ∷ u ∷ xs)
-  wrote_head e v w k = rw e at (wrote_then refl (wrote_then refl v w) k)
+pub wrote_head : {b m a : List ℕ} {at x y y' z u : ℕ} {xs : List ℕ} → y ≡ y' → Wrote b m at (x ∷ y ∷ z ∷ u ∷ [])
+    → Wrote m a (at + 4) xs → Wrote b a at (x ∷ y' ∷ z ∷ u ∷ xs)
+wrote_head e v w = rw e at (wrote_then refl v w)
 
 -- Labels.
 pub label_entry_lem : {name : ℕ} {t : List ℕ} {p : Pen} {w : ℕ} → LabelRoom name t p → w ≡ name → (w ≡ 0 → ⊥)

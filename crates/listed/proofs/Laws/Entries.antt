@@ -1,5 +1,5 @@
 -- The entries of a trail listed one after the other.
-use Prim.Native.Nat.{ℕ, ◌+◌, ◌*◌, ◌≤◌}
+use Prim.Native.Nat.{ℕ, ◌+◌, ◌-◌, ◌*◌, ◌<◌, ◌≤◌}
 use mathlib.Core.Path.{◌≡◌, refl, ap, ◌∙◌}
 use mathlib.Core.List.{List, [], ◌∷◌}
 use native.Mathlib.Omega.{arith}
@@ -9,7 +9,7 @@ use Rattle.grammar.specs.Words.{words}
 use Rattle.grammar.specs.Found.{Found}
 use Rattle.grammar.specs.Fold.{folded, WalkedOne}
 use Rattle.grammar.specs.Laws.Stands.{stands_length, stands_head}
-use Rattle.grammar.specs.Laws.Fold.{Folding, folding_all, folding_done}
+use Rattle.grammar.specs.Laws.Fold.{Folding, folding_all}
 use Rattle.reference.specs.Apply.{Entry}
 use Rattle.reference.specs.Run.{encode_entry}
 use Rattle.listed.specs.Text.{line}
@@ -18,7 +18,7 @@ use Rattle.listed.specs.Put.{PutFew}
 use Rattle.listed.specs.Walk.{Pen, pen, put, entry_step, any_entry}
 use Rattle.listed.specs.Ready.{Recorded, EntriesPut}
 use Rattle.listed.proofs.Laws.Walk.{put_is}
-use Rattle.listed.proofs.Laws.Rules.{puts, pen_put}
+use Rattle.listed.proofs.Laws.Rules.{puts, pen_put, steps_more, steps_done}
 
 -- A line of words that were read.
 pub four_read : {b a : List ℕ} {n r most : ℕ} (word : List ℕ) {c d e f w x y z : ℕ} → c ≡ w → d ≡ x → e ≡ y → f ≡ z
@@ -30,8 +30,8 @@ four_read word i j k l p = rw (i, j, k, l) at p
 abbrev pub EntriesListing : (ws : List ℕ) (end n at : ℕ) (p₀ : Pen) (i here : ℕ) (p : Pen) → Type 0
 EntriesListing ws end = Folding ws end encode_entry any_entry entry_step
 
-pub entries_all : {trail : List ℕ} {k : ℕ} (p : Pen) → Recorded trail k → EntriesListing (words trail) (4 * k) k 0 p k 0 p
-entries_all p w = folding_all entry_step p w.found (omega arith)
+pub entries_all : {trail : List ℕ} {k : ℕ} (p : Pen) → Recorded trail k → EntriesListing (words trail) (4 * k) k 0 p (k - 0) (4 * 0) p
+entries_all {k = k} p w = let e : k - 0 ≡ k = omega arith in rw e (folding_all entry_step p w.found (omega arith))
 
 module _ {ws : List ℕ} {end at : ℕ} where
   entry_room : Found ws end encode_entry any_entry at → at + 4 ≤ end
@@ -53,17 +53,22 @@ module _ {ws : List ℕ} {end at : ℕ} where
         within = entry_room f;
       }
 
+pub entries_more : {ws : List ℕ} {end k : ℕ} {p₀ p q : Pen} {i : ℕ} → EntriesListing ws end k 0 p₀ (k - i) (4 * i) p → i < k
+    → WalkedOne ws end encode_entry any_entry entry_step (4 * i) p (4 * i + 4) q
+    → EntriesListing ws end k 0 p₀ (k - (i + 1)) (4 * (i + 1)) q
+entries_more {i = i} g h o = let e : 4 * (i + 1) ≡ 4 * i + 4 = omega arith in rw e (steps_more g h o)
+
 entries_put : (es : List Entry) (b : List ℕ) (n : ℕ) → folded entry_step (pen b n 0) es ≡ put (pen b n 0) (each entry_line es)
 unfolding entry_step
 entries_put es b n = puts entry_step entry_line 0 (λ p e h. refl) es (pen b n 0) refl
 
 -- The entries were listed.
-pub entries_listed : {trail : List ℕ} {k i at : ℕ} {b a : List ℕ} {n r : ℕ} → r + 46 * i ≤ n + 46 * k
-    → EntriesListing (words trail) (4 * k) k 0 (pen b n 0) i at (pen a r 0)
-    → i ≡ 0
+pub entries_listed : {trail : List ℕ} {k i at : ℕ} {b a : List ℕ} {n r : ℕ} → r ≤ n + 46 * i → i ≤ k
+    → EntriesListing (words trail) (4 * k) k 0 (pen b n 0) (k - i) at (pen a r 0)
+    → k ≤ i
     → EntriesPut trail k b a n r
-entries_listed {b = b} {n = n} h g e =
-    let w = folding_done g e in
+entries_listed {b = b} {n = n} h l g e =
+    let w = steps_done g e in
     record {
       put = λ o.
           pen_put
@@ -71,4 +76,4 @@ entries_listed {b = b} {n = n} h g e =
       few = omega arith;
     }
 
-pub ruleset recording = (four_read, entries_all, list_entry, entries_listed)
+pub ruleset recording = (four_read, entries_all, list_entry, entries_more, entries_listed)

@@ -1,7 +1,8 @@
 -- The rules of a sheet listed one after the other.
-use Prim.Native.Nat.{ℕ, zero, suc, ◌+◌, ◌*◌, ◌≤◌}
+use Prim.Native.Nat.{ℕ, zero, suc, ◌+◌, ◌-◌, ◌*◌, ◌<◌, ◌≤◌}
 use mathlib.Core.Path.{◌≡◌, refl, sym, ap, ◌∙◌}
 use mathlib.Core.List.{List, [], ◌∷◌, ◌++◌}
+use mathlib.Core.Bool.{Bool}
 use native.Mathlib.Omega.{arith}
 use native.Mathlib.Nat.{add-zero}
 use lib.ListN.{length, get_or, length-append}
@@ -11,11 +12,12 @@ use Rattle.grammar.specs.Lists.{each}
 use Rattle.grammar.specs.Tree.{leaf, block, Rule, body_depth}
 use Rattle.grammar.specs.Encode.{leaf_kind, encode_rule, encode_block}
 use Rattle.grammar.specs.Valid.{ok_rule, ok_block}
-use Rattle.grammar.specs.Fold.{folded, element_fold, alternative_fold, block_fold, rule_fold, AlternativesWalked}
+use Rattle.grammar.specs.Fold.{folded, element_fold, alternative_fold, block_fold, rule_fold, WalkedOne, WalkedMany, AlternativesWalked}
 use Rattle.grammar.specs.Laws.Opened.{rule_words_lem}
 use Rattle.grammar.specs.Laws.Complete.{rules_complete}
+use Rattle.grammar.specs.Found.{Found}
 use Rattle.grammar.specs.Laws.Found.{rule_room}
-use Rattle.grammar.specs.Laws.Fold.{Folding, folding_found, rule_walked}
+use Rattle.grammar.specs.Laws.Fold.{Folding, folding_all, folding_found, folding_more, folding_done, rule_walked}
 use Rattle.records.specs.Rules.{RulesRead}
 use Rattle.records.specs.declared.rules.Rows.{Rows}
 use Rattle.listed.specs.Listed.{leaf_name, element_line, alternative_line, rule_line, element_lines, alternative_lines}
@@ -113,13 +115,27 @@ list_rule {ws} {end} {at} {id} {name} {b = b} {n = n} {q = q} e f g x w =
       within = o.within;
     }
 
+-- A loop of which i of n steps are done.
+module _ {ws : List ℕ} {end : ℕ} {A S : Type 0} {enc : A → List ℕ} {ok : A → Bool} {step : S → A → S} {n at : ℕ} {s₀ : S} {i p : ℕ}
+    {s : S} (g : Folding ws end enc ok step n at s₀ (n - i) p s) where
+  pub steps_found : i < n → Found ws end enc ok p
+  steps_found h = folding_found g (λ e. omega arith)
+
+  pub steps_more : i < n → {q : ℕ} {t : S} → WalkedOne ws end enc ok step p s q t → Folding ws end enc ok step n at s₀ (n - (i + 1)) q t
+  steps_more h o = let e : n - (i + 1) ≡ n - i - 1 = omega arith in rw e (folding_more g (λ z. omega arith) o)
+
+  pub steps_done : n ≤ i → WalkedMany ws end enc ok step n at s₀ p s
+  steps_done h = folding_done g (omega arith)
+
+pub ruleset steps = (folding_all, steps_found, steps_more, steps_done)
+
 -- A loop over rules.
 abbrev pub RulesListing : (ws : List ℕ) (end n at : ℕ) (p₀ : Pen) (i here : ℕ) (p : Pen) → Type 0
 RulesListing ws end = Folding ws end (encode_rule (encode_block body_depth)) (ok_rule (ok_block body_depth)) rule_step
 
-pub listing_room : {ws : List ℕ} {end n at : ℕ} {p₀ : Pen} {i here : ℕ} {p : Pen} → RulesListing ws end n at p₀ i here p → (i ≡ 0 → ⊥)
+pub listing_room : {ws : List ℕ} {end n at : ℕ} {p₀ : Pen} {i here : ℕ} {p : Pen} → RulesListing ws end n at p₀ (n - i) here p → i < n
     → here + 4 ≤ end
-listing_room g some = rule_room 8 (folding_found g some)
+listing_room g h = rule_room 8 (steps_found g h)
 
 -- As many rules as the reader finds anew.
 pub rules_counted : {ws : List ℕ} {end : ℕ} {r : Rows} → Ruled ws end → RulesRead ws end r → Counted ws end r.rules.n

@@ -100,7 +100,7 @@ module _ {result : List ℕ} {n : ℕ} (h : Held result n) where
 pub joined_put : {result trail : List ℕ} {n k end : ℕ} (plans steps : ℕ) {b l m a : List ℕ} {p q r : ℕ} → Held result n
     → Recorded trail k
     → RulesEnd result n end
-    → PutFew b l 0 p (line ok_word (plans ∷ steps ∷ [])) 30
+    → PutFew b l 0 p (line ok_word (plans ∷ steps ∷ [])) 25
     → RulesPut (words result) end l m p q
     → EntriesPut trail k m a q r
     → JoinedPut result trail n k plans steps b a r

@@ -23,7 +23,7 @@ use Rattle.sizes.specs.declared.tally.Tally.{Tally}
 use Rattle.sizes.specs.declared.sums.Measure.{Measure}
 use Rattle.sizes.proofs.Laws.Renumber.{takes_copy}
 use Rattle.sizes.proofs.Laws.Lengths.{copy_length, made_length, made_fold}
-use Rattle.sizes.proofs.Laws.Sums.{Summing, summing_all, summing_done, summing_more, under_sum, under_more, under_none}
+use Rattle.sizes.proofs.Laws.Sums.{none_is, Summing, summing_all, summing_done, summing_more, under_sum, under_more, under_none}
 
 pub element_sized : {ws : List ℕ} {end : ℕ} (d : ℕ) {at p : ℕ} {t : Tally} → ElementWalked counting ws end d at no_ids p t → ids_in t ≤ p
     → end ≤ most_words
@@ -75,12 +75,12 @@ module _ (ws : List ℕ) (end d : ℕ) (bs : List ℕ) (x : Listed) where
     pub few : Under m (most_words * i)
     pub within : i ≤ x.ne
 
-  pub adding_none : ListedIn ws end d bs x → Adding 0 no_size
-  adding_none l =
+  pub adding_none : ListedIn ws end d bs x → {m : Measure} → m ≡ no_size → Adding 0 m
+  adding_none l e =
       record {
         listed = l;
-        sum = summing_all (encode_element (encode_block d)) (renumber_element (renumber_block d)) es;
-        few = under_none 0;
+        sum = rw e (summing_all (encode_element (encode_block d)) (renumber_element (renumber_block d)) es);
+        few = rw e (under_none 0);
         within = omega arith;
       }
 
@@ -115,4 +115,4 @@ module _ (ws : List ℕ) (end d : ℕ) (bs : List ℕ) (x : Listed) where
             within = omega arith;
           }
 
-pub ruleset adding = (element_under, adding_none, adding_all, adding_under, adding_found, adding_more)
+pub ruleset adding = (element_under, none_is, adding_none, adding_all, adding_under, adding_found, adding_more)

@@ -25,7 +25,7 @@ use Rattle.sizes.specs.Sized.{Under, no_size, plus, ElementsSized, most_of, Alte
 use Rattle.sizes.specs.declared.sums.Measure.{Measure}
 use Rattle.sizes.proofs.Laws.Renumber.{same_counters}
 use Rattle.sizes.proofs.Laws.Lengths.{words_of, copies_length}
-use Rattle.sizes.proofs.Laws.Sums.{Summing, summing_all, summing_done, summing_more, under_sum, under_more, under_none}
+use Rattle.sizes.proofs.Laws.Sums.{none_is, Summing, summing_all, summing_done, summing_more, under_sum, under_more, under_none}
 
 module _ (d : ℕ) (p : Planned d) {m : Measure} (s : ElementsSized d p.elements m) (w : ℕ)
     (e : w ≡ 5 + 2 * length p.options + m.words) where
@@ -107,13 +107,14 @@ module _ (ws : List ℕ) (end d : ℕ) (bs : List ℕ) (x : Listed) {m : Measure
       new_sized d (meaning ws end d bs x) s (5 + 2 * x.no + m.words) (let z = count_options ws end d bs x in omega arith)
       (unmarked h)
 
-  pub listed_kept : marked ≤ x.slot
+  pub listed_kept : marked ≤ x.slot → {a e l c p : ℕ} → a ≡ 0 → e ≡ 0 → l ≡ 0 → c ≡ 0 → p ≡ 0
       → AlternativeSized d (meaning ws end d bs x)
-      (record { alternatives = 0; elements = 0; labels = 0; actions = 0; predicates = 0; words = 5 + 2 * x.no + m.words })
+      (record { alternatives = a; elements = e; labels = l; actions = c; predicates = p; words = 5 + 2 * x.no + m.words })
   unfolding meaning
-  listed_kept h =
-      kept_sized d (meaning ws end d bs x) s (5 + 2 * x.no + m.words) (let z = count_options ws end d bs x in omega arith)
-      (is_marked_lem h)
+  listed_kept h i j k n o =
+      rw (i, j, k, n, o)
+      (kept_sized d (meaning ws end d bs x) s (5 + 2 * x.no + m.words) (let z = count_options ws end d bs x in omega arith)
+      (is_marked_lem h))
 
   pub listed_under : Located bs x → Under m (2 ^ 32)
   listed_under l = let c = count_elements ws end d bs x in let z = l.elements in under_more s.few (omega arith)
@@ -124,25 +125,45 @@ pub ruleset listing = (listed_new, listed_kept, listed_under)
 abbrev most_of_all : (d : ℕ) → List (Planned d) → ℕ
 most_of_all d ps = most_words * elements_all ps + 2 * options_all ps + 5 * length ps
 
+-- Of the settled ones all are ahead from the front, and reading one leaves one less.
+all_ahead : (bs : List ℕ) (l : Sizes) {c : Cursor} → AtFront c → l.outa - c.a ≡ l.outa - 0
+unfolding settled_from settled
+all_ahead bs l {c} k =
+    let e = ap length (k.all [] 0 0 bs l) in
+    let a = run_count bs [] 0 0 (l.outa - c.a) c.a c.e c.o in
+    let b = run_count bs [] 0 0 l.outa 0 0 0 in
+    omega arith
+
+one_ahead : {bs : List ℕ} {l : Sizes} {c : Cursor} {x : Listed} {next : Cursor} → ReadNext bs l c x next
+    → l.outa - c.a ≡ l.outa - next.a + 1
+unfolding settled_from
+one_ahead {bs} {l} {c} {x} {next} n =
+    let e = ap length (n.first [] 0 0) in
+    let a = run_count bs [] 0 0 (l.outa - c.a) c.a c.e c.o in
+    let b = run_count bs [] 0 0 (l.outa - next.a) next.a next.e next.o in
+    omega arith
+
 -- The loop over the settled ones.
 module _ (ws : List ℕ) (end d : ℕ) (bs : List ℕ) (l : Sizes) where
-  pub record Measuring (c : Cursor) (m : Measure) : Type 0 where
+  pub record Measuring (i : ℕ) (c : Cursor) (m : Measure) : Type 0 where
     pub on : OnTrack bs l c
+    pub place : l.outa - c.a ≡ l.outa - i
     pub listed : AllIn ws end d bs l
     pub sum : Summing (encode_alternative (encode_block d)) (apply_alternative d) (settled ws end d bs l) (settled_from ws end d bs l c) m
     pub most : ℕ
     pub few : Under m most
     pub room : most + most_of_all d (settled_from ws end d bs l c) ≤ 2 ^ 27
 
-  pub measuring_none : Laid bs l → AllIn ws end d bs l → {c : Cursor} → AtFront c → Measuring c no_size
-  measuring_none laid a {c} f =
+  pub measuring_none : Laid bs l → AllIn ws end d bs l → {c : Cursor} → AtFront c → {m : Measure} → m ≡ no_size → Measuring 0 c m
+  measuring_none laid a {c} f e =
       let all = f.all ws end d bs l in
       record {
         on = f.on bs l;
+        place = all_ahead bs l f;
         listed = a;
-        sum = rw all (summing_all (encode_alternative (encode_block d)) (apply_alternative d) (settled ws end d bs l));
+        sum = rw (all, e) (summing_all (encode_alternative (encode_block d)) (apply_alternative d) (settled ws end d bs l));
         most = 0;
-        few = under_none 0;
+        few = rw e (under_none 0);
         room = rw all
             (let x = alternatives_in_lem ws end d bs l laid in
             let y = elements_in_lem ws end d bs l laid in
@@ -150,15 +171,18 @@ module _ (ws : List ℕ) (end d : ℕ) (bs : List ℕ) (l : Sizes) where
             omega arith);
       }
 
-  module _ {c : Cursor} {m : Measure} (g : Measuring c m) where
+  module _ {i : ℕ} {c : Cursor} {m : Measure} (g : Measuring i c m) where
+    pub measuring_before : i < l.outa → c.a < l.outa
+    measuring_before h = let z = g.place in omega arith
+
     pub measuring_on : OnTrack bs l c
     measuring_on = g.on
 
-    pub measuring_all : l.outa ≤ c.a → Measured d (settled ws end d bs l) m
+    pub measuring_all : l.outa ≤ i → Measured d (settled ws end d bs l) m
     unfolding settled_from records_from
     measuring_all p =
         let none : settled_from ws end d bs l c ≡ [] =
-        ap (λ k. records_from ws end d bs k c.a c.e c.o) (let z : l.outa - c.a ≡ 0 = omega arith in z) in
+        ap (λ k. records_from ws end d bs k c.a c.e c.o) (let z = g.place in let y : l.outa - c.a ≡ 0 = omega arith in y) in
         record {
           is = summing_done (encode_alternative (encode_block d)) (apply_alternative d) g.sum none;
           few = let r = g.room in under_more g.few (omega arith);
@@ -182,26 +206,17 @@ module _ (ws : List ℕ) (end d : ℕ) (bs : List ℕ) (l : Sizes) where
         pub measuring_one : Under k (2 ^ 32)
         measuring_one = let r = room_here in under_more s.few (omega arith)
 
-        pub measuring_more : {r : Measure} → r ≡ plus m k → Measuring next r
-        measuring_more {r} e =
+        pub measuring_more : i < l.outa → {r : Measure} → r ≡ plus m k → Measuring (i + 1) next r
+        measuring_more h {r} e =
             record {
               on = n.on;
+              place = let z = g.place in let y = one_ahead n in omega arith;
               listed = g.listed;
               sum = summing_more (encode_alternative (encode_block d)) (apply_alternative d) g.sum (n.first ws end d) s.is e;
               most = g.most + most_of d (meaning ws end d bs x);
               few = under_sum g.few s.few e (omega arith);
-              room = let h = room_here in omega arith;
+              room = let u = room_here in omega arith;
             }
 
--- Reading one brings the end nearer.
-pub measuring_falls : {bs : List ℕ} {l : Sizes} {c : Cursor} {x : Listed} {next : Cursor} → ReadNext bs l c x next
-    → l.outa - next.a < l.outa - c.a
-unfolding settled_from
-measuring_falls {bs} {l} {c} {x} {next} n =
-    let e = ap length (n.first [] 0 0) in
-    let a = run_count bs [] 0 0 (l.outa - c.a) c.a c.e c.o in
-    let b = run_count bs [] 0 0 (l.outa - next.a) next.a next.e next.o in
-    omega arith
-
 pub ruleset measuring =
-    (measuring_none, measuring_on, measuring_all, measuring_under, measuring_listed, measuring_located, measuring_one, measuring_more)
+    (none_is, measuring_none, measuring_before, measuring_on, measuring_all, measuring_under, measuring_listed, measuring_located, measuring_one, measuring_more)

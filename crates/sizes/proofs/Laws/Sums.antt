@@ -17,6 +17,10 @@ same_measure : (a b : Measure) → a.alternatives ≡ b.alternatives → a.eleme
 same_measure a b p q r s t u i =
     record { alternatives = p i; elements = q i; labels = r i; actions = s i; predicates = t i; words = u i }
 
+pub none_is : {m : Measure} → m.alternatives ≡ 0 → m.elements ≡ 0 → m.labels ≡ 0 → m.actions ≡ 0 → m.predicates ≡ 0 → m.words ≡ 0
+    → m ≡ no_size
+none_is {m} p q r s t u = same_measure m no_size p q r s t u
+
 plus_none : (m : Measure) → plus m no_size ≡ m
 unfolding plus
 plus_none m = same_measure _ _ (omega arith) (omega arith) (omega arith) (omega arith) (omega arith) (omega arith)

@@ -1,5 +1,5 @@
 -- The settled alternatives drawn one after the other: with those left all would be drawn.
-use Prim.Native.Nat.{ℕ, ◌-◌, ◌<◌, ◌≤◌}
+use Prim.Native.Nat.{ℕ, ◌+◌, ◌-◌, ◌<◌, ◌≤◌}
 use mathlib.Core.Path.{◌≡◌, refl, sym, ap, ◌∙◌, subst}
 use mathlib.Core.List.{List, [], ◌∷◌}
 use native.Mathlib.Omega.{arith}
@@ -9,7 +9,7 @@ use Rattle.grammar.specs.Encode.{encode_alternative, encode_block}
 use Rattle.grammar.specs.Lists.{each}
 use Rattle.reference.specs.Substitute.{Planned}
 use Rattle.reference.specs.Apply.{fresh_each, apply_alternative}
-use Rattle.planned.specs.Layout.{meaning, records_from}
+use Rattle.planned.specs.Layout.{meaning, records_from, settled}
 use Rattle.planned.specs.List.{Laid, AllIn}
 use Rattle.planned.specs.Reading.{settled_from, OnTrack, AtFront}
 use Rattle.planned.specs.Laws.Runs.{run_count}
@@ -26,6 +26,24 @@ use Rattle.written.specs.Items.{Readable}
 use Rattle.written.specs.Planned.{AlternativeFits, AlternativeDrawn, ListFits, ListDrawn, drawn_list}
 use Rattle.written.specs.Laws.Apply.{grows_apply}
 
+-- Of the settled ones all are ahead from the front, and reading one leaves one less.
+all_ahead : (bs : List ℕ) (l : Sizes) {c : Cursor} → AtFront c → l.outa - c.a ≡ l.outa - 0
+unfolding settled_from settled
+all_ahead bs l {c} k =
+    let e = ap length (k.all [] 0 0 bs l) in
+    let a = run_count bs [] 0 0 (l.outa - c.a) c.a c.e c.o in
+    let b = run_count bs [] 0 0 l.outa 0 0 0 in
+    omega arith
+
+one_ahead : {bs : List ℕ} {l : Sizes} {c : Cursor} {x : Listed} {next : Cursor} → ReadHere bs l c x next
+    → l.outa - c.a ≡ l.outa - next.a + 1
+unfolding settled_from
+one_ahead {bs} {l} {c} {x} {next} r =
+    let e = ap length (r.read.first [] 0 0) in
+    let a = run_count bs [] 0 0 (l.outa - c.a) c.a c.e c.o in
+    let b = run_count bs [] 0 0 (l.outa - next.a) next.a next.e next.o in
+    omega arith
+
 module _ (ws : List ℕ) (end d : ℕ) (l : Sizes) (b₀ t₀ : List ℕ) (p₀ : Pen) where
   abbrev enc : AlternativeOf (Block d) → List ℕ
   enc = encode_alternative (encode_block d)
@@ -33,11 +51,12 @@ module _ (ws : List ℕ) (end d : ℕ) (l : Sizes) (b₀ t₀ : List ℕ) (p₀ 
   abbrev left : List ℕ → Cursor → List (Planned d)
   left b c = settled_from ws end d b l c
 
-  pub record Listing (b t : List ℕ) (c : Cursor) (p : Pen) : Type 0 where
+  pub record Listing (b t : List ℕ) (i : ℕ) (c : Cursor) (p : Pen) : Type 0 where
     pub low : compose_at ≤ p.to
     pub laid : Laid b l
     pub all_in : AllIn ws end d b l
     pub on : OnTrack b l c
+    pub place : l.outa - c.a ≡ l.outa - i
     pub fits : Fits (each enc) (fresh_each (apply_alternative d) (left b c) (counters_of p.counters)) b t p
     pub done : (b' t' : List ℕ) (p' : Pen)
         → Drew (each enc) (fresh_each (apply_alternative d) (left b c) (counters_of p.counters)) b b' t t' p p'
@@ -46,7 +65,7 @@ module _ (ws : List ℕ) (end d : ℕ) (l : Sizes) (b₀ t₀ : List ℕ) (p₀ 
     pub trail_long : length t ≡ length t₀
 
   pub list_none : compose_at ≤ p₀.to → Laid b₀ l → AllIn ws end d b₀ l → ListFits ws end d b₀ l t₀ p₀ → {c : Cursor} → AtFront c
-      → Listing b₀ t₀ c p₀
+      → Listing b₀ t₀ 0 c p₀
   list_none h g a f {c} k =
       let e = sym (k.all ws end d b₀ l) in
       record {
@@ -54,6 +73,7 @@ module _ (ws : List ℕ) (end d : ℕ) (l : Sizes) (b₀ t₀ : List ℕ) (p₀ 
         laid = g;
         all_in = a;
         on = k.on b₀ l;
+        place = all_ahead b₀ l k;
         fits = subst (λ ps. Fits (each enc) (fresh_each (apply_alternative d) ps (counters_of p₀.counters)) b₀ t₀ p₀) e f.fits;
         done = λ b' t' p' z.
             subst (λ ps. Drew (each enc) (fresh_each (apply_alternative d) ps (counters_of p₀.counters)) b₀ b' t₀ t' p₀ p') (sym e) z;
@@ -61,7 +81,10 @@ module _ (ws : List ℕ) (end d : ℕ) (l : Sizes) (b₀ t₀ : List ℕ) (p₀ 
         trail_long = refl;
       }
 
-  module _ {b t : List ℕ} {c : Cursor} {p : Pen} (g : Listing b t c p) where
+  module _ {b t : List ℕ} {i : ℕ} {c : Cursor} {p : Pen} (g : Listing b t i c p) where
+    pub list_before : i < l.outa → c.a < l.outa
+    list_before h = let z = g.place in omega arith
+
     pub list_low : compose_at ≤ p.to
     list_low = g.low
 
@@ -77,11 +100,11 @@ module _ (ws : List ℕ) (end d : ℕ) (l : Sizes) (b₀ t₀ : List ℕ) (p₀ 
     pub list_trail : length t ≡ length t₀
     list_trail = g.trail_long
 
-    pub list_all : l.outa ≤ c.a → ListDrawn ws end d b₀ l b t₀ t p₀ p
+    pub list_all : l.outa ≤ i → ListDrawn ws end d b₀ l b t₀ t p₀ p
     unfolding settled_from records_from
     list_all h =
         let none : left b c ≡ [] =
-        ap (λ k. records_from ws end d b k c.a c.e c.o) (let z : l.outa - c.a ≡ 0 = omega arith in z) in
+        ap (λ k. records_from ws end d b k c.a c.e c.o) (let z = g.place in let y : l.outa - c.a ≡ 0 = omega arith in y) in
         record {
           drew =
               g.done b t p
@@ -107,8 +130,9 @@ module _ (ws : List ℕ) (end d : ℕ) (l : Sizes) (b₀ t₀ : List ℕ) (p₀ 
                 fits_first enc (apply_alternative d) (meaning ws end d b x) (left b next) (counters_of p.counters) (grows_apply d) opened;
           }
 
-      pub list_more : {b' t' : List ℕ} {p' : Pen} → AlternativeDrawn ws end d b x b' t t' p p' → Listing b' t' next p'
-      list_more {b'} {t'} {p'} a =
+      pub list_more : i < l.outa → {b' t' : List ℕ} {p' : Pen} → AlternativeDrawn ws end d b x b' t t' p p'
+          → Listing b' t' (i + 1) next p'
+      list_more h {b'} {t'} {p'} a =
           let k = a.drew in
           let e = counters_of p.counters in
           let front = front_wrote g.low k.wrote in
@@ -118,6 +142,7 @@ module _ (ws : List ℕ) (end d : ℕ) (l : Sizes) (b₀ t₀ : List ℕ) (p₀ 
             laid = front_laid front g.laid;
             all_in = front_all_in front g.laid g.all_in;
             on = front_track front g.laid r.read.on;
+            place = let z = g.place in let y = one_ahead r in omega arith;
             fits =
                 subst (λ ps. Fits (each enc) (fresh_each (apply_alternative d) ps (counters_of p'.counters)) b' t' p') (sym same)
                 (fits_rest enc (apply_alternative d) (meaning ws end d b x) (left b next) e k opened);
@@ -130,19 +155,9 @@ module _ (ws : List ℕ) (end d : ℕ) (l : Sizes) (b₀ t₀ : List ℕ) (p₀ 
             trail_long = k.told.long ∙ g.trail_long;
           }
 
--- Reading one brings the end nearer.
-pub list_falls : {bs : List ℕ} {l : Sizes} {c : Cursor} {x : Listed} {next : Cursor} → ReadHere bs l c x next
-    → l.outa - next.a < l.outa - c.a
-unfolding settled_from
-list_falls {bs} {l} {c} {x} {next} r =
-    let e = ap length (r.read.first [] 0 0) in
-    let a = run_count bs [] 0 0 (l.outa - c.a) c.a c.e c.o in
-    let b = run_count bs [] 0 0 (l.outa - next.a) next.a next.e next.o in
-    omega arith
+pub ruleset listed = (list_before, list_low, list_laid, list_on, list_long, list_trail, list_readable, list_fits)
 
-pub ruleset listed = (list_low, list_laid, list_on, list_long, list_trail, list_readable, list_fits)
-
-pub ruleset listing = (list_none, list_all, list_more, list_falls, listed)
+pub ruleset listing = (list_none, list_all, list_more, listed)
 
 -- For blocks that nest as deep as in a rule.
 module _ {ws : List ℕ} {end : ℕ} {b : List ℕ} {l : Sizes} {t : List ℕ} {p : Pen} where

@@ -13,9 +13,9 @@ pub copy_alternative-alternative_head-head-requires-clause-room :
 copy_alternative-alternative_head-head-requires-clause-room t c = search (rules, inner, copying, rooms, elementary, alternating, growth)
 
 -- src/copy.rt:103:9
-pub copy_alternative-copy_alternative_head-inside-requires-clause-marked_room :
-    goal.copy_alternative-copy_alternative_head-inside-requires-clause-marked_room
-copy_alternative-copy_alternative_head-inside-requires-clause-marked_room t c = search (rules, inner, copying, rooms, elementary, alternating, growth)
+pub copy_alternative-copy_marked-inside-requires-clause-marked_room :
+    goal.copy_alternative-copy_marked-inside-requires-clause-marked_room
+copy_alternative-copy_marked-inside-requires-clause-marked_room t c = search (rules, inner, copying, rooms, elementary, alternating, growth)
 
 -- src/copy.rt:104:5
 pub copy_alternative-copy_elements-requires : goal.copy_alternative-copy_elements-requires
@@ -31,8 +31,8 @@ pub copy_alternatives-copy_alternative-c-requires :
 copy_alternatives-copy_alternative-c-requires t c = search (rules, inner, copying, rooms, elementary, alternating, growth)
 
 -- src/copy.rt:127:5
-pub copy_alternatives-loop-i-preserved : goal.copy_alternatives-loop-i-preserved
-copy_alternatives-loop-i-preserved t c = search (rules, inner, copying, rooms, elementary, alternating, growth)
+pub copy_alternatives-loop-preserved : goal.copy_alternatives-loop-preserved
+copy_alternatives-loop-preserved t c = search (rules, inner, copying, rooms, elementary, alternating, growth)
 
 -- src/copy.rt:108:1
 pub copy_alternatives-returns : goal.copy_alternatives-returns
@@ -74,12 +74,20 @@ copy_element-returns t c = search (rules, inner, copying, rooms, elementary, alt
 -- src/copy.rt:76:13
 pub copy_elements-copy_element-c-requires : goal.copy_elements-copy_element-c-requires
 copy_elements-copy_element-c-requires t c =
-    (omega arith, (search rules, copying_fits c.loop-i.invariant (search growth) (search rules)))
+    (omega arith, (search rules, copying_fits c.loop.invariant (search growth) (search rules)))
 
 -- src/copy.rt:75:5
-pub copy_elements-loop-i-preserved : goal.copy_elements-loop-i-preserved
-copy_elements-loop-i-preserved t c = search (rules, inner, copying, rooms, elementary, alternating, growth)
+pub copy_elements-loop-preserved : goal.copy_elements-loop-preserved
+copy_elements-loop-preserved t c = search (rules, inner, copying, rooms, elementary, alternating, growth)
 
 -- src/copy.rt:56:1
 pub copy_elements-returns : goal.copy_elements-returns
 copy_elements-returns t c = search (rules, inner, copying, rooms, elementary, alternating, growth)
+
+-- src/copy.rt:124:5
+pub copy_alternatives-loop-init : goal.copy_alternatives-loop-init
+copy_alternatives-loop-init t c = search (rules, copying)
+
+-- src/copy.rt:74:5
+pub copy_elements-loop-init : goal.copy_elements-loop-init
+copy_elements-loop-init t c = search (rules, copying)

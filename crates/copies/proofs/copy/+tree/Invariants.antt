@@ -15,14 +15,8 @@ decreases-copy_element l = l.depth * 4
 abbrev pub decreases-copy_elements : goal.decreases-copy_elements
 decreases-copy_elements l = l.depth * 4 + 1
 
-abbrev pub invariant-copy_alternatives-loop-i : goal.invariant-copy_alternatives-loop-i
-invariant-copy_alternatives-loop-i l = AlternativesCopying (words l.s) l.end l.depth l.n l.at l.initial.out l.initial.trail l.initial.w l.i l.p l.out l.trail l.w
+abbrev pub invariant-copy_alternatives-loop : goal.invariant-copy_alternatives-loop
+invariant-copy_alternatives-loop l = AlternativesCopying (words l.s) l.end l.depth l.n l.at l.initial.out l.initial.trail l.initial.w l.counter l.p l.out l.trail l.w
 
-abbrev pub decreases-copy_alternatives-loop-i : goal.decreases-copy_alternatives-loop-i
-decreases-copy_alternatives-loop-i l = l.i
-
-abbrev pub invariant-copy_elements-loop-i : goal.invariant-copy_elements-loop-i
-invariant-copy_elements-loop-i l = ElementsCopying (words l.s) l.end l.depth l.n l.at l.initial.out l.initial.trail l.initial.w l.i l.p l.out l.trail l.w
-
-abbrev pub decreases-copy_elements-loop-i : goal.decreases-copy_elements-loop-i
-decreases-copy_elements-loop-i l = l.i
+abbrev pub invariant-copy_elements-loop : goal.invariant-copy_elements-loop
+invariant-copy_elements-loop l = ElementsCopying (words l.s) l.end l.depth l.n l.at l.initial.out l.initial.trail l.initial.w l.counter l.p l.out l.trail l.w

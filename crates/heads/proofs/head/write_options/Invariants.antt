@@ -1,10 +1,6 @@
-use Prim.Native.Nat.{◌-◌}
 use Rattle.grammar.specs.Words.{words}
 use Rattle.heads.proofs.Laws.Options.{OptionsTo}
 use Rattle.heads.proofs.head.write_options.Given as goal
 
 abbrev pub invariant-loop-i : goal.invariant-loop-i
 invariant-loop-i l = OptionsTo (words l.s) l.end l.depth l.initial.work l.x l.to l.work l.i
-
-abbrev pub decreases-loop-i : goal.decreases-loop-i
-decreases-loop-i l = l.x.no - l.i

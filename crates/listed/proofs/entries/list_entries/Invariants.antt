@@ -1,4 +1,4 @@
-use Prim.Native.Nat.{◌+◌, ◌*◌, ◌≤◌}
+use Prim.Native.Nat.{◌+◌, ◌-◌, ◌*◌, ◌≤◌}
 use mathlib.Core.Path.{◌≡◌}
 use lib.ListN.{length}
 use Rattle.grammar.specs.Words.{words}
@@ -7,8 +7,5 @@ use Rattle.listed.proofs.Laws.Entries.{EntriesListing}
 use Rattle.listed.proofs.entries.list_entries.Given as goal
 
 abbrev pub invariant-loop-i : goal.invariant-loop-i
-invariant-loop-i l = (l.p + 46 * l.i ≤ l.n + 46 * l.count) × (length l.text ≡ length l.initial.text) × (l.at + 4 * l.i ≡ 4 * l.count)
-    × EntriesListing (words l.trail) (4 * l.count) l.count 0 (pen l.initial.text l.n 0) l.i l.at (pen l.text l.p 0)
-
-abbrev pub decreases-loop-i : goal.decreases-loop-i
-decreases-loop-i l = l.i
+invariant-loop-i l = (l.p ≤ l.n + 46 * l.i) × (length l.text ≡ length l.initial.text)
+    × EntriesListing (words l.trail) (4 * l.count) l.count 0 (pen l.initial.text l.n 0) (l.count - l.i) (4 * l.i) (pen l.text l.p 0)

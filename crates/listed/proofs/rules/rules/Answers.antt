@@ -1,20 +1,20 @@
 use Rattle.std.proofs.Common.{rules}
 use Rattle.listed.proofs.rules.rules.Goals as goal
-use Rattle.grammar.specs.Laws.Fold.{folding}
+use Rattle.listed.proofs.Laws.Rules.{steps}
 use Rattle.listed.proofs.Laws.Rules.{listing_room}
 
 -- src/rules.rt:40:13
 pub rule-r-requires-clause-room : goal.rule-r-requires-clause-room
-rule-r-requires-clause-room c = search (rules, folding, listing_room)
+rule-r-requires-clause-room c = search (rules, steps, listing_room)
 
 -- src/rules.rt:40:13
 pub rule-r-requires-clause-found_rule : goal.rule-r-requires-clause-found_rule
-rule-r-requires-clause-found_rule c = search (rules, folding)
+rule-r-requires-clause-found_rule c = search (rules, steps)
 
 -- src/rules.rt:39:5
-pub loop-i-preserved : goal.loop-i-preserved
-loop-i-preserved c = search (rules, folding, listing_room)
+pub loop-preserved : goal.loop-preserved
+loop-preserved c = search (rules, steps, listing_room)
 
 -- src/rules.rt:30:1
 pub returns : goal.returns
-returns c = search (rules, folding)
+returns c = search (rules, steps)

@@ -1,4 +1,4 @@
-use Prim.Native.Nat.{◌+◌, ◌*◌, ◌≤◌}
+use Prim.Native.Nat.{◌+◌, ◌-◌, ◌*◌, ◌≤◌}
 use mathlib.Core.Path.{◌≡◌}
 use lib.ListN.{length}
 use Rattle.grammar.specs.Words.{words}
@@ -6,8 +6,5 @@ use Rattle.listed.specs.Walk.{pen}
 use Rattle.listed.proofs.Laws.Rules.{RulesListing}
 use Rattle.listed.proofs.rules.rules.Given as goal
 
-abbrev pub invariant-loop-i : goal.invariant-loop-i
-invariant-loop-i l = (l.q ≤ 10 * l.p + 64) × (length l.text ≡ length l.initial.text) × RulesListing (words l.s) l.end l.count 0 (pen l.initial.text l.n 0) l.i l.p (pen l.text l.q 0)
-
-abbrev pub decreases-loop-i : goal.decreases-loop-i
-decreases-loop-i l = l.i
+abbrev pub invariant-loop : goal.invariant-loop
+invariant-loop l = (l.q ≤ 10 * l.p + 64) × (length l.text ≡ length l.initial.text) × RulesListing (words l.s) l.end l.count 0 (pen l.initial.text l.n 0) (l.count - l.counter) l.p (pen l.text l.q 0)

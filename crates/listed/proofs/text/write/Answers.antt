@@ -3,5 +3,5 @@ use Rattle.listed.proofs.text.write.Goals as goal
 use Rattle.listed.proofs.Laws.Put.{writing}
 
 -- src/text.rt:26:5
-pub loop-i-preserved : goal.loop-i-preserved
-loop-i-preserved c = search (rules, writing)
+pub loop-b-preserved : goal.loop-b-preserved
+loop-b-preserved c = search (rules, writing)

@@ -1,10 +1,6 @@
-use Prim.Native.Nat.{◌-◌}
 use Rattle.grammar.specs.Words.{words}
 use Rattle.sizes.proofs.Laws.Elements.{Adding}
 use Rattle.sizes.proofs.measure.measure_elements.Given as goal
 
 abbrev pub invariant-loop-i : goal.invariant-loop-i
 invariant-loop-i l = Adding (words l.s) l.end l.depth l.work l.x l.i l.m
-
-abbrev pub decreases-loop-i : goal.decreases-loop-i
-decreases-loop-i l = l.x.ne - l.i

@@ -7,8 +7,8 @@ pub id_at-owner-requires : goal.id_at-owner-requires
 id_at-owner-requires c = search (rules, news, new_readable, new_items, new_drawn)
 
 -- src/list.rt:86:9
-pub fresh_alternative-given-requires : goal.fresh_alternative-given-requires
-fresh_alternative-given-requires c = search (rules, news, new_readable, new_items, new_drawn)
+pub fresh-given-requires : goal.fresh-given-requires
+fresh-given-requires c = search (rules, news, new_readable, new_items, new_drawn)
 
 -- src/list.rt:88:9
 pub begin-inside-requires-clause-room : goal.begin-inside-requires-clause-room

@@ -1,7 +1,0 @@
-use Rattle.std.proofs.Common.{rules}
-use Rattle.listed.proofs.lines.line_of_four.Goals as goal
-use Rattle.listed.proofs.Laws.Lines.{lines}
-
--- src/lines.rt:82:1
-pub returns : goal.returns
-returns c = search (rules, lines)
