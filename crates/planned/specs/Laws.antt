@@ -1,4 +1,5 @@
 pub mod Order
+pub mod Moved
 pub mod Parts
 pub mod Items
 pub mod Runs

@@ -3,19 +3,12 @@ ghost use Rattle.std.specs.Prelude.{◌≡◌, ◌+◌, ◌*◌, ◌<◌, ◌≤
 ghost use Rattle.planned.specs.Layout.{half};
 ghost use Rattle.planned.specs.Halves.{HalfPut, Apart, HalvesMoved};
 
-// A byte as a half.
-fn wide(x: u8) -> u16
-    ensures { (result ≡ x) × (result < 256) }
-{
-    x as u16
-}
-
 // The half at `at`, counted in halves.
 pub fn half(s: &[u8], at: usize) -> u16
     requires { 2 * at + 2 ≤ length s.now }
     ensures { result ≡ half s.now at }
 {
-    wide(s[2 * at]) + 256 * wide(s[2 * at + 1])
+    u16::from_le_bytes([s[2 * at], s[2 * at + 1]])
 }
 
 // The half at `at` is now `v`; no other changes.
@@ -23,8 +16,9 @@ pub fn put_half(s: &mut [u8], at: usize, v: u16)
     requires { 2 * at + 2 ≤ length s.old }
     ensures { HalfPut s.old s.new at v }
 {
-    s[2 * at] = (v % 256) as u8;
-    s[2 * at + 1] = (v / 256) as u8;
+    let [low, high] = v.to_le_bytes();
+    s[2 * at] = low;
+    s[2 * at + 1] = high;
 }
 
 // The n halves from `to` on become the n halves that stand from `from` on; no other changes.
@@ -32,10 +26,5 @@ pub fn move_halves(s: &mut [u8], from: usize, to: usize, n: usize)
     requires { (2 * (from + n) ≤ length s.old) × (2 * (to + n) ≤ length s.old) × Apart from to n }
     ensures { HalvesMoved s.old s.new from to n }
 {
-    let mut i: usize = 0;
-    while i < n {
-        let v = half(s, from + i);
-        put_half(s, to + i, v);
-        i += 1;
-    }
+    s.copy_within(2 * from..2 * (from + n), 2 * to);
 }

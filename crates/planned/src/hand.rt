@@ -4,6 +4,7 @@ ghost use Rattle.planned.specs.Layout.{marked, place_of};
 ghost use Rattle.planned.specs.List.{Laid, HasRoom, Located, Movable, InList, InHand};
 ghost use Rattle.planned.specs.Moves.{Handed, PushedSplit};
 ghost use Rattle.planned.specs.Written.{Writable};
+ghost use Rattle.planned.specs.Laws.Kept.{with_top};
 ghost use Rattle.planned.specs.Split.{MadePlain, WrotePresent, BareOf, PushedAbsent, PushedPresent};
 
 use crate::halves::{half, move_halves, put_half};
@@ -19,12 +20,9 @@ pub fn into_hand(work: &mut [u8], l: Sizes, x: Listed) -> Listed
     move_halves(work, x.e, e, x.ne);
     move_halves(work, x.o, Hand::OPTIONS, x.no);
     Listed {
-        slot: x.slot,
-        origin: x.origin,
-        ne: x.ne,
-        no: x.no,
         e,
         o: Hand::OPTIONS,
+        ..x
     }
 }
 
@@ -32,33 +30,34 @@ pub fn into_hand(work: &mut [u8], l: Sizes, x: Listed) -> Listed
 pub fn place(h: u16) -> u16
     ensures { (result ≡ place_of h) × (result < marked) }
 {
-    if h < Mark::BIT {
-        return h;
-    }
-    h - Mark::BIT
+    if h < Mark::BIT { h } else { h - Mark::BIT }
 }
 
 // The half of an element, with the mark.
 fn plain(h: u16) -> u16
     ensures { MadePlain h result }
 {
-    if h < Mark::BIT {
-        return h + Mark::BIT;
-    }
-    h
+    if h < Mark::BIT { h + Mark::BIT } else { h }
 }
 
 // What an alternative is split into no longer fills the slot as it always did.
 fn bare(h: Listed) -> Listed
     ensures { BareOf h result }
 {
-    Listed {
-        slot: place(h.slot),
-        origin: h.origin,
-        ne: h.ne,
-        no: h.no,
-        e: h.e,
-        o: h.o,
+    let slot = place(h.slot);
+    Listed { slot, ..h }
+}
+
+// One alternative more on the stack, of so many elements and options.
+fn taller(l: Sizes, ne: usize, no: usize) -> Sizes
+    requires { HasRoom l 1 ne no }
+    ensures { result ≡ with_top l (l.topa - 1) (l.tope - ne) (l.topo - no) }
+{
+    Sizes {
+        topa: l.topa - 1,
+        tope: l.tope - ne,
+        topo: l.topo - no,
+        ..l
     }
 }
 
@@ -69,19 +68,10 @@ fn push_absent(work: &mut [u8], l: Sizes, x: Listed, index: usize) -> Sizes
     ensures { PushedAbsent work.old work.new l result x index }
 {
     let ne = x.ne - 1;
-    let a = l.topa - 1;
-    let e = l.tope - ne;
-    let o = l.topo - x.no;
-    copy_without(work, x.e, e, x.ne, index);
-    finish(work, x.slot, x.origin, ne, x.no, x.o, a, o);
-    Sizes {
-        outa: l.outa,
-        oute: l.oute,
-        outo: l.outo,
-        topa: a,
-        tope: e,
-        topo: o,
-    }
+    let r = taller(l, ne, x.no);
+    copy_without(work, x.e, r.tope, x.ne, index);
+    finish(work, x.slot, x.origin, ne, x.no, x.o, r.topa, r.topo);
+    r
 }
 
 // A record as the a-th, with the element at an index made plain.
@@ -100,18 +90,9 @@ fn push_present(work: &mut [u8], l: Sizes, x: Listed, index: usize) -> Sizes
     requires index_lt_ne { (index < x.ne) × (x.slot < marked) }
     ensures { PushedPresent work.old work.new l result x index }
 {
-    let a = l.topa - 1;
-    let e = l.tope - x.ne;
-    let o = l.topo - x.no;
-    write_present(work, x, index, a, e, o);
-    Sizes {
-        outa: l.outa,
-        oute: l.oute,
-        outo: l.outo,
-        topa: a,
-        tope: e,
-        topo: o,
-    }
+    let r = taller(l, x.ne, x.no);
+    write_present(work, x, index, r.topa, r.tope, r.topo);
+    r
 }
 
 // The alternative in hand is split at an optional call: with the call made plain, on top, and without it.

@@ -5,7 +5,7 @@ ghost use Rattle.planned.specs.Moves.{IsEmpty, IsDrained, Took, Settled};
 use crate::record::{record_at, write_record};
 
 // Both ends, each of alternatives, elements and options: how many are settled, and where the stack begins.
-#[derive(Clone, Copy)]
+#[derive(Clone, Copy, Debug, PartialEq, Eq)]
 pub struct Sizes {
     pub outa: usize,
     pub oute: usize,
@@ -63,7 +63,7 @@ impl Mark {
 }
 
 // A planned alternative: the slot that it fills, where it was taken from last, and where its elements and options are listed.
-#[derive(Clone, Copy)]
+#[derive(Clone, Copy, Debug, PartialEq, Eq)]
 pub struct Listed {
     pub slot: u16,
     pub origin: u16,
@@ -74,14 +74,14 @@ pub struct Listed {
 }
 
 // An element of the list: its place in the sheet, and whether it was made plain.
-#[derive(Clone, Copy)]
+#[derive(Clone, Copy, Debug, PartialEq, Eq)]
 pub struct Item {
     pub at: usize,
     pub plain: bool,
 }
 
 // The alternative on top of the stack, and the list without it.
-#[derive(Clone, Copy)]
+#[derive(Clone, Copy, Debug, PartialEq, Eq)]
 pub struct Top {
     pub x: Listed,
     pub rest: Sizes,
@@ -102,12 +102,10 @@ pub fn take_top(work: &[u8], l: Sizes) -> Top
     Top {
         x,
         rest: Sizes {
-            outa: l.outa,
-            oute: l.oute,
-            outo: l.outo,
             topa: l.topa + 1,
             tope: l.tope + x.ne,
             topo: l.topo + x.no,
+            ..l
         },
     }
 }
@@ -122,8 +120,6 @@ pub fn settle(work: &mut [u8], l: Sizes, x: Listed) -> Sizes
         outa: l.outa + 1,
         oute: l.oute + x.ne,
         outo: l.outo + x.no,
-        topa: l.topa,
-        tope: l.tope,
-        topo: l.topo,
+        ..l
     }
 }

@@ -4,6 +4,7 @@ ghost use Rattle.planned.specs.List.{Laid, Located};
 ghost use Rattle.planned.specs.Reading.{ItemIs, OnTrack, AtFront, ReadNext};
 
 use crate::halves::half;
+use crate::hand::place;
 use crate::list::{Item, Listed, Mark, Sizes};
 use crate::record::record_at;
 
@@ -13,20 +14,14 @@ pub fn item(work: &[u8], x: Listed, i: usize) -> Item
     ensures { ItemIs work.now x i result.at result.plain }
 {
     let h = half(work, x.e + i);
-    if h < Mark::BIT {
-        return Item {
-            at: h as usize,
-            plain: false,
-        };
-    }
     Item {
-        at: (h - Mark::BIT) as usize,
-        plain: true,
+        at: place(h) as usize,
+        plain: Mark::BIT <= h,
     }
 }
 
 // A position among the settled alternatives.
-#[derive(Clone, Copy)]
+#[derive(Clone, Copy, Debug, PartialEq, Eq)]
 pub struct Cursor {
     pub a: usize,
     pub e: usize,
@@ -42,7 +37,7 @@ impl Cursor {
 }
 
 // The settled alternative at a position, and the next position.
-#[derive(Clone, Copy)]
+#[derive(Clone, Copy, Debug, PartialEq, Eq)]
 pub struct Read {
     pub x: Listed,
     pub next: Cursor,

@@ -20,10 +20,7 @@ fn is_one(s: &[u8], end: usize, e: Item) -> bool
     requires { Room s.now end × (e.at + 6 ≤ end) }
     ensures { result ≡ (e.plain || eqb (get_or (words s.now) (e.at + 2) 0 / kind_end) once) }
 {
-    if e.plain {
-        return true;
-    }
-    word(s, e.at + 2) / Kind::END == Quantifier::ONCE
+    e.plain || word(s, e.at + 2) / Kind::END == Quantifier::ONCE
 }
 
 // Whether an element is a call of a name, with quantifier 0.
@@ -31,15 +28,8 @@ fn is_call_of(s: &[u8], end: usize, depth: u32, name: u32, e: Item) -> bool
     requires { Room s.now end × FoundElement (words s.now) end depth e.at }
     ensures { ItemTested (words s.now) end depth e.at e.plain (is_call_of name) result }
 {
-    let at = e.at;
-    let head = element_head(s, end, depth, at);
-    if head.kind != Kind::CALL {
-        return false;
-    }
-    if is_one(s, end, e) {
-        return word(s, head.payload) == name;
-    }
-    false
+    let head = element_head(s, end, depth, e.at);
+    head.kind == Kind::CALL && is_one(s, end, e) && word(s, head.payload) == name
 }
 
 // Whether such a call gives arguments.
@@ -47,12 +37,8 @@ fn gives_arguments(s: &[u8], end: usize, depth: u32, name: u32, e: Item) -> bool
     requires { Room s.now end × FoundElement (words s.now) end depth e.at }
     ensures { ItemTested (words s.now) end depth e.at e.plain (gives_arguments name) result }
 {
-    if is_call_of(s, end, depth, name, e) {
-        let at = e.at;
-        let head = element_head(s, end, depth, at);
-        return word(s, head.payload + 1) != 0;
-    }
-    false
+    is_call_of(s, end, depth, name, e)
+        && word(s, element_head(s, end, depth, e.at).payload + 1) != 0
 }
 
 // Whether an element is epsilon, an action or a predicate.
@@ -60,9 +46,7 @@ fn is_silent(s: &[u8], end: usize, depth: u32, e: Item) -> bool
     requires { Room s.now end × FoundElement (words s.now) end depth e.at }
     ensures { ItemTested (words s.now) end depth e.at e.plain is_epsilon_only result }
 {
-    let at = e.at;
-    let head = element_head(s, end, depth, at);
-    head.kind < Kind::CALL
+    element_head(s, end, depth, e.at).kind < Kind::CALL
 }
 
 // Whether an alternative begins with a call of a name.
@@ -71,10 +55,7 @@ pub fn starts_with_call(s: &[u8], end: usize, depth: u32, name: u32, work: &[u8]
     requires listed_in { ListedIn (words s.now) end depth work.now x }
     ensures { result ≡ starts_with_call name (meaning (words s.now) end depth work.now x).elements }
 {
-    if x.ne == 0 {
-        return false;
-    }
-    is_call_of(s, end, depth, name, item(work, x, 0))
+    x.ne != 0 && is_call_of(s, end, depth, name, item(work, x, 0))
 }
 
 // Whether an alternative gives the hub no arguments, and is more than epsilon, actions and predicates.
@@ -84,14 +65,12 @@ pub fn may_be_rewritten(s: &[u8], end: usize, depth: u32, name: u32, work: &[u8]
     ensures { result ≡ may_be_rewritten name (meaning (words s.now) end depth work.now x).elements }
 {
     let mut silent = true;
-    let mut i: usize = 0;
-    while i < x.ne {
+    for i in 0..x.ne {
         let e = item(work, x, i);
         if gives_arguments(s, end, depth, name, e) {
             return false;
         }
-        silent = silent & is_silent(s, end, depth, e);
-        i += 1;
+        silent &= is_silent(s, end, depth, e);
     }
     !silent
 }

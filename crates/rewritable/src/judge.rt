@@ -21,11 +21,9 @@ use reach::rows::{Row, is_empty, meet, union};
 use records::rules::Rules;
 use words::numbers::Block;
 
-// What is told of one alternative; the rest means nothing where it is not fit.
-#[derive(Clone, Copy)]
+// An alternative that is fit: whether it begins with the hub's call, or else has no left corner in the cycle; and what it calls.
+#[derive(Clone, Copy, Debug, PartialEq, Eq)]
 struct Verdict {
-    fit: bool,
-    primary: bool,
     recursive: bool,
     calls: [u64; Row::WORDS],
 }
@@ -41,7 +39,7 @@ fn judge_alternative(
     hub: usize,
     work: &[u8],
     x: Listed,
-) -> Verdict
+) -> Option<Verdict>
     requires room { Room s.now end × (known.n ≤ rule_limit) × (hub < known.n) }
     requires tabled { Tabled names.now known.n table.now }
     requires located { Located work.now x × ListedIn (words s.now) end depth work.now x }
@@ -50,40 +48,20 @@ fn judge_alternative(
 {
     let name = names[hub];
     if !may_be_rewritten(s, end, depth, name, work, x) {
-        return Verdict {
-            fit: false,
-            primary: false,
-            recursive: false,
-            calls: [0u64; Row::WORDS],
-        };
+        return None;
     }
     let w = walk_alternative(s, end, depth, names, known, table, work, x);
+    let recursive = starts_with_call(s, end, depth, name, work, x);
+    let fit = if recursive {
+        !w.null
+    } else {
+        is_empty(meet(w.corners, members))
+    };
     let calls = w.calls;
-    if starts_with_call(s, end, depth, name, work, x) {
-        return Verdict {
-            fit: !w.null,
-            primary: false,
-            recursive: true,
-            calls,
-        };
-    }
-    let corners = w.corners;
-    let apart = is_empty(meet(corners, members));
-    Verdict {
-        fit: apart,
-        primary: true,
-        recursive: false,
-        calls,
-    }
+    fit.then_some(Verdict { recursive, calls })
 }
 
-// Whether the list is directly left-recursive; and if so, the rules that it calls.
-#[derive(Clone, Copy)]
-pub struct Judged {
-    pub fit: bool,
-    pub calls: [u64; Row::WORDS],
-}
-
+// If the list is directly left-recursive, the rules that it calls.
 fn judge_list(
     s: &[u8],
     end: usize,
@@ -95,7 +73,7 @@ fn judge_list(
     hub: usize,
     work: &[u8],
     l: Sizes,
-) -> Judged
+) -> Option<[u64; Row::WORDS]>
     requires room { Room s.now end × (known.n ≤ rule_limit) × (hub < known.n) }
     requires tabled { Tabled names.now known.n table.now }
     requires laid { Laid work.now l × AllIn (words s.now) end depth work.now l }
@@ -106,24 +84,15 @@ fn judge_list(
     let mut primary = false;
     let mut recursive = false;
     let mut c = Cursor::front();
-    while c.a < l.outa {
+    for _ in 0..l.outa {
         let r = read_settled(work, l, c);
-        let x = r.x;
-        let v = judge_alternative(s, end, depth, names, known, table, members, hub, work, x);
-        if !v.fit {
-            return Judged { fit: false, calls };
-        }
-        let more = v.calls;
-        let all = union(calls, more);
-        calls = all;
-        primary = primary | v.primary;
-        recursive = recursive | v.recursive;
+        let v = judge_alternative(s, end, depth, names, known, table, members, hub, work, r.x)?;
+        calls = union(calls, v.calls);
+        primary |= !v.recursive;
+        recursive |= v.recursive;
         c = r.next;
     }
-    Judged {
-        fit: primary & recursive,
-        calls,
-    }
+    (primary && recursive).then_some(calls)
 }
 
 // The settled alternatives of the list, by the rules that stand in the sheet.
@@ -136,7 +105,7 @@ pub fn judge(
     hub: usize,
     work: &[u8],
     l: Sizes,
-) -> Judged
+) -> Option<[u64; Row::WORDS]>
     requires room { Room s.now end × Standing (words s.now) end rules }
     requires n_value { (known.n ≡ rules.n) × (hub < rules.n) }
     requires laid { Laid work.now l × AllIn (words s.now) end inner_depth work.now l }

@@ -81,18 +81,15 @@ fn walk_rest(
         (drop from (meaning (words s.now) end depth work.now x).elements)
         (seen_of t.old p.seeks p.null) (seen_of t.new result.seeks result.null) }
 {
-    let mut i = from;
     let mut q = p;
-    while i < x.ne {
+    for i in from..x.ne {
         let e = item(work, x, i);
-        let r = walk_item(s, end, depth, names, known, table, e, q, t);
-        q = r;
-        i += 1;
+        q = walk_item(s, end, depth, names, known, table, e, q, t);
     }
     q
 }
 
-#[derive(Clone, Copy)]
+#[derive(Clone, Copy, Debug, PartialEq, Eq)]
 pub struct Walk {
     pub calls: [u64; Row::WORDS],
     pub corners: [u64; Row::WORDS],

@@ -1,5 +1,5 @@
 -- How an option meets others: by the first of its name.
-use Rattle.std.specs.Prelude.{ℕ, zero, suc, ◌+◌, ◌-◌, ◌*◌, ◌<◌, ◌≤◌, ◌≡◌, List, [], ◌∷◌, Bool, true, false, length, eqb}
+use Rattle.std.specs.Prelude.{ℕ, zero, suc, ◌+◌, ◌-◌, ◌*◌, ◌<◌, ◌≤◌, ◌≡◌, List, [], ◌∷◌, Bool, true, false, length, get_or, drop, eqb}
 use Rattle.std.proofs.Math.Option.{Option, none, some}
 use Rattle.grammar.specs.Tree.{OptionDecl, Block, AlternativeOf}
 use Rattle.grammar.specs.Lists.{first}
@@ -26,6 +26,11 @@ first_named n = first (λ p. eqb p.name n)
 -- An option against those that are there: the first of its name counts, as in add_option.
 unfoldable pub meets : List OptionDecl → OptionDecl → Meets
 meets os o = met_first (first_named o.name os) o.value
+
+-- The i-th of some options stands at each place that may be given for it.
+pub record GivenAt (ws : List ℕ) (place : ℕ → ℕ → Type 0) (os : List OptionDecl) : Type 0 where
+  pub each : (i p : ℕ) → i < length os → place i p
+      → drop i os ≡ (record { name = get_or ws p 0; value = get_or ws (p + 1) 0 }) ∷ drop (suc i) os
 
 -- What follows where there is none of the name.
 abbrev pub or_else : Meets → Meets → Meets

@@ -1,6 +1,7 @@
 // The options of an alternative in hand, and those that a spliced alternative adds to them.
-ghost use Rattle.std.specs.Prelude.{◌≡◌, ◌++◌, ◌+◌, ◌*◌, ◌<◌, ◌≤◌, length};
+ghost use Rattle.std.specs.Prelude.{ℕ, ◌≡◌, List, ◌++◌, ◌+◌, ◌*◌, ◌<◌, ◌≤◌, length};
 ghost use Rattle.grammar.specs.Numbers.{most_words};
+ghost use Rattle.grammar.specs.Tree.{OptionDecl};
 ghost use Rattle.grammar.specs.Words.{words};
 ghost use Rattle.grammar.specs.Found.{FoundAlternative};
 ghost use Rattle.words.specs.Room.{Room};
@@ -8,7 +9,7 @@ ghost use Rattle.planned.specs.Layout.{options_from, option_of, meaning};
 ghost use Rattle.planned.specs.List.{Located, ListedIn};
 ghost use Rattle.splices.specs.Moves.{OptionsAdded};
 ghost use Rattle.planned.specs.Laws.Parts.{Copied};
-ghost use Rattle.splices.specs.Options.{met_by, meets, standing_options, OptionsIn, PutIfNew, OptionsFit, OptionsPut};
+ghost use Rattle.splices.specs.Options.{meets, GivenAt, standing_options, OptionsIn, PutIfNew, OptionsFit, OptionsPut};
 
 use crate::places::option_count;
 use planned::halves::{half, move_halves, put_half};
@@ -23,20 +24,32 @@ pub enum Added {
 }
 
 // An option against others: none has its name; or the first that has it has the same value, or another.
-#[derive(Clone, Copy)]
+// Stays: of its three cases an Option<bool> would name none, and `Some(false)` would be the one that refuses.
+#[derive(Clone, Copy, Debug, PartialEq, Eq)]
 pub enum Meets {
     New,
     Same,
     Other,
 }
 
-fn met(same: bool) -> Meets
-    ensures { result ≡ met_by same }
+// Against n options, of which the i-th stands at `place(i)`.
+fn meets_among<F: Fn(usize) -> usize>(s: &[u8], n: usize, place: F, name: u32, value: u32) -> Meets
+    requires callable { (i : ℕ) → i < n → F.pre place i }
+    requires in_bounds { (i p : ℕ) → i < n → F.post place i p → 4 * (p + 1) + 4 ≤ length s.now }
+    ensures { (os : List OptionDecl) → length os ≡ n → GivenAt (words s.now) (F.post place) os
+        → result ≡ meets os (record { name = name; value = value }) }
 {
-    if same {
-        return Meets::Same;
+    for i in 0..n {
+        let p = place(i);
+        if word(s, p) == name {
+            return if word(s, p + 1) == value {
+                Meets::Same
+            } else {
+                Meets::Other
+            };
+        }
     }
-    Meets::Other
+    Meets::New
 }
 
 // Against n options listed from half `from` on.
@@ -54,15 +67,7 @@ fn meets_listed(
     ensures { result ≡ meets (options_from (words s.now) end depth work.now from n)
         (record { name = name; value = value }) }
 {
-    let mut i: usize = 0;
-    while i < n {
-        let p = half(work, from + i) as usize;
-        if word(s, p) == name {
-            return met(word(s, p + 1) == value);
-        }
-        i += 1;
-    }
-    Meets::New
+    meets_among(s, n, |i| half(work, from + i) as usize, name, value)
 }
 
 // Against n options that stand from `at` on.
@@ -78,15 +83,7 @@ fn meets_standing(
     requires { Room s.now end × (at + 2 * n ≤ end) }
     ensures { result ≡ meets (standing_options (words s.now) end depth at n) (record { name = name; value = value }) }
 {
-    let mut i: usize = 0;
-    while i < n {
-        let p = at + 2 * i;
-        if word(s, p) == name {
-            return met(word(s, p + 1) == value);
-        }
-        i += 1;
-    }
-    Meets::New
+    meets_among(s, n, |i| at + 2 * i, name, value)
 }
 
 // Option j of the alternative at `at`, against those in hand, then against its own in front of it.
@@ -109,8 +106,7 @@ fn option_meets(
     let value = word(s, at + 5 + 2 * j + 1);
     match meets_listed(s, end, depth, work, h.o, h.no, name, value) {
         Meets::New => meets_standing(s, end, depth, at + 5, j, name, value),
-        Meets::Same => Meets::Same,
-        Meets::Other => Meets::Other,
+        met => met,
     }
 }
 
@@ -162,8 +158,7 @@ fn put_if_new(
             put_half(work, to, (at + 5 + 2 * j) as u16);
             to + 1
         }
-        Meets::Same => to,
-        Meets::Other => to,
+        Meets::Same | Meets::Other => to,
     }
 }
 
@@ -185,10 +180,8 @@ fn put_new_options(
 {
     let n = option_count(s, end, depth, at);
     let mut t = to + h.no;
-    let mut j: usize = 0;
-    while j < n {
+    for j in 0..n {
         t = put_if_new(s, end, depth, work, h, at, j, t);
-        j += 1;
     }
     t
 }

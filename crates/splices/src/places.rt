@@ -26,14 +26,10 @@ pub fn put_places(
     requires n_in_bounds { 2 * (to + n) ≤ length work.old }
     ensures { PlacesPut (words s.now) end depth n at work.old work.new to result }
 {
-    let mut i: u32 = n;
     let mut p = at;
-    let mut t = to;
-    while i != 0 {
-        put_half(work, t, p as u16);
+    for i in 0..n as usize {
+        put_half(work, to + i, p as u16);
         p = element_end(s, end, depth, p);
-        t += 1;
-        i -= 1;
     }
     p
 }
@@ -43,10 +39,8 @@ pub fn put_option_places(n: usize, at: usize, work: &mut [u8], to: usize)
     requires { (at + 2 * n ≤ most_words) × (2 * (to + n) ≤ length work.old) }
     ensures { OptionPlacesPut n at work.old work.new to }
 {
-    let mut i: usize = 0;
-    while i < n {
+    for i in 0..n {
         put_half(work, to + i, (at + 2 * i) as u16);
-        i += 1;
     }
 }
 
@@ -60,7 +54,7 @@ pub fn option_count(s: &[u8], end: usize, depth: u32, at: usize) -> usize
 }
 
 // How many elements and options an alternative has, and where its elements begin.
-#[derive(Clone, Copy)]
+#[derive(Clone, Copy, Debug, PartialEq, Eq)]
 pub struct Parts {
     pub count: u32,
     pub ne: usize,

@@ -46,7 +46,7 @@ fn put_elements(
 }
 
 // The next alternative of the satellite, and where its record comes: which it is, and where its elements and options begin.
-#[derive(Clone, Copy)]
+#[derive(Clone, Copy, Debug, PartialEq, Eq)]
 struct Spot {
     at: usize,
     a: usize,
@@ -55,7 +55,7 @@ struct Spot {
 }
 
 // How many elements a record has, and where its options end; and where the elements end that were taken from the sheet.
-#[derive(Clone, Copy)]
+#[derive(Clone, Copy, Debug, PartialEq, Eq)]
 struct Ends {
     at: usize,
     ne: usize,
@@ -136,25 +136,20 @@ fn put_all(
     ensures all_put { AllPut (words s.now) end depth h index n f.at work.old work.new
         f.a f.e f.o l.tope l.topo }
 {
-    let mut k = n;
     let mut p = f;
-    while k != 0 {
-        let q = put_one(s, end, depth, work, h, index, p);
-        p = q;
-        k -= 1;
+    for _ in 0..n {
+        p = put_one(s, end, depth, work, h, index, p);
     }
     Sizes {
-        outa: l.outa,
-        oute: l.oute,
-        outo: l.outo,
         topa: f.a,
         tope: f.e,
         topo: f.o,
+        ..l
     }
 }
 
 // How many alternatives, elements and options a splice comes to.
-#[derive(Clone, Copy)]
+#[derive(Clone, Copy, Debug, PartialEq, Eq)]
 pub struct Size {
     pub a: usize,
     pub e: usize,

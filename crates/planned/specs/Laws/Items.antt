@@ -1,6 +1,6 @@
 -- What a half of the list stands for: a place, whether it is marked, the element that stands there.
 use Rattle.std.specs.Prelude.{ℕ, suc, ◌+◌, ◌-◌, ◌%◌, ◌<◌, ◌≤◌, ◌≡◌, List, ◌∷◌, Bool, true, false, get_or}
-use Rattle.std.proofs.Math.Path.{sym}
+use Rattle.std.proofs.Math.Path.{refl, sym}
 use Rattle.std.proofs.Common.{ap, ◌∙◌, arith, add-one, le-leb}
 use Rattle.std.proofs.Math.ListN.{drop}
 use Rattle.std.proofs.lemmas.Bool.{lt-leb}
@@ -57,12 +57,9 @@ item_is {bs} {x} {i} {at} {made} l p m =
           };
     }
 
-module _ {bs : List ℕ} {x : Listed} {i h : ℕ} (is : h ≡ half bs (x.e + i)) (l : i < x.ne) where
-  pub item_low : h < marked → ItemIs bs x i h false
-  item_low u = item_is l (rw (← is) (unmarked_place u)) (rw (← is) (unmarked u))
-
-  pub item_high : marked ≤ h → ItemIs bs x i (h - marked) true
-  item_high u = item_is l (rw (← is) (marked_place u)) (rw (← is) (is_marked_lem u))
+pub item_read : {bs : List ℕ} {x : Listed} {i h at : ℕ} → h ≡ half bs (x.e + i) → i < x.ne → at ≡ place_of h
+    → ItemIs bs x i at (is_marked h)
+item_read is l p = item_is l (rw (← is) (sym p)) (rw (← is) refl)
 
 -- An element that means a call is one in the sheet.
 call_kind_lem : {ws : List ℕ} {end d at q : ℕ} {e : Element (Block d)} {head : ElementHead} {c : Call} (b : Bool)
@@ -87,5 +84,3 @@ module _ {ws : List ℕ} {end d : ℕ} {bs : List ℕ} {x : Listed} {i : ℕ} (t
       sym (elements_at_lem ws end d bs i x.e x.ne l) ∙ s in
       let v : element_of ws end d h ≡ leaf head (call c) = cc in
       record { kind = call_kind_lem {d = d} (is_marked h) (rw (standing_is ws end d f.spans) at v) (opened f.tree f.spans) }
-
-pub ruleset items = (item_low, item_high)

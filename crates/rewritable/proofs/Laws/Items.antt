@@ -22,10 +22,6 @@ use Rattle.reference.specs.Substitute.{plain}
 use Rattle.planned.specs.Layout.{made_if}
 use Rattle.rewritable.specs.Items.{call_of, is_call_of, gives_arguments, ItemTested}
 
--- The quantifier read, as code has it.
-pub one_word : {made : Bool} {w x : ℕ} → made ≡ false → w ≡ x → eqb (w / kind_end) once ≡ (made || eqb (x / kind_end) once)
-one_word f e = rw (f, e) refl
-
 -- What an element is as a call of a name.
 abbrev is_some : Option Call → Bool
 is_some o = elim o [ none ↦ false | some c ↦ true ]

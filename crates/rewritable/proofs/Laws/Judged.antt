@@ -1,14 +1,18 @@
 -- One alternative judged, and the settled alternatives one after the other.
 use Prim.Native.Nat.{ℕ, ◌<◌}
-use mathlib.Core.Path.{◌≡◌, refl, sym, ap, ap₂, ◌∙◌}
+use mathlib.Core.Path.{◌≡◌, refl, sym, ap, ap₂, ◌∙◌, subst}
 use mathlib.Core.List.{List, [], ◌∷◌}
 use mathlib.Core.Option.{Option, none, some}
-use mathlib.Core.Bool.{Bool, true, false, ◌&&◌, ◌||◌, not, and-false, or-false, false≢true, true≢false}
-use lib.ListN.{get_or, drop, replicate}
+use mathlib.Core.Bool.{Bool, true, false, ◌&&◌, ◌||◌, not, and-false, or-false, true≢false}
+use lib.ListN.{get_or, drop}
 use lib.Dec.{eqb}
 use borrow.Author.Tests.{eqb-true, eq-eqb, ne_eqb, lt-ltb, not-true, not-false}
+use Rattle.std.specs.Bool.{then_some}
+use Rattle.std.specs.Prelude.{None}
+use Rattle.std.specs.declared.option.Option.{Option as Opt}
 use Rattle.grammar.specs.Tree.{Call, epsilon, action, predicate, call, token, terminal, end_of_input, Element, leaf, block, Block}
 use Rattle.grammar.specs.Lists.{all, any, member, meet}
+use Rattle.grammar.specs.Corners.{Corners}
 use Rattle.grammar.specs.Laws.Parse.{either}
 use Rattle.reference.specs.Walks.{sort_of, is_epsilon_only, is_one}
 use Rattle.reference.specs.Analysis.{Grammar, target, left_corners, element_nullable, block_is_nullable}
@@ -19,7 +23,8 @@ use Rattle.analysis.specs.Survey.{View, reading}
 use Rattle.analysis.specs.Facts.{Agrees}
 use Rattle.rewritable.specs.Items.{call_of, is_call_of, gives_arguments, starts_with_call, may_be_rewritten}
 use Rattle.rewritable.specs.Walks.{Agreeing, WalkOf}
-use Rattle.rewritable.specs.Judge.{VerdictOf}
+use Rattle.rewritable.specs.Judge.{FitAs, IsJudged, VerdictOf}
+use Rattle.rewritable.specs.declared.judge.Verdict.{Verdict}
 use Rattle.rewritable.specs.declared.walk.Walk.{Walk}
 use Rattle.rewritable.proofs.Laws.Corners.{corners_apart}
 
@@ -98,20 +103,25 @@ module _ (v : View) (hub d : ℕ) (es : List (Element (Block d))) (w : Agreeing 
   abbrev fit : Bool
   fit = is_fit (reading v.past) w.grammar cycle (get_or w.ids hub 0) d es
 
+-- It is fit, or it is not.
+module _ {c : Corners} {g : Grammar} {ids : List ℕ} {n : ℕ} {cycle : List ℕ} {hub d : ℕ} {es : List (Element (Block d))} where
+  judged_if : (b : Bool) {v : Verdict} {r : Opt Verdict} → is_fit c g cycle hub d es ≡ b
+      → (b ≡ true → FitAs c g ids n cycle hub d es v) → r ≡ then_some b v → IsJudged c g ids n cycle hub d es r
+  judged_if true {v} f a e =
+      record { unfit = λ x. absurd cc; fit = λ u x. let y : v ≡ u = cc in subst (FitAs c g ids n cycle hub d es) y (a refl) }
+  judged_if false f a e = record { unfit = λ x. f; fit = λ u x. absurd cc }
+
 module _ (v : View) {hub : ℕ} (low : hub < v.n) (d : ℕ) (es : List (Element (Block d)))
     {may : Bool} (first : may ≡ may_be_rewritten (get_or v.names hub 0) es) where
-  pub verdict_no : (members : List ℕ) → not may ≡ true
-      → VerdictOf v members hub d es (record { fit = false; primary = false; recursive = false; calls = replicate 2 0 })
+  pub verdict_no : (members : List ℕ) → not may ≡ true → VerdictOf v members hub d es None
   unfolding is_fit
   verdict_no members n =
       record {
         by = λ w cycle r.
             record {
-              fit = sym (ap (λ b. b && (primary v hub d es w cycle || recursive v hub d es w cycle))
-                  (sym (same_may w.agrees low es) ∙ sym first ∙ not-true _ n));
-              primary = λ t. absurd (false≢true t);
-              recursive = λ t. absurd (false≢true t);
-              calls = λ t. absurd (false≢true t);
+              unfit = λ e. ap (λ b. b && (primary v hub d es w cycle || recursive v hub d es w cycle))
+                  (sym (same_may w.agrees low es) ∙ sym first ∙ not-true _ n);
+              fit = λ u e. absurd cc;
             };
       }
 
@@ -129,46 +139,42 @@ module _ (v : View) {hub : ℕ} (low : hub < v.n) (d : ℕ) (es : List (Element 
       starts = sym (same_starts w.agrees low es) ∙ sym second
 
     -- It begins with the hub's call: what is behind it decides.
-    pub verdict_recursive : (members : List ℕ) → begins ≡ true
-        → VerdictOf v members hub d es (record { fit = not x.null; primary = false; recursive = true; calls = x.calls })
+    pub verdict_recursive : (members : List ℕ) → begins ≡ true → {b : Bool} → b ≡ not x.null → {r : Opt Verdict}
+        → r ≡ then_some b (record { recursive = begins; calls = x.calls }) → VerdictOf v members hub d es r
     unfolding is_primary is_recursive
-    verdict_recursive members t =
+    verdict_recursive members t {b} y e =
         record {
           by = λ w cycle r.
               let s = starts w cycle ∙ t in
               let p : primary v hub d es w cycle ≡ false =
               ap (λ b. not (b || meet (left_corners (reading v.past) w.grammar d es) cycle)) s in
-              let q : recursive v hub d es w cycle ≡ not x.null =
+              let q : recursive v hub d es w cycle ≡ b =
               ap (λ b. b && not (all (element_nullable w.grammar (block_is_nullable w.grammar d)) (drop 1 es))) s
-              ∙ ap not (sym (walked.tail w)) in
-              record {
-                fit = sym (fits w cycle ∙ ap₂ ◌||◌ p q);
-                primary = λ f. sym p;
-                recursive = λ f. sym (q ∙ f);
-                calls = λ f. walked.calls w;
-              };
+              ∙ ap not (sym (walked.tail w)) ∙ sym y in
+              let f : fit v hub d es w cycle ≡ b = fits w cycle ∙ ap₂ ◌||◌ p q in
+              judged_if b f
+              (λ k. record { fit = f ∙ k; primary = ap not t ∙ sym p; recursive = t ∙ sym (q ∙ k); calls = walked.calls w })
+              e;
         }
 
     -- It does not: its left corners decide.
     pub verdict_primary : {members : List ℕ} → begins ≡ false → {both : List ℕ} {apart : Bool} → Meet x.corners members both
-        → Empty both apart
-        → VerdictOf v members hub d es (record { fit = apart; primary = true; recursive = false; calls = x.calls })
+        → Empty both apart → {b : Bool} → b ≡ apart → {r : Opt Verdict}
+        → r ≡ then_some b (record { recursive = begins; calls = x.calls }) → VerdictOf v members hub d es r
     unfolding is_primary is_recursive
-    verdict_primary n {both} {apart} y z =
+    verdict_primary n {both} {apart} y z {b} i e =
         record {
           by = λ w cycle r.
               let s = starts w cycle ∙ n in
-              let p : primary v hub d es w cycle ≡ apart =
+              let p : primary v hub d es w cycle ≡ b =
               ap (λ b. not (b || meet (left_corners (reading v.past) w.grammar d es) cycle)) s
-              ∙ sym (corners_apart w.agrees (reading v.past) d es (walked.corners w) r y z) in
+              ∙ sym (corners_apart w.agrees (reading v.past) d es (walked.corners w) r y z) ∙ sym i in
               let q : recursive v hub d es w cycle ≡ false =
               ap (λ b. b && not (all (element_nullable w.grammar (block_is_nullable w.grammar d)) (drop 1 es))) s in
-              record {
-                fit = sym (fits w cycle ∙ ap₂ ◌||◌ p q ∙ or-false apart);
-                primary = λ f. sym (p ∙ f);
-                recursive = λ f. sym q;
-                calls = λ f. walked.calls w;
-              };
+              let f : fit v hub d es w cycle ≡ b = fits w cycle ∙ ap₂ ◌||◌ p q ∙ or-false b in
+              judged_if b f
+              (λ k. record { fit = f ∙ k; primary = ap not n ∙ sym (p ∙ k); recursive = n ∙ sym q; calls = walked.calls w })
+              e;
         }
 
 pub ruleset verdicts = (verdict_no, verdict_recursive, verdict_primary)

@@ -3,6 +3,7 @@ use Prim.Native.Nat.{ℕ}
 use mathlib.Core.Path.{◌≡◌, sym, subst}
 use mathlib.Core.List.{List}
 use lib.ListN.{length, get_or}
+use Rattle.std.specs.declared.option.Option.{Option}
 use Rattle.grammar.specs.Tree.{inner_depth}
 use Rattle.reference.specs.Analysis.{Grammar, names_of}
 use Rattle.records.specs.declared.rules.Rules.{Rules}
@@ -16,7 +17,6 @@ use Rattle.analysis.proofs.Laws.Standing.{told}
 use Rattle.planned.specs.Layout.{settled}
 use Rattle.planned.specs.declared.list.Sizes.{Sizes}
 use Rattle.rewritable.specs.Judge.{AreJudged, JudgedOf, JudgedFound}
-use Rattle.rewritable.specs.declared.judge.Judged.{Judged}
 
 -- Without a table the names are looked through.
 pub no_table : {ws : List ℕ} {end : ℕ} {rules : Rules} {n : ℕ} → Standing ws end rules → n ≡ rules.n → (table : List ℕ) → length table ≡ 0
@@ -36,7 +36,7 @@ module _ {ws : List ℕ} {end : ℕ} {rules : Rules} {known : Known} (e : known.
       (record { names = rules.names; n = n; nullable = known.nullable; past = known.past }))
       (sym e) (agrees s row known.past))
 
-  pub judged_found : {members : List ℕ} {hub : ℕ} {bs : List ℕ} {l : Sizes} {r : Judged}
+  pub judged_found : {members : List ℕ} {hub : ℕ} {bs : List ℕ} {l : Sizes} {r : Option (List ℕ)}
       → JudgedOf (view_of rules.names known) members hub inner_depth (settled ws end inner_depth bs l) r
       → JudgedFound ws end rules known members hub bs l r
   judged_found {members} {hub} {bs} {l} {r} j =

@@ -1,20 +1,21 @@
 -- How an option meets others, one by one.
-use Prim.Native.Nat.{ℕ, suc, ◌+◌, ◌-◌, ◌*◌, ◌<◌, ◌≤◌}
+use Prim.Native.Nat.{ℕ, zero, suc, ◌+◌, ◌*◌, ◌<◌, ◌≤◌}
 use mathlib.Core.Path.{◌≡◌, refl, sym, ap, ◌∙◌}
 use mathlib.Core.List.{List, [], ◌∷◌, ◌++◌}
 use mathlib.Core.Bool.{Bool, true, false}
 use native.Mathlib.Omega.{arith}
-use lib.ListN.{length, get_or}
+use native.Mathlib.Numerals.{add-one}
+use lib.ListN.{length, get_or, drop}
 use lib.Dec.{eqb}
 use borrow.Author.Tests.{eq-eqb, ne_eqb, eqb-true, eqb-false}
+use Rattle.std.proofs.lemmas.List.{drop_all}
 use Rattle.grammar.specs.Tree.{OptionDecl}
 use Rattle.grammar.specs.Lists.{first}
 use Rattle.grammar.specs.Laws.Parse.{either}
-use Rattle.words.specs.Room.{Room}
 use Rattle.planned.specs.Layout.{half, option_of, options_from}
-use Rattle.splices.specs.Options.{met_by, met_first, meets, or_else, standing_options, OptionsIn}
+use Rattle.splices.specs.Options.{met_by, met_first, meets, or_else, standing_options, GivenAt}
 use Rattle.splices.specs.declared.options.Meets.{Meets}
-use Rattle.splices.specs.declared.options.Meets.TheVariants.{New}
+use Rattle.splices.specs.declared.options.Meets.TheVariants.{New, Same, Other}
 
 module _ (p o : OptionDecl) (os : List OptionDecl) where
   pub meets_other : (p.name ≡ o.name → ⊥) → meets (p ∷ os) o ≡ meets os o
@@ -44,94 +45,54 @@ meets_append (p ∷ xs) ys o =
     decides true m = refl
     decides false m = refl
 
+-- Those in front of the i-th have other names.
+pub record Unmet (os : List OptionDecl) (name value i : ℕ) : Type 0 where
+  pub same : meets os (record { name = name; value = value }) ≡ meets (drop i os) (record { name = name; value = value })
+
+module _ {os : List OptionDecl} {name value i : ℕ} (u : Unmet os name value i) where
+  pub among_none : length os ≤ i → New ≡ meets os (record { name = name; value = value })
+  among_none l = sym (u.same ∙ rw (drop_all i os l) (meets_none (record { name = name; value = value })))
+
+  module _ {ws : List ℕ} {place : ℕ → ℕ → Type 0} (given : GivenAt ws place os) (l : i < length os) {p w : ℕ} (at : place i p)
+      (is : w ≡ get_or ws p 0) where
+    pub among_other : (w ≡ name → ⊥) → Unmet os name value (i + 1)
+    among_other m = record { same = u.same ∙ rw (given.each i p l at, add-one i) (meets_other _ _ _ λ e. m (is ∙ e)) }
+
+    module _ (e : w ≡ name) {v : ℕ} (x : v ≡ get_or ws (p + 1) 0) where
+      among_named : meets os (record { name = name; value = value }) ≡ met_by (eqb v value)
+      among_named = u.same ∙ rw (given.each i p l at) (meets_named _ _ _ (sym is ∙ e)) ∙ ap (λ k. met_by (eqb k value)) (sym x)
+
+      pub among_same : v ≡ value → Same ≡ meets os (record { name = name; value = value })
+      among_same s = sym (among_named ∙ rw (eq-eqb v value s) refl)
+
+      pub among_differs : (v ≡ value → ⊥) → Other ≡ meets os (record { name = name; value = value })
+      among_differs s = sym (among_named ∙ rw (ne_eqb v value s) refl)
+
+-- Options that are listed, and options that stand, are at the places of their indices.
 module _ (ws : List ℕ) (end d : ℕ) where
-  -- The first of the options that are left, and the others.
-  listed_first : (bs : List ℕ) (from n i : ℕ) → i < n → options_from ws end d bs (from + i) (n - i)
-      ≡ option_of ws end d (half bs (from + i)) ∷ options_from ws end d bs (from + (i + 1)) (n - (i + 1))
+  listed_each : (bs : List ℕ) (n from i : ℕ) → i < length (options_from ws end d bs from n) → drop i (options_from ws end d bs from n)
+      ≡ option_of ws end d (half bs (from + i)) ∷ drop (suc i) (options_from ws end d bs from n)
   unfolding options_from
-  listed_first bs from n i h =
-      let a : n - i ≡ suc (n - (i + 1)) = omega arith in
-      let b : suc (from + i) ≡ from + (i + 1) = omega arith in
-      rw (a, b) refl
+  listed_each bs zero from i l = absurd (omega arith)
+  listed_each bs (suc n) from zero l = let e : from + 0 ≡ from = omega arith in rw e refl
+  listed_each bs (suc n) from (suc i) l = let e : from + suc i ≡ suc from + i = omega arith in rw e (listed_each bs n (suc from) i (omega arith))
 
-  standing_first : (at n i : ℕ) → i < n → standing_options ws end d (at + 2 * i) (n - i)
-      ≡ option_of ws end d (at + 2 * i) ∷ standing_options ws end d (at + 2 * (i + 1)) (n - (i + 1))
+  pub listed_at : (bs : List ℕ) (from n : ℕ) {i p : ℕ} → p ≡ half bs (from + i) → i < length (options_from ws end d bs from n)
+      → drop i (options_from ws end d bs from n) ≡ option_of ws end d p ∷ drop (suc i) (options_from ws end d bs from n)
+  listed_at bs from n {i} is l = rw is (listed_each bs n from i l)
+
+  standing_each : (n at i : ℕ) → i < length (standing_options ws end d at n) → drop i (standing_options ws end d at n)
+      ≡ option_of ws end d (at + 2 * i) ∷ drop (suc i) (standing_options ws end d at n)
   unfolding standing_options
-  standing_first at n i h =
-      let a : n - i ≡ suc (n - (i + 1)) = omega arith in
-      let b : 2 + (at + 2 * i) ≡ at + 2 * (i + 1) = omega arith in
-      rw (a, b) refl
+  standing_each zero at i l = absurd (omega arith)
+  standing_each (suc n) at zero l = let e : at + 2 * 0 ≡ at = omega arith in rw e refl
+  standing_each (suc n) at (suc i) l = let e : at + 2 * suc i ≡ 2 + at + 2 * i = omega arith in rw e (standing_each n (2 + at) i (omega arith))
 
-  -- Those in front of the i-th have other names.
-  pub record UnmetListed (bs : List ℕ) (from n name value i : ℕ) : Type 0 where
-    pub few : i ≤ n
-    pub same : meets (options_from ws end d bs from n) (record { name = name; value = value })
-        ≡ meets (options_from ws end d bs (from + i) (n - i)) (record { name = name; value = value })
+  pub standing_at : (at n : ℕ) {i p : ℕ} → p ≡ at + 2 * i → i < length (standing_options ws end d at n)
+      → drop i (standing_options ws end d at n) ≡ option_of ws end d p ∷ drop (suc i) (standing_options ws end d at n)
+  standing_at at n {i} is l = rw is (standing_each n at i l)
 
-  pub record UnmetStanding (at n name value i : ℕ) : Type 0 where
-    pub few : i ≤ n
-    pub same : meets (standing_options ws end d at n) (record { name = name; value = value })
-        ≡ meets (standing_options ws end d (at + 2 * i) (n - i)) (record { name = name; value = value })
-
-  pub listed_none : (bs : List ℕ) (from n name value : ℕ) → UnmetListed bs from n name value 0
-  listed_none bs from n name value =
-      let a : from + 0 ≡ from = omega arith in
-      let b : n - 0 ≡ n = omega arith in
-      record { few = omega arith; same = rw (a, b) refl }
-
-  pub standing_none : (at n name value : ℕ) → UnmetStanding at n name value 0
-  standing_none at n name value =
-      let a : at + 2 * 0 ≡ at = omega arith in
-      let b : n - 0 ≡ n = omega arith in
-      record { few = omega arith; same = rw (a, b) refl }
-
-  module _ {bs : List ℕ} {from n name value i : ℕ} (u : UnmetListed bs from n name value i) where
-    pub listed_done : n ≤ i → New ≡ meets (options_from ws end d bs from n) (record { name = name; value = value })
-    unfolding options_from
-    listed_done h = let e : n - i ≡ 0 = omega arith in sym (u.same ∙ rw e (meets_none (record { name = name; value = value })))
-
-    module _ {p w : ℕ} (at : p ≡ half bs (from + i)) (is : w ≡ get_or ws p 0) (h : i < n) where
-      pub listed_other : (w ≡ name → ⊥) → UnmetListed bs from n name value (i + 1)
-      listed_other m =
-          record {
-            few = omega arith;
-            same =
-                u.same
-                ∙ rw (listed_first bs from n i h)
-                (meets_other _ _ _ λ e. m (is ∙ ap (λ k. get_or ws k 0) at ∙ e));
-          }
-
-      pub listed_named : {v : ℕ} {r : Meets} → w ≡ name → v ≡ get_or ws (p + 1) 0 → r ≡ met_by (eqb v value)
-          → r ≡ meets (options_from ws end d bs from n) (record { name = name; value = value })
-      listed_named e x y =
-          y ∙ ap (λ k. met_by (eqb k value)) (x ∙ ap (λ k. get_or ws (k + 1) 0) at)
-          ∙ sym (u.same ∙ rw (listed_first bs from n i h) (meets_named _ _ _ (sym (ap (λ k. get_or ws k 0) at) ∙ sym is ∙ e)))
-
-  module _ {at n name value i : ℕ} (u : UnmetStanding at n name value i) where
-    pub standing_done : n ≤ i → New ≡ meets (standing_options ws end d at n) (record { name = name; value = value })
-    unfolding standing_options
-    standing_done h = let e : n - i ≡ 0 = omega arith in sym (u.same ∙ rw e (meets_none (record { name = name; value = value })))
-
-    module _ {w : ℕ} (is : w ≡ get_or ws (at + 2 * i) 0) (h : i < n) where
-      pub standing_other : (w ≡ name → ⊥) → UnmetStanding at n name value (i + 1)
-      standing_other m =
-          record { few = omega arith; same = u.same ∙ rw (standing_first at n i h) (meets_other _ _ _ λ e. m (is ∙ e)) }
-
-      pub standing_named : {v : ℕ} {r : Meets} → w ≡ name → v ≡ get_or ws (at + 2 * i + 1) 0 → r ≡ met_by (eqb v value)
-          → r ≡ meets (standing_options ws end d at n) (record { name = name; value = value })
-      standing_named e x y =
-          y ∙ ap (λ k. met_by (eqb k value)) x
-          ∙ sym (u.same ∙ rw (standing_first at n i h) (meets_named _ _ _ (sym is ∙ e)))
-
--- The words of an option that is listed are in the sheet.
-module _ {bs : List ℕ} {end d : ℕ} {ws ss : List ℕ} {from n i p : ℕ} (room : Room ss end) (o : OptionsIn ws end d bs from n) (h : i < n)
-    (at : p ≡ half bs (from + i)) where
-  pub listed_name : 4 * p + 4 ≤ length ss
-  listed_name = let l = o.low i h in omega arith
-
-  pub listed_value : 4 * (p + 1) + 4 ≤ length ss
-  listed_value = let l = o.low i h in omega arith
-
-pub ruleset listing = (listed_none, listed_done, listed_other, listed_named, listed_name, listed_value)
-
-pub ruleset standing = (standing_none, standing_done, standing_other, standing_named)
+  pub standing_count : (at n : ℕ) → length (standing_options ws end d at n) ≡ n
+  unfolding standing_options
+  standing_count at zero = refl
+  standing_count at (suc n) = ap suc (standing_count (2 + at) n)

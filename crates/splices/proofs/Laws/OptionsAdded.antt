@@ -31,13 +31,15 @@ module _ (os own : List OptionDecl) {name value a v : ℕ} {m : Meets} (n : name
       → r ≡ meets (os ++ own) (record { name = a; value = v })
   meets_new f g = g ∙ sym (both f)
 
-  pub meets_same : m ≡ Same → Same ≡ meets (os ++ own) (record { name = a; value = v })
-  meets_same f = sym (both f)
+  pub meets_met : (m ≡ New → ⊥) → m ≡ meets (os ++ own) (record { name = a; value = v })
+  meets_met f = sym (both refl ∙ decided m (meets own (record { name = name; value = value })) f)
+    where
+      decided : (k r : Meets) → (k ≡ New → ⊥) → or_else k r ≡ k
+      decided New r f = absurd (f refl)
+      decided Same r f = refl
+      decided Other r f = refl
 
-  pub meets_differs : m ≡ Other → Other ≡ meets (os ++ own) (record { name = a; value = v })
-  meets_differs f = sym (both f)
-
-pub ruleset meeting = (meets_new, meets_same, meets_differs)
+pub ruleset meeting = (meets_new, meets_met)
 
 -- The options in hand are in the sheet.
 pub hand_options : {ws : List ℕ} {end d : ℕ} {bs : List ℕ} {x : Listed} → Located bs x → ListedIn ws end d bs x

@@ -10,7 +10,7 @@ use Rattle.grammar.specs.Tree.{OptionDecl}
 use Rattle.grammar.specs.Found.{FoundAlternative}
 use Rattle.reference.specs.Substitute.{union_options}
 use Rattle.planned.specs.Layout.{half, option_of, options_from}
-use Rattle.planned.specs.Halves.{HalfPut, HalvesMoved, Apart}
+use Rattle.planned.specs.Halves.{HalvesMoved, Apart}
 use Rattle.splices.specs.Options.{meets, standing_options, OptionsIn, NewPut, NonePut, PutIfNew, UnionFits, OptionsFit, OptionsPut}
 use Rattle.splices.specs.Places.{OptionCount}
 use Rattle.planned.specs.Laws.Order.{order}
@@ -21,27 +21,6 @@ use Rattle.splices.specs.declared.options.Meets.TheVariants.{New, Same, Other}
 use Rattle.splices.proofs.Laws.Places.{option_counted}
 use Rattle.splices.proofs.Laws.OptionsUnion.{union_next, union_clash, union_append, union_longer, standing_split, own_options}
 use Rattle.splices.proofs.Laws.OptionsAdded.{next_option, rest_options}
-
--- One option.
-module _ {m x : Meets} {before : List ℕ} (place t : ℕ) (e : m ≡ x) where
-  pub put_new : {after : List ℕ} → m ≡ New → HalfPut before after t place → PutIfNew x before after place t (t + 1)
-  put_new f p = record { new = λ g. record { next = refl; put = p }; old = λ g. absurd (g (sym e ∙ f)) }
-
-  pub put_same : m ≡ Same → PutIfNew x before before place t t
-  put_same f =
-      record {
-        new = λ g. absurd (let z : New ≡ Same = sym g ∙ sym e ∙ f in let w : ◌≡◌ {A = ℕ} 0 1 = cc in omega arith);
-        old = λ g. record { next = refl; same = refl };
-      }
-
-  pub put_other : m ≡ Other → PutIfNew x before before place t t
-  put_other f =
-      record {
-        new = λ g. absurd (let z : New ≡ Other = sym g ∙ sym e ∙ f in let w : ◌≡◌ {A = ℕ} 0 1 = cc in omega arith);
-        old = λ g. record { next = refl; same = refl };
-      }
-
-pub ruleset puts_new = (put_new, put_same, put_other)
 
 options_last : (ws : List ℕ) (end d : ℕ) (bs : List ℕ) (m at : ℕ) → options_from ws end d bs at (m + 1)
     ≡ options_from ws end d bs at m ++ (option_of ws end d (half bs (at + m)) ∷ [])

@@ -1,7 +1,6 @@
 -- Places of elements and options, one more.
 use Prim.Native.Nat.{ℕ, zero, suc, ◌+◌, ◌-◌, ◌*◌, ◌<◌, ◌≤◌}
 use mathlib.Core.Path.{◌≡◌, refl, sym, ap₂, ◌∙◌}
-use mathlib.Core.Logic.{⊎_elim}
 use mathlib.Core.List.{List, [], ◌∷◌}
 use mathlib.Core.Bool.{true≢false}
 use native.Mathlib.Omega.{arith}
@@ -17,9 +16,8 @@ use Rattle.planned.specs.Layout.{half, place_of, element_of, elements_from}
 use Rattle.planned.specs.Halves.{HalfPut}
 use Rattle.planned.specs.List.{ElementIn}
 use Rattle.ends.specs.Ends.{skipping}
-use Rattle.planned.specs.Laws.Order.{order}
 use Rattle.planned.specs.Laws.Items.{unmarked, unmarked_place, standing_is}
-use Rattle.splices.specs.Places.{ElementsSpan, PlacesPut, OptionPlacesPut, OptionCount, PartsAt}
+use Rattle.splices.specs.Places.{ElementsSpan, PlacesPut, OptionCount, PartsAt}
 
 module _ (ws : List ℕ) (end d : ℕ) where
   place_means : (p : ℕ) → p < most_words → (e : Element (Block d)) (q : ℕ) → ElementSpans ws end d p e q → element_of ws end d p ≡ e
@@ -87,82 +85,54 @@ module _ (ws : List ℕ) (end d : ℕ) where
         into zero l = let e : t + 0 ≡ t = omega arith in rw (e, here) (place_in p low f)
         into (suc i) l = let e : t + suc i ≡ suc t + i = omega arith in rw e (g.elements i (omega arith))
 
-  -- The loop that writes places, with i of n left: what would follow it is known.
-  pub record Placing (n at : ℕ) (before : List ℕ) (to : ℕ) (cur : List ℕ) (i p t : ℕ) : Type 0 where
-    pub rest : (last : List ℕ) (r : ℕ) → PlacesPut ws end d i p cur last t r → PlacesPut ws end d n at before last to r
-    pub found : FoundElements ws end d i p
+  -- The loop that writes places, with i of n written: what would follow it is known.
+  pub record Placing (n at : ℕ) (before : List ℕ) (to : ℕ) (cur : List ℕ) (i p : ℕ) : Type 0 where
+    pub few : i ≤ n
+    pub rest : (last : List ℕ) (r : ℕ) → PlacesPut ws end d (n - i) p cur last (to + i) r → PlacesPut ws end d n at before last to r
+    pub found : FoundElements ws end d (n - i) p
     pub within : p ≤ end
-    pub room : t + i ≡ to + n
     pub long : length cur ≡ length before
 
 module _ {ws : List ℕ} {end : ℕ} where
-  pub placing_all : (d : ℕ) {n at : ℕ} (before : List ℕ) (to : ℕ) → FoundElements ws end d n at → at ≤ end
-      → Placing ws end d n at before to before n at to
-  placing_all d before to f h = record { rest = λ last r x. x; found = f; within = h; room = refl; long = refl }
+  pub placing_none : (d : ℕ) {n at : ℕ} (before : List ℕ) (to : ℕ) → FoundElements ws end d n at → at ≤ end
+      → Placing ws end d n at before to before 0 at
+  placing_none d {n} before to f h =
+      let a : n - 0 ≡ n = omega arith in
+      let b : to + 0 ≡ to = omega arith in
+      record { few = omega arith; rest = λ last r x. rw (a, b) at x; found = rw a f; within = h; long = refl }
 
-  module _ (d : ℕ) {n at : ℕ} {before : List ℕ} {to : ℕ} {cur : List ℕ} {i p t : ℕ} (g : Placing ws end d n at before to cur i p t) where
-    pub placing_done : i ≡ 0 → PlacesPut ws end d n at before cur to p
-    placing_done e = g.rest cur p (rw e (places_none ws end d g.within))
+  module _ (d : ℕ) {n at : ℕ} {before : List ℕ} {to : ℕ} {cur : List ℕ} {i p : ℕ} (g : Placing ws end d n at before to cur i p) where
+    pub placing_done : n ≤ i → PlacesPut ws end d n at before cur to p
+    placing_done h =
+        let a : n - i ≡ 0 = omega arith in
+        g.rest cur p (rw a (places_none ws end d g.within))
 
-    module _ (some : i ≡ 0 → ⊥) where
+    module _ (more : i < n) where
+      some : n - i ≡ 0 → ⊥
+      some e = omega arith
+
       pub placing_found : FoundElement ws end d p
       placing_found = first_found g.found some
 
       pub placing_room : p + 6 ≤ end
       placing_room = element_room d placing_found
 
-      pub placing_more : {mid : List ℕ} {next : ℕ} → end ≤ most_words → HalfPut cur mid t p → ElementWalked skipping ws end d p tt next tt
-          → Placing ws end d n at before to mid (i - 1) next (t + 1)
+      pub placing_more : {mid : List ℕ} {next : ℕ} → end ≤ most_words → HalfPut cur mid (to + i) p
+          → ElementWalked skipping ws end d p tt next tt → Placing ws end d n at before to mid (i + 1) next
       placing_more {mid} {next} low put w =
           let room = placing_room in
+          let a : n - i ≡ suc (n - (i + 1)) = omega arith in
+          let b : to + (i + 1) ≡ suc (to + i) = omega arith in
+          let c : n - i - 1 ≡ n - (i + 1) = omega arith in
           record {
-            rest = λ last r x. g.rest last r
-                (let a : suc (i - 1) ≡ i = omega arith in
-                let b : t + 1 ≡ suc t = omega arith in
-                rw a at (places_more ws end d (omega arith) placing_found put w (rw b at x)));
-            found = rest_found g.found some w.passed;
+            few = omega arith;
+            rest = λ last r x. g.rest last r (rw a (places_more ws end d (omega arith) placing_found put w (rw b at x)));
+            found = rw c at (rest_found g.found some w.passed);
             within = w.within;
-            room = omega arith;
             long = put.long ∙ g.long;
           }
 
-pub ruleset placing = (placing_all, placing_done, placing_found, placing_room, placing_more)
-
--- The loop that writes options' places, with i of n written.
-pub record OptionPlacing (n at : ℕ) (before cur : List ℕ) (to i : ℕ) : Type 0 where
-  pub few : i ≤ n
-  pub put : OptionPlacesPut i at before cur to
-
-pub option_placing_none : (n at : ℕ) (before : List ℕ) (to : ℕ) → OptionPlacing n at before before to 0
-option_placing_none n at before to =
-    record {
-      few = omega arith;
-      put = record { here = λ i h. absurd (omega arith); front = λ j h. refl; behind = λ j h. refl; long = refl };
-    }
-
-module _ {n at : ℕ} {before cur : List ℕ} {to i : ℕ} (g : OptionPlacing n at before cur to i) where
-  pub option_placing_more : {mid : List ℕ} → i < n → HalfPut cur mid (to + i) (at + 2 * i) → OptionPlacing n at before mid to (i + 1)
-  option_placing_more {mid} h p =
-      record {
-        few = omega arith;
-        put = record {
-          here = written;
-          front = λ j l. p.other j (λ e. omega arith) ∙ g.put.front j l;
-          behind = λ j l. p.other j (λ e. omega arith) ∙ g.put.behind j (omega arith);
-          long = p.long ∙ g.put.long;
-        };
-      }
-    where
-      written : (j : ℕ) → j < i + 1 → half mid (to + j) ≡ at + 2 * j
-      written j l =
-          ⊎_elim (λ m. p.other (to + j) (λ e. omega arith) ∙ g.put.here j m)
-          (λ m. let e : j ≡ i = omega arith in rw e p.here)
-          (order j i)
-
-  pub option_placing_done : n ≤ i → OptionPlacesPut n at before cur to
-  option_placing_done h = let e : i ≡ n = omega arith in rw e at g.put
-
-pub ruleset option_placing = (option_placing_none, option_placing_more, option_placing_done)
+pub ruleset placing = (placing_none, placing_done, placing_found, placing_room, placing_more)
 
 -- How many parts an alternative has.
 pub elements_low : (d : ℕ) {ws : List ℕ} {end : ℕ} (es : List (Element (Block d))) {at q : ℕ} → ElementsSpan ws end d at es q → at + 6 * length es ≤ end

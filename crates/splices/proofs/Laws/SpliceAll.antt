@@ -159,26 +159,30 @@ module _ {ws : List ℕ} {end d : ℕ} {h : Listed} {index : ℕ} {cur mid last 
   all_more : AllPut ws end d h index (suc n) at cur last a x y z w
   all_more = record { meant = means; stands = stands_all; outside = outside_all }
 
--- The loop, with k of n left: what would follow it is known.
+-- The loop, with k of n put: what would follow it is known.
 pub record Splicing (ws : List ℕ) (end d : ℕ) (h : Listed) (index z w n at₀ : ℕ) (before : List ℕ) (a₀ x₀ y₀ : ℕ) (cur : List ℕ) (k at a x y : ℕ) : Type 0
   where
-    pub rest : (last : List ℕ) → AllPut ws end d h index k at cur last a x y z w → AllPut ws end d h index n at₀ before last a₀ x₀ y₀ z w
-    pub fits : AllFit ws end d h index k at cur a x y z w
+    pub few : k ≤ n
+    pub rest : (last : List ℕ) → AllPut ws end d h index (n - k) at cur last a x y z w
+        → AllPut ws end d h index n at₀ before last a₀ x₀ y₀ z w
+    pub fits : AllFit ws end d h index (n - k) at cur a x y z w
     pub hand : HandIn ws end d h index cur
     pub long : length cur ≡ length before
 
-pub splicing_all : {ws : List ℕ} {end d : ℕ} {h : Listed} {index n at : ℕ} {bs : List ℕ} {a x y z w : ℕ} → HandIn ws end d h index bs
-    → AllFit ws end d h index n at bs a x y z w → Splicing ws end d h index z w n at bs a x y bs n at a x y
-splicing_all hand fit = record { rest = λ last g. g; fits = fit; hand = hand; long = refl }
+pub splicing_none : {ws : List ℕ} {end d : ℕ} {h : Listed} {index n at : ℕ} {bs : List ℕ} {a x y z w : ℕ} → HandIn ws end d h index bs
+    → AllFit ws end d h index n at bs a x y z w → Splicing ws end d h index z w n at bs a x y bs 0 at a x y
+splicing_none {n = n} hand fit =
+    let e : n - 0 ≡ n = omega arith in
+    record { few = omega arith; rest = λ last g. rw e at g; fits = rw e fit; hand = hand; long = refl }
 
 module _ {ws : List ℕ} {end d : ℕ} {h : Listed} {index z w n at₀ : ℕ} {before : List ℕ} {a₀ x₀ y₀ : ℕ} {cur : List ℕ} {k at a x y : ℕ}
     (s : Splicing ws end d h index z w n at₀ before a₀ x₀ y₀ cur k at a x y) where
-  pub splicing_done : k ≡ 0 → AllPut ws end d h index n at₀ before cur a₀ x₀ y₀ z w
-  splicing_done e = s.rest cur (rw e (all_none (rw e at s.fits)))
+  pub splicing_done : n ≤ k → AllPut ws end d h index n at₀ before cur a₀ x₀ y₀ z w
+  splicing_done m = let e : n - k ≡ 0 = omega arith in s.rest cur (rw e (all_none (rw e at s.fits)))
 
-  module _ (some : k ≡ 0 → ⊥) where
-    first_left : First ws end d h index at cur (k - 1) a x y z w
-    first_left = let e : k ≡ suc (k - 1) = omega arith in all_first (rw e at s.fits)
+  module _ (more : k < n) where
+    first_left : First ws end d h index at cur (n - (k + 1)) a x y z w
+    first_left = let e : n - k ≡ suc (n - (k + 1)) = omega arith in all_first (rw e at s.fits)
 
     pub splicing_found : FoundAlternative ws end d at
     splicing_found = let f = first_left in record { tree = f.one; next = f.next; spans = f.here }
@@ -187,16 +191,17 @@ module _ {ws : List ℕ} {end d : ℕ} {h : Listed} {index z w n at₀ : ℕ} {b
     splicing_fits = first_fits s.hand first_left
 
     pub splicing_more : {after : List ℕ} {r a' x' y' : ℕ} → a' ≡ a + 1 → OnePut ws end d h index at cur after a x y x' y' r
-        → Splicing ws end d h index z w n at₀ before a₀ x₀ y₀ after (k - 1) r a' x' y'
+        → Splicing ws end d h index z w n at₀ before a₀ x₀ y₀ after (k + 1) r a' x' y'
     splicing_more {after} {r} {a'} e one =
         let f = first_left in
         let u : a' ≡ suc a = omega arith in
-        let v : suc (k - 1) ≡ k = omega arith in
+        let v : n - k ≡ suc (n - (k + 1)) = omega arith in
         record {
-          rest = λ last g. s.rest last (rw v at (all_more s.hand f one (rw u at g)));
+          few = omega arith;
+          rest = λ last g. s.rest last (rw v (all_more s.hand f one (rw u at g)));
           fits = rw u (next_fits s.hand f one);
           hand = next_hand s.hand f one;
           long = one.outside.long ∙ s.long;
         }
 
-pub ruleset splicing = (splicing_all, splicing_done, splicing_found, splicing_fits, splicing_more)
+pub ruleset splicing = (splicing_none, splicing_done, splicing_found, splicing_fits, splicing_more)

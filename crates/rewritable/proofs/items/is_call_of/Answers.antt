@@ -1,20 +1,27 @@
-use Rattle.std.proofs.Common.{rules}
+use Rattle.std.proofs.Common.{rules, sym, ◌∙◌}
+use borrow.Author.Tests.{eqb-true}
 use Rattle.rewritable.proofs.items.is_call_of.Goals as goal
+use Rattle.rewritable.proofs.items.is_call_of.Goals.{then-head-eq-CALL, else-head-eq-CALL}
 use Rattle.grammar.specs.Laws.Found.{rooms}
-use Rattle.rewritable.proofs.Laws.Items.{calls}
+use Rattle.rewritable.proofs.Laws.Items.{not_call, other_call, call_named}
 
--- src/items.rt:35:9
 pub element_head-head-requires-clause-room : goal.element_head-head-requires-clause-room
-element_head-head-requires-clause-room c = search (rules, rooms, calls)
+element_head-head-requires-clause-room c = search (rules, rooms)
 
--- src/items.rt:37:9
-pub returns-then-head-ne-CALL : goal.returns-then-head-ne-CALL
-returns-then-head-ne-CALL c = search (rules, rooms, calls)
-
--- src/items.rt:40:9
 pub returns-then-is_one : goal.returns-then-is_one
-returns-then-is_one c = search (rules, rooms, calls)
+returns-then-is_one c =
+    let head = c.element_head-head.ensures in
+    elim c.if-head-eq-CALL.branch [
+      | then-head-eq-CALL w ↦
+          call_named _ _ _ head w.is_one.ensures (sym w.value-is ∙ c.if-is_one.true) w.if-head-eq-CALL.true c.word.ensures
+      | else-head-eq-CALL w ↦ absurd (w.if-head-eq-CALL.false (eqb-true _ _ (sym w.value-is ∙ c.if-is_one.true)))
+    ]
 
--- src/items.rt:30:1
-pub returns : goal.returns
-returns c = search (rules, rooms, calls)
+pub returns-else-is_one : goal.returns-else-is_one
+returns-else-is_one c =
+    let head = c.element_head-head.ensures in
+    rw c.if-is_one.false
+    (elim c.if-head-eq-CALL.branch [
+      | then-head-eq-CALL w ↦ other_call _ _ _ head w.is_one.ensures (sym w.value-is ∙ c.if-is_one.false)
+      | else-head-eq-CALL w ↦ not_call _ _ _ head w.if-head-eq-CALL.false
+    ])

@@ -1,10 +1,6 @@
-use Prim.Native.Nat.{◌-◌}
 use Rattle.grammar.specs.Words.{words}
 use Rattle.rewritable.proofs.Laws.Listed.{Testing}
 use Rattle.rewritable.proofs.items.may_be_rewritten.Given as goal
 
 abbrev pub invariant-loop-i : goal.invariant-loop-i
 invariant-loop-i l = Testing (words l.s) l.end l.depth l.name l.work l.x l.i l.silent
-
-abbrev pub decreases-loop-i : goal.decreases-loop-i
-decreases-loop-i l = l.x.ne - l.i

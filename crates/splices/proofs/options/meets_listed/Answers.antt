@@ -1,15 +1,11 @@
 use Rattle.std.proofs.Common.{rules}
+use Rattle.grammar.specs.Words.{words}
+use Rattle.planned.specs.Laws.Parts.{options_count}
 use Rattle.splices.proofs.options.meets_listed.Goals as goal
-use Rattle.splices.proofs.Laws.Options.{listing}
+use Rattle.splices.proofs.Laws.Options.{listed_at}
 
--- src/options.rt:61:13
-pub returns-then-word-name : goal.returns-then-word-name
-returns-then-word-name c = search (rules, listing)
-
--- src/options.rt:58:5
-pub loop-i-preserved : goal.loop-i-preserved
-loop-i-preserved c = search (rules, listing)
-
--- src/options.rt:43:1
 pub returns : goal.returns
-returns c = search (rules, listing)
+returns c =
+    let ws = words c.args.s.now in
+    c.meets_among.ensures _ (options_count ws c.args.end c.args.depth c.args.work.now c.args.from c.args.n)
+    (record { each = λ i p l h. listed_at ws c.args.end c.args.depth c.args.work.now c.args.from c.args.n (search rules) l })

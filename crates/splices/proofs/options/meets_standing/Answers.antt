@@ -1,15 +1,10 @@
 use Rattle.std.proofs.Common.{rules}
+use Rattle.grammar.specs.Words.{words}
 use Rattle.splices.proofs.options.meets_standing.Goals as goal
-use Rattle.splices.proofs.Laws.Options.{standing}
+use Rattle.splices.proofs.Laws.Options.{standing_at, standing_count}
 
--- src/options.rt:85:13
-pub returns-then-word-name : goal.returns-then-word-name
-returns-then-word-name c = search (rules, standing)
-
--- src/options.rt:82:5
-pub loop-i-preserved : goal.loop-i-preserved
-loop-i-preserved c = search (rules, standing)
-
--- src/options.rt:69:1
 pub returns : goal.returns
-returns c = search (rules, standing)
+returns c =
+    let ws = words c.args.s.now in
+    c.meets_among.ensures _ (standing_count ws c.args.end c.args.depth c.args.at c.args.n)
+    (record { each = λ i p l h. standing_at ws c.args.end c.args.depth c.args.at c.args.n (search rules) l })

@@ -7,9 +7,5 @@ pub returns-in-New : goal.returns-in-New
 returns-in-New c = search (rules, meeting)
 
 -- src/options.rt:93:1
-pub returns-in-Same : goal.returns-in-Same
-returns-in-Same c = search (rules, meeting)
-
--- src/options.rt:93:1
-pub returns-in-Other : goal.returns-in-Other
-returns-in-Other c = search (rules, meeting)
+pub returns-in_default : goal.returns-in_default
+returns-in_default c = search (rules, meeting)

@@ -1,10 +1,6 @@
-use Prim.Native.Nat.{◌-◌}
 use Rattle.grammar.specs.Words.{words}
 use Rattle.splices.proofs.Laws.OptionsPut.{Putting}
 use Rattle.splices.proofs.options.put_new_options.Given as goal
 
 abbrev pub invariant-loop-j : goal.invariant-loop-j
 invariant-loop-j l = Putting (words l.s) l.end l.depth l.at l.initial.work l.h l.to l.n l.work l.j l.t
-
-abbrev pub decreases-loop-j : goal.decreases-loop-j
-decreases-loop-j l = l.n - l.j

@@ -3,7 +3,4 @@ use Rattle.splices.proofs.Laws.Places.{Placing}
 use Rattle.splices.proofs.places.put_places.Given as goal
 
 abbrev pub invariant-loop-i : goal.invariant-loop-i
-invariant-loop-i l = Placing (words l.s) l.end l.depth l.n l.at l.initial.work l.to l.work l.i l.p l.t
-
-abbrev pub decreases-loop-i : goal.decreases-loop-i
-decreases-loop-i l = l.i
+invariant-loop-i l = Placing (words l.s) l.end l.depth l.n l.at l.initial.work l.to l.work l.i l.p
