@@ -10,7 +10,8 @@ ghost use Rattle.planned.specs.Layout.{meaning};
 ghost use Rattle.planned.specs.List.{Located, ListedIn};
 ghost use Rattle.collisions.specs.Names.{Ordered, Kept, kept_refl, kept_trans};
 ghost use Rattle.collisions.specs.Names as names;
-ghost use Rattle.collisions.specs.Walks.{noting_past_block, noting_past_alternative, LeafSeen, FoundReference, FoundReferences, ItemsWalked};
+ghost use Rattle.collisions.specs.Walks.{noting_past_block, noting_past_alternative};
+ghost use Rattle.collisions.specs.Walks.{LeafSeen, FoundReference, FoundReferences, ItemsWalked};
 ghost use Rattle.collisions.specs.Mark.{Marks, marks_of, mark_leaf, marking, LabelMarked, ReferenceMarked, ReferencesMarked, MarkedAround};
 
 use crate::names::{Names, clear_both, put};
@@ -163,12 +164,10 @@ fn mark_items(marker: &mut Marker<'_>, s: &[u8], end: usize, x: Listed, from: us
         (marks_of (words s.now) marker.old.work.now marker.old.dangling)
         (marks_of (words s.now) marker.new.work.now marker.new.dangling) }
 {
-    let mut i: usize = from;
-    while i < to {
+    for i in from..to {
         let work = &mut *marker.work;
         let e = item(work, x, i);
         walk_element(marker, s, end, Block::DEPTH, e.at);
-        i += 1;
     }
 }
 

@@ -80,11 +80,9 @@ pub fn is_quiet(s: &[u8], end: usize, work: &[u8], x: Listed) -> bool
     ensures { result ≡ is_quiet inner_depth (meaning (words s.now) end inner_depth work.now x).elements }
 {
     let mut listener = Listener { noisy: false };
-    let mut i: usize = 0;
-    while i < x.ne {
+    for i in 0..x.ne {
         let e = item(work, x, i);
         walk_element(&mut listener, s, end, Block::DEPTH, e.at);
-        i += 1;
     }
     !listener.noisy
 }

@@ -4,7 +4,7 @@ ghost use Rattle.grammar.specs.Words.{words};
 ghost use Rattle.grammar.specs.Found.{FoundElement};
 ghost use Rattle.grammar.specs.Fold.{ElementWalked};
 ghost use Rattle.words.specs.Room.{Room};
-ghost use Rattle.sizes.specs.Tally.{one_if, ids_in, counting, OwnCounted, AlternativeCounted};
+ghost use Rattle.sizes.specs.Tally.{ids_in, counting, OwnCounted, AlternativeCounted};
 ghost use Rattle.sizes.specs.declared.tally.Tally.{Tally};
 ghost use Rattle.std.proofs.Common.{rules};
 
@@ -14,7 +14,7 @@ use words::walk::Head;
 use words::words::word;
 
 // How many ids of each sort.
-#[derive(Clone, Copy)]
+#[derive(Clone, Copy, Debug, PartialEq, Eq)]
 pub struct Tally {
     pub alternatives: usize,
     pub elements: usize,
@@ -24,16 +24,10 @@ pub struct Tally {
 }
 
 // Past what was walked, and what was counted.
-#[derive(Clone, Copy)]
+#[derive(Clone, Copy, Debug, PartialEq, Eq)]
 pub struct Passed {
     pub at: usize,
     pub tally: Tally,
-}
-
-fn one_if(b: bool) -> usize
-    ensures { (result ≡ one_if b) × (result ≤ 1) }
-{
-    if b { 1 } else { 0 }
 }
 
 // The ids of an element itself.
@@ -41,9 +35,9 @@ fn with_own(s: &[u8], at: usize, kind: u32, t: Tally) -> Tally
     requires { (4 * (at + 6) ≤ length s.now) × (ids_in t < 2 ^ 32) }
     ensures { OwnCounted (words s.now) at kind t result }
 {
-    let label = one_if(word(s, at + 4) != 0);
-    let action = one_if(kind == Kind::ACTION);
-    let predicate = one_if(kind == Kind::PREDICATE);
+    let label = usize::from(word(s, at + 4) != 0);
+    let action = usize::from(kind == Kind::ACTION);
+    let predicate = usize::from(kind == Kind::PREDICATE);
     Tally {
         alternatives: t.alternatives,
         elements: t.elements + 1,

@@ -1,4 +1,3 @@
-use Prim.Native.Nat.{◌-◌}
 use Rattle.std.specs.Prelude.{◌≡◌}
 use Rattle.grammar.specs.Tree.{inner_depth}
 use Rattle.grammar.specs.Words.{words}
@@ -14,6 +13,3 @@ invariant-loop-i l =
     (v.work.ghost_name ≡ l.marker.work.ghost_name) × (v.name ≡ l.marker.name) × Kept (words l.s) l.end v.work.now l.marker.work.now
     × Itemizing (marking v.name) inner_depth (meaning (words l.s) l.end inner_depth v.work.now l.x).elements l.from l.to
     (marks_of (words l.s) v.work.now v.dangling) l.i (marks_of (words l.s) l.marker.work.now l.marker.dangling)
-
-abbrev pub decreases-loop-i : goal.decreases-loop-i
-decreases-loop-i l = l.to - l.i

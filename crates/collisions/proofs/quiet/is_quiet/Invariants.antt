@@ -1,5 +1,4 @@
 use mathlib.Core.Bool.{false}
-use Prim.Native.Nat.{◌-◌}
 use Rattle.grammar.specs.Tree.{inner_depth}
 use Rattle.grammar.specs.Words.{words}
 use Rattle.planned.specs.Layout.{meaning}
@@ -9,6 +8,3 @@ use Rattle.collisions.proofs.quiet.is_quiet.Given as goal
 
 abbrev pub invariant-loop-i : goal.invariant-loop-i
 invariant-loop-i l = Itemizing listening inner_depth (meaning (words l.s) l.end inner_depth l.work l.x).elements 0 l.x.ne false l.i l.listener.noisy
-
-abbrev pub decreases-loop-i : goal.decreases-loop-i
-decreases-loop-i l = l.x.ne - l.i
