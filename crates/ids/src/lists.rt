@@ -12,22 +12,12 @@ pub fn is_rising(s: &[u8], at: usize, n: usize) -> bool
     requires { 4 * (at + n) ≤ length s.now }
     ensures { result ≡ rising (take n (drop at (words s.now))) }
 {
-    let mut i: usize = 0;
-    while i + 1 < n {
-        if word(s, at + i) >= word(s, at + i + 1) {
+    for i in 1..n {
+        if word(s, at + i - 1) >= word(s, at + i) {
             return false;
         }
-        i += 1;
     }
     true
-}
-
-// The larger of two numbers.
-fn larger(a: u64, b: u64) -> u64
-    requires { (a ≤ 2 ^ 32) × (b ≤ 2 ^ 32) }
-    ensures { (a ≤ result) × (b ≤ result) × (result ≤ 2 ^ 32) }
-{
-    if a < b { b } else { a }
 }
 
 // Past the largest of the first n words.
@@ -36,10 +26,8 @@ fn past_all(s: &[u8], n: usize) -> u64
     ensures { (result ≤ 2 ^ 32) × InRange (words s.now) 0 n 0 result }
 {
     let mut past: u64 = 0;
-    let mut i: usize = 0;
-    while i < n {
-        past = larger(past, word(s, i) as u64 + 1);
-        i += 1;
+    for i in 0..n {
+        past = past.max(word(s, i) as u64 + 1);
     }
     past
 }
@@ -64,9 +52,7 @@ pub fn put_row(row: &[u32], n: usize, s: &mut [u8])
     requires { (n ≤ length row.now) × (4 * n ≤ length s.old) }
     ensures { take n (words s.new) ≡ take n row.now }
 {
-    let mut i: usize = 0;
-    while i < n {
+    for i in 0..n {
         put_word(s, i, row[i]);
-        i += 1;
     }
 }

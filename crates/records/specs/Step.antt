@@ -1,14 +1,21 @@
 -- What a validating function answers of what the definition finds: where the record stops, or that it is bad.
-use Rattle.std.specs.Prelude.{ℕ, ◌+◌, ◌/◌, List, Bool, ◌&&◌, get_or, leb}
+use Rattle.std.specs.Prelude.{ℕ, zero, suc, ◌+◌, ◌-◌, ◌/◌, List, Bool, ◌&&◌, get_or, leb, Option, Some, None, option_and_then}
 use Rattle.grammar.specs.Numbers.{kind_end, one_or_more_nongreedy}
-use Rattle.grammar.specs.Read.{is_label}
-use Rattle.grammar.specs.Parse.{Got, got, bad}
-use Rattle.records.specs.declared.records.Step.{Step}
-use Rattle.records.specs.declared.records.Step.TheVariants.{Next, Bad}
+use Rattle.grammar.specs.Read.{is_name, is_label}
+use Rattle.grammar.specs.Parse.{Got, got, bad, given}
 
-abbrev pub step_of : {A : Type 0} → Got A → Step
-step_of (got a p) = Next p
-step_of bad = Bad
+abbrev pub step_of : {A : Type 0} → Got A → Option ℕ
+step_of (got a p) = Some p
+step_of bad = None
+
+-- A name in the first of n words.
+abbrev pub named : List ℕ → (end n at : ℕ) → Got (Unit {0})
+named ws end n at = given (leb n (end - at) && is_name (get_or ws at 0)) λ _. got tt (at + n)
+
+-- n steps, each from where the last one ended.
+unfoldable pub repeated : (ℕ → Option ℕ) → ℕ → ℕ → Option ℕ
+repeated step zero at = Some at
+repeated step (suc n) at = option_and_then (repeated step n) (step at)
 
 -- Quantifier and label in the fixed words of an element, where these have room.
 abbrev pub is_fixed : List ℕ → ℕ → Bool

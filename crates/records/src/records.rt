@@ -1,27 +1,20 @@
 // Whether a record stands between a place and the end of the rules, and where it stops.
-ghost use Rattle.std.specs.Prelude.{◌≡◌, ◌+◌, ◌-◌, ◌*◌, ◌≤◌, length};
+ghost use Rattle.std.specs.Prelude.{◌≡◌, ℕ, ◌+◌, ◌-◌, ◌*◌, ◌<◌, ◌≤◌, ◌^◌, length, Option};
 ghost use Rattle.grammar.specs.Tree.{ElementHead};
 ghost use Rattle.grammar.specs.Words.{words};
 ghost use Rattle.grammar.specs.Read.{is_name, is_label, action_of, option_at, reference_at, body_at, call_at, token_at, leaf_at};
 ghost use Rattle.grammar.specs.Read.{head_at, payload_at, element_at, alternative_at, block_at};
 ghost use Rattle.grammar.specs.Parse.{many};
-ghost use Rattle.records.specs.Step.{is_fixed, step_of};
+ghost use Rattle.records.specs.Step.{is_fixed, named, repeated, step_of};
 
 use words::numbers::{AlternativeFlag, Kind, Name, Quantifier, ReferenceKind};
 use words::words::word;
-
-// Past the record, or refusal 4.
-#[derive(Clone, Copy)]
-pub enum Step {
-    Next(usize),
-    Bad,
-}
 
 // The words from `at` to the end, none where `at` is past it.
 pub fn left(at: usize, end: usize) -> usize
     ensures { result ≡ end - at }
 {
-    if at < end { end - at } else { 0 }
+    end.saturating_sub(at)
 }
 
 pub fn is_name(w: u32) -> bool
@@ -36,134 +29,106 @@ fn is_label(id: u32, name: u32) -> bool
     is_name(name) || (name == 0 && id == 0)
 }
 
-fn option_at(s: &[u8], end: usize, at: usize) -> Step
+// A name in the first of n words.
+fn named_at(s: &[u8], end: usize, n: usize, at: usize) -> Option<usize>
+    requires { (4 * end ≤ length s.now) × (1 ≤ n) }
+    ensures { result ≡ step_of (named (words s.now) end n at) }
+{
+    if left(at, end) < n {
+        return None;
+    }
+    if is_name(word(s, at)) {
+        return Some(at + n);
+    }
+    None
+}
+
+// n records, one after the other.
+fn many<F: Fn(usize) -> Option<usize>>(one: F, n: u32, at: usize) -> Option<usize>
+    requires { F.IsAlwaysCallable one }
+    ensures { (step : ℕ → Option ℕ) → ((x : ℕ) (r : Option ℕ) → x < 2 ^ 64 → F.post one x r → r ≡ step x)
+        → result ≡ repeated step n at }
+{
+    let mut p = at;
+    for _ in 0..n {
+        p = one(p)?;
+    }
+    Some(p)
+}
+
+fn option_at(s: &[u8], end: usize, at: usize) -> Option<usize>
     requires { 4 * end ≤ length s.now }
     ensures { result ≡ step_of (option_at (words s.now) end at) }
 {
-    if left(at, end) < 2 {
-        return Step::Bad;
-    }
-    if is_name(word(s, at)) {
-        return Step::Next(at + 2);
-    }
-    Step::Bad
+    named_at(s, end, 2, at)
 }
 
-fn options_at(s: &[u8], end: usize, n: u32, at: usize) -> Step
+fn options_at(s: &[u8], end: usize, n: u32, at: usize) -> Option<usize>
     requires { 4 * end ≤ length s.now }
     ensures { result ≡ step_of (many (option_at (words s.now) end) n at) }
 {
-    let mut i: u32 = n;
-    let mut p: usize = at;
-    while i != 0 {
-        match option_at(s, end, p) {
-            Step::Bad => return Step::Bad,
-            Step::Next(q) => {
-                p = q;
-                i -= 1;
-            }
-        }
-    }
-    Step::Next(p)
+    many(|p| option_at(s, end, p), n, at)
 }
 
-fn reference_at(s: &[u8], end: usize, at: usize) -> Step
+fn reference_at(s: &[u8], end: usize, at: usize) -> Option<usize>
     requires { 4 * end ≤ length s.now }
     ensures { result ≡ step_of (reference_at (words s.now) end at) }
 {
     if left(at, end) < 2 {
-        return Step::Bad;
+        return None;
     }
     if ReferenceKind::NON_LOCAL < word(s, at) {
-        return Step::Bad;
+        return None;
     }
     if is_name(word(s, at + 1)) {
-        return Step::Next(at + 2);
+        return Some(at + 2);
     }
-    Step::Bad
+    None
 }
 
-fn references_at(s: &[u8], end: usize, n: u32, at: usize) -> Step
+fn references_at(s: &[u8], end: usize, n: u32, at: usize) -> Option<usize>
     requires { 4 * end ≤ length s.now }
     ensures { result ≡ step_of (many (reference_at (words s.now) end) n at) }
 {
-    let mut i: u32 = n;
-    let mut p: usize = at;
-    while i != 0 {
-        match reference_at(s, end, p) {
-            Step::Bad => return Step::Bad,
-            Step::Next(q) => {
-                p = q;
-                i -= 1;
-            }
-        }
-    }
-    Step::Next(p)
+    many(|p| reference_at(s, end, p), n, at)
 }
 
 // The payload of an action; a predicate's is the same.
-fn body_at(s: &[u8], end: usize, at: usize) -> Step
+fn body_at(s: &[u8], end: usize, at: usize) -> Option<usize>
     requires { 4 * end ≤ length s.now }
     ensures { result ≡ step_of (body_at (words s.now) end action_of at) }
 {
     if left(at, end) < 2 {
-        return Step::Bad;
+        return None;
     }
     references_at(s, end, word(s, at + 1), at + 2)
 }
 
-fn call_at(s: &[u8], end: usize, at: usize) -> Step
+fn call_at(s: &[u8], end: usize, at: usize) -> Option<usize>
     requires { 4 * end ≤ length s.now }
     ensures { result ≡ step_of (call_at (words s.now) end at) }
 {
-    if left(at, end) < 2 {
-        return Step::Bad;
-    }
-    if is_name(word(s, at)) {
-        return Step::Next(at + 2);
-    }
-    Step::Bad
+    named_at(s, end, 2, at)
 }
 
-fn token_at(s: &[u8], end: usize, at: usize) -> Step
+fn token_at(s: &[u8], end: usize, at: usize) -> Option<usize>
     requires { 4 * end ≤ length s.now }
     ensures { result ≡ step_of (token_at (words s.now) end at) }
 {
-    if left(at, end) < 1 {
-        return Step::Bad;
-    }
-    if is_name(word(s, at)) {
-        return Step::Next(at + 1);
-    }
-    Step::Bad
+    named_at(s, end, 1, at)
 }
 
-fn leaf_at(s: &[u8], end: usize, kind: u32, at: usize) -> Step
+fn leaf_at(s: &[u8], end: usize, kind: u32, at: usize) -> Option<usize>
     requires { 4 * end ≤ length s.now }
     ensures { result ≡ step_of (leaf_at (words s.now) end kind at) }
 {
-    if kind == Kind::EPSILON {
-        return Step::Next(at);
+    match kind {
+        Kind::EPSILON | Kind::TERMINAL | Kind::END_OF_INPUT => Some(at),
+        Kind::CALL => call_at(s, end, at),
+        Kind::TOKEN => token_at(s, end, at),
+        Kind::ACTION | Kind::PREDICATE => body_at(s, end, at),
+        _ => None,
     }
-    if kind == Kind::TERMINAL {
-        return Step::Next(at);
-    }
-    if kind == Kind::END_OF_INPUT {
-        return Step::Next(at);
-    }
-    if kind == Kind::CALL {
-        return call_at(s, end, at);
-    }
-    if kind == Kind::TOKEN {
-        return token_at(s, end, at);
-    }
-    if kind == Kind::ACTION {
-        return body_at(s, end, at);
-    }
-    if kind == Kind::PREDICATE {
-        return body_at(s, end, at);
-    }
-    Step::Bad
 }
 
 // Quantifier and label in the fixed words of an element.
@@ -178,18 +143,18 @@ fn is_head(s: &[u8], at: usize) -> bool
 }
 
 // An element's fixed words and options, where the fixed words have room.
-fn head_at(s: &[u8], end: usize, at: usize) -> Step
+fn head_at(s: &[u8], end: usize, at: usize) -> Option<usize>
     requires { (4 * end ≤ length s.now) × (6 ≤ end - at) }
     ensures { result ≡ step_of (head_at (words s.now) end at) }
 {
     if is_head(s, at) {
         return options_at(s, end, word(s, at + 5), at + 6);
     }
-    Step::Bad
+    None
 }
 
 #[cycle(tree)]
-fn payload_at(s: &[u8], end: usize, depth: u32, kind: u32, at: usize) -> Step
+fn payload_at(s: &[u8], end: usize, depth: u32, kind: u32, at: usize) -> Option<usize>
     requires { 4 * end ≤ length s.now }
     ensures { (h : ElementHead)
         → result ≡ step_of (payload_at (words s.now) end (block_at (words s.now) end depth) h kind at) }
@@ -201,87 +166,71 @@ fn payload_at(s: &[u8], end: usize, depth: u32, kind: u32, at: usize) -> Step
 }
 
 #[cycle(tree)]
-fn element_at(s: &[u8], end: usize, depth: u32, at: usize) -> Step
+fn element_at(s: &[u8], end: usize, depth: u32, at: usize) -> Option<usize>
     requires { 4 * end ≤ length s.now }
     ensures { result ≡ step_of (element_at (words s.now) end (block_at (words s.now) end depth) at) }
 {
     if left(at, end) < 6 {
-        return Step::Bad;
+        return None;
     }
     let kind = word(s, at + 2) % Kind::END;
-    match head_at(s, end, at) {
-        Step::Next(p) => payload_at(s, end, depth, kind, p),
-        Step::Bad => Step::Bad,
-    }
+    let p = head_at(s, end, at)?;
+    payload_at(s, end, depth, kind, p)
 }
 
+// Stays: a loop of its own, as that of alternatives is: a closure for `many` would state the contract of what it calls once more,
+// and put two more frames on the stack at each depth.
 #[cycle(tree)]
-fn elements_at(s: &[u8], end: usize, depth: u32, n: u32, at: usize) -> Step
+fn elements_at(s: &[u8], end: usize, depth: u32, n: u32, at: usize) -> Option<usize>
     requires { 4 * end ≤ length s.now }
     ensures { result ≡ step_of (many (element_at (words s.now) end (block_at (words s.now) end depth)) n at) }
 {
-    let mut i: u32 = n;
-    let mut p: usize = at;
-    while i != 0 {
-        match element_at(s, end, depth, p) {
-            Step::Bad => return Step::Bad,
-            Step::Next(q) => {
-                p = q;
-                i -= 1;
-            }
-        }
+    let mut p = at;
+    for _ in 0..n {
+        p = element_at(s, end, depth, p)?;
     }
-    Step::Next(p)
+    Some(p)
 }
 
 #[cycle(tree)]
-fn alternative_at(s: &[u8], end: usize, depth: u32, at: usize) -> Step
+fn alternative_at(s: &[u8], end: usize, depth: u32, at: usize) -> Option<usize>
     requires { 4 * end ≤ length s.now }
     ensures { result ≡ step_of (alternative_at (words s.now) end (block_at (words s.now) end depth) at) }
 {
     if left(at, end) < 5 {
-        return Step::Bad;
+        return None;
     }
     if AlternativeFlag::MOST < word(s, at + 2) {
-        return Step::Bad;
+        return None;
     }
     let n = word(s, at + 4);
-    match options_at(s, end, word(s, at + 3), at + 5) {
-        Step::Next(p) => elements_at(s, end, depth, n, p),
-        Step::Bad => Step::Bad,
-    }
+    let p = options_at(s, end, word(s, at + 3), at + 5)?;
+    elements_at(s, end, depth, n, p)
 }
 
 #[cycle(tree)]
-fn alternatives_at(s: &[u8], end: usize, depth: u32, n: u32, at: usize) -> Step
+fn alternatives_at(s: &[u8], end: usize, depth: u32, n: u32, at: usize) -> Option<usize>
     requires { 4 * end ≤ length s.now }
     ensures { result ≡ step_of (many (alternative_at (words s.now) end (block_at (words s.now) end depth)) n at) }
 {
-    let mut i: u32 = n;
-    let mut p: usize = at;
-    while i != 0 {
-        match alternative_at(s, end, depth, p) {
-            Step::Bad => return Step::Bad,
-            Step::Next(q) => {
-                p = q;
-                i -= 1;
-            }
-        }
+    let mut p = at;
+    for _ in 0..n {
+        p = alternative_at(s, end, depth, p)?;
     }
-    Step::Next(p)
+    Some(p)
 }
 
 // The count and the alternatives of a block that may nest blocks less than `depth` deep.
 #[cycle(tree)]
-pub fn block_at(s: &[u8], end: usize, depth: u32, at: usize) -> Step
+pub fn block_at(s: &[u8], end: usize, depth: u32, at: usize) -> Option<usize>
     requires { 4 * end ≤ length s.now }
     ensures { result ≡ step_of (block_at (words s.now) end depth at) }
 {
     if depth == 0 {
-        return Step::Bad;
+        return None;
     }
     if left(at, end) < 1 {
-        return Step::Bad;
+        return None;
     }
     alternatives_at(s, end, depth - 1, word(s, at), at + 1)
 }

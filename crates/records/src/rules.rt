@@ -7,7 +7,7 @@ ghost use Rattle.grammar.specs.Read.{block_at, rule_at};
 ghost use Rattle.records.specs.Step.{step_of};
 ghost use Rattle.records.specs.Rules.{IsEmpty, IsWith, RulesRead};
 
-use crate::records::{Step, block_at, is_name, left};
+use crate::records::{block_at, is_name, left};
 use words::numbers::{Block, RuleFlags};
 use words::words::word;
 
@@ -43,26 +43,26 @@ impl Rules {
         self.ids[n] = id;
         self.names[n] = name;
         self.places[n] = place;
-        self.n = self.n + 1;
+        self.n += 1;
         self
     }
 }
 
 // One rule between a place and the end of the rules.
-fn rule_at(s: &[u8], end: usize, at: usize) -> Step
+fn rule_at(s: &[u8], end: usize, at: usize) -> Option<usize>
     requires { 4 * end ≤ length s.now }
     ensures { result ≡ step_of (rule_at (words s.now) end (block_at (words s.now) end body_depth) at) }
 {
     if left(at, end) < 3 {
-        return Step::Bad;
+        return None;
     }
     if RuleFlags::MOST < word(s, at + 2) {
-        return Step::Bad;
+        return None;
     }
     if is_name(word(s, at + 1)) {
         return block_at(s, end, Block::BODY_DEPTH, at + 3);
     }
-    Step::Bad
+    None
 }
 
 // Every rule from the first word up to the end exactly, where every record is good.
@@ -80,14 +80,10 @@ pub fn read_rules(s: &[u8], end: usize) -> Option<Rules>
         if left(at, end) < 3 {
             return None;
         }
-        match rule_at(s, end, at) {
-            Step::Bad => return None,
-            Step::Next(p) => {
-                let more = rules.with(word(s, at), word(s, at + 1), at as u32);
-                rules = more;
-                at = p;
-            }
-        }
+        let p = rule_at(s, end, at)?;
+        let more = rules.with(word(s, at), word(s, at + 1), at as u32);
+        rules = more;
+        at = p;
     }
     Some(rules)
 }

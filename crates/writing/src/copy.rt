@@ -18,10 +18,8 @@ pub fn copy_words(s: &[u8], from: usize, out: &mut [u8], to: usize, n: usize)
     requires { (4 * (from + n) ≤ length s.now) × (4 * (to + n) ≤ length out.old) }
     ensures { Wrote out.old out.new to (take n (drop from (words s.now))) }
 {
-    let mut i: usize = 0;
-    while i < n {
+    for i in 0..n {
         let w = word(s, from + i);
         put_word(out, to + i, w);
-        i += 1;
     }
 }

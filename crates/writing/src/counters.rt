@@ -2,14 +2,6 @@
 ghost use Rattle.std.specs.Prelude.{◌≡◌};
 ghost use Rattle.writing.specs.Taken.{following, TookAlternative, TookElement, TookLabel, TookAction, TookPredicate};
 
-// The largest number that a word holds.
-#[derive(Drop)]
-pub struct Last;
-
-impl Last {
-    pub const NUMBER: u32 = u32::MAX;
-}
-
 #[derive(Clone, Copy, Debug, PartialEq, Eq)]
 pub struct Counters {
     pub alternative: u32,
@@ -34,6 +26,8 @@ fn next(id: u32) -> u32
     id.saturating_add(1)
 }
 
+// Stays: a method for each sort. One for all would be handed the sort's number and choose the field by it twice, to read it and
+// to move it on, and say no less.
 impl Counters {
     pub fn take_alternative(mut self) -> Taken
         ensures { TookAlternative self result.id result.counters }

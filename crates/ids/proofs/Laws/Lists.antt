@@ -36,32 +36,37 @@ few_rise [] h = refl
 few_rise (x ∷ []) h = refl
 few_rise (x ∷ y ∷ xs) h = absurd (omega arith)
 
+-- what is left behind the words in front of the one at i, the last of them with it
 abbrev pub RisingFrom : List ℕ → ℕ → ℕ → ℕ → Type 0
-RisingFrom bs at n i = rising (take n (drop at (words bs))) ≡ rising (take (n - i) (drop (at + i) (words bs)))
+RisingFrom bs at n i = rising (take n (drop at (words bs))) ≡ rising (take (n + 1 - i) (drop (at + i - 1) (words bs)))
 
-pub rising_start : (bs : List ℕ) (at n : ℕ) → RisingFrom bs at n 0
+pub rising_start : (bs : List ℕ) (at n : ℕ) → RisingFrom bs at n 1
 rising_start bs at n =
-    let a : n - 0 ≡ n = omega arith in
-    let b : at + 0 ≡ at = omega arith in
+    let a : n + 1 - 1 ≡ n = omega arith in
+    let b : at + 1 - 1 ≡ at = omega arith in
     rw (a, b)
 
 module _ (bs : List ℕ) (at n i : ℕ) (room : 4 * (at + n) ≤ length bs) (so : RisingFrom bs at n i) where
-  pub rising_done : n ≤ i + 1 → true ≡ rising (take n (drop at (words bs)))
-  rising_done h = sym (so ∙ few_rise _ (let l = length-take (n - i) (drop (at + i) (words bs)) in omega arith))
+  pub rising_done : n ≤ i → true ≡ rising (take n (drop at (words bs)))
+  rising_done h = sym (so ∙ few_rise _ (let l = length-take (n + 1 - i) (drop (at + i - 1) (words bs)) in omega arith))
 
-  module _ (h : i + 1 < n) {x y : ℕ} (e : x ≡ get_or (words bs) (at + i) 0) (f : y ≡ get_or (words bs) (at + i + 1) 0) where
-    opened : rising (take n (drop at (words bs))) ≡ (ltb x y && rising (take (n - i - 1) (drop (at + i + 1) (words bs))))
+  module _ (g : 1 ≤ i) (h : i < n) {x y : ℕ} (e : x ≡ get_or (words bs) (at + i - 1) 0) (f : y ≡ get_or (words bs) (at + i) 0) where
+    opened : rising (take n (drop at (words bs))) ≡ (ltb x y && rising (take (n - i) (drop (at + i) (words bs))))
     opened =
-        so ∙ rising_open (words bs) (at + i) (n - i) (omega arith) (rw length_words (omega arith)) ∙ rw (← e, ← f)
+        let a : at + i - 1 + 1 ≡ at + i = omega arith in
+        let b : n + 1 - i - 1 ≡ n - i = omega arith in
+        so
+        ∙ rising_open (words bs) (at + i - 1) (n + 1 - i) (omega arith) (rw length_words (omega arith))
+        ∙ rw (a, b, ← e, ← f)
 
     pub rising_stop : y ≤ x → false ≡ rising (take n (drop at (words bs)))
-    rising_stop g = sym (opened ∙ rw (le-ltb x y g))
+    rising_stop k = sym (opened ∙ rw (le-ltb x y k))
 
     pub rising_more : x < y → RisingFrom bs at n (i + 1)
-    rising_more g =
-        let a : n - (i + 1) ≡ n - i - 1 = omega arith in
-        let b : at + (i + 1) ≡ at + i + 1 = omega arith in
-        rw (a, b) (opened ∙ rw (lt-ltb x y g))
+    rising_more k =
+        let a : n + 1 - (i + 1) ≡ n - i = omega arith in
+        let b : at + (i + 1) - 1 ≡ at + i = omega arith in
+        rw (a, b) (opened ∙ rw (lt-ltb x y k))
 
 pub ruleset risings = (rising_start, rising_done, rising_stop, rising_more)
 

@@ -16,10 +16,8 @@ use Rattle.grammar.specs.Ids.{rule_ids, rule_names}
 use Rattle.grammar.specs.Laws.Stands.{stands_length, stands_head}
 use Rattle.grammar.specs.Laws.Parse.{yields_got}
 use Rattle.grammar.specs.Laws.Sound.{rule_sound, block_sound}
-use Rattle.records.specs.declared.records.Step.{Step}
-use Rattle.records.specs.declared.records.Step.TheVariants.{Next, Bad}
+use Rattle.std.specs.Prelude.{Option, Some, None}
 use Rattle.records.specs.declared.rules.Rules.{Rules}
-use Rattle.std.specs.Prelude.{Some, None}
 use Rattle.records.specs.Step.{step_of}
 use Rattle.records.specs.Rules.{row, places_from, RowsOf, IsEmpty, IsWith, RulesRead, is_got}
 use Rattle.records.proofs.Laws.Trees.{rule_short}
@@ -110,11 +108,11 @@ none_so_far ws end e =
       rest = rw e.count (then_self (rules_at ws end rule_limit 0));
     }
 
-bad_got : {A : Type 0} (g : Got A) → step_of g ≡ Bad → g ≡ bad
+bad_got : {A : Type 0} (g : Got A) → step_of g ≡ None → g ≡ bad
 bad_got (got a q) e = absurd (let z : ◌≡◌ {A = ℕ} 0 1 = cc in omega arith)
 bad_got bad e = refl
 
-next_got : {A : Type 0} (g : Got A) (p : ℕ) → step_of g ≡ Next p → (a : A) × (g ≡ got a p)
+next_got : {A : Type 0} (g : Got A) (p : ℕ) → step_of g ≡ Some p → (a : A) × (g ≡ got a p)
 next_got (got a q) p e = let z : q ≡ p = cc in (a, ap (got a) z)
 next_got bad p e = absurd (let z : ◌≡◌ {A = ℕ} 0 1 = cc in omega arith)
 
@@ -147,7 +145,7 @@ module _ {ws : List ℕ} {end at : ℕ} {rules : Rules} (f : SoFar ws end at rul
       left_over : rule_limit - rules.n ≡ suc (rule_limit - (rules.n + 1))
       left_over = let z = f.few in omega arith
 
-      pub rule_bad : {s : Step} → s ≡ step_of (rule_at ws end (block_at ws end body_depth) at) → s ≡ Bad
+      pub rule_bad : {s : Option ℕ} → s ≡ step_of (rule_at ws end (block_at ws end body_depth) at) → s ≡ None
           → rules_at ws end rule_limit 0 ≡ bad
       rule_bad e t =
           let m = rule_limit - (rules.n + 1) in
@@ -160,7 +158,7 @@ module _ {ws : List ℕ} {end at : ℕ} {rules : Rules} (f : SoFar ws end at rul
       pub short_bad : {l : ℕ} → l ≡ end - at → l < 3 → rules_at ws end rule_limit 0 ≡ bad
       short_bad e t = rule_bad (rule_short ws end at (block_at ws end body_depth) e t) refl
 
-      pub more_so_far : {s : Step} {p w v : ℕ} {more : Rules} → s ≡ step_of (rule_at ws end (block_at ws end body_depth) at) → s ≡ Next p
+      pub more_so_far : {s : Option ℕ} {p w v : ℕ} {more : Rules} → s ≡ step_of (rule_at ws end (block_at ws end body_depth) at) → s ≡ Some p
           → w ≡ get_or ws at 0 → v ≡ get_or ws (at + 1) 0 → IsWith rules w v at more → SoFar ws end p more
       more_so_far {s} {p} {w} {v} {more} e t x y m =
           let g = next_got (rule_at ws end (block_at ws end body_depth) at) p (sym e ∙ t) in

@@ -1,22 +1,21 @@
 -- Steps through what the definition reads one after the other.
-use Prim.Native.Nat.{ℕ, zero, suc, ◌-◌}
+use Prim.Native.Nat.{ℕ, zero, suc, ◌+◌, ◌-◌, ◌<◌, ◌≤◌}
 use mathlib.Core.Path.{◌≡◌, refl, sym, ◌∙◌}
-use mathlib.Core.List.{◌∷◌}
+use mathlib.Core.List.{List, ◌∷◌}
 use native.Mathlib.Omega.{arith}
-use native.Mathlib.Numerals.{sub-one}
+use native.Mathlib.Numerals.{unary_clauses}
 use Rattle.grammar.specs.Parse.{Got, got, bad, ◌then◌, many}
-use Rattle.records.specs.declared.records.Step.{Step}
-use Rattle.records.specs.declared.records.Step.TheVariants.{Next, Bad}
-use Rattle.records.specs.Step.{step_of}
+use Rattle.std.specs.Prelude.{Option, Some, None, option_and_then}
+use Rattle.records.specs.Step.{repeated, step_of}
 
 module _ {A B : Type 0} where
   -- what is bad stays bad
-  pub then_bad : (g : Got A) (f : A → ℕ → Got B) → step_of g ≡ Bad → step_of (g then f) ≡ Bad
+  pub then_bad : (g : Got A) (f : A → ℕ → Got B) → step_of g ≡ None → step_of (g then f) ≡ None
   then_bad (got a p) f e = absurd (let z : ◌≡◌ {A = ℕ} 0 1 = cc in omega arith)
   then_bad bad f e = refl
 
   -- past a part, the rest decides, whatever was found
-  pub then_next : (g : Got A) (f : A → ℕ → Got B) (p : ℕ) (r : Step) → step_of g ≡ Next p → ((a : A) → step_of (f a p) ≡ r)
+  pub then_next : (g : Got A) (f : A → ℕ → Got B) (p : ℕ) (r : Option ℕ) → step_of g ≡ Some p → ((a : A) → step_of (f a p) ≡ r)
       → step_of (g then f) ≡ r
   then_next (got a q) f p r e h = let z : q ≡ p = cc in rw z (h a)
   then_next bad f p r e h = absurd (let z : ◌≡◌ {A = ℕ} 0 1 = cc in omega arith)
@@ -26,40 +25,48 @@ module _ {A B : Type 0} where
   then_same (got a q) f = refl
   then_same bad f = refl
 
-module _ {A : Type 0} (one : ℕ → Got A) where
-  pub many_none : (n at : ℕ) → n ≡ 0 → Next at ≡ step_of (many one n at)
-  many_none n at e = rw e
+-- a loop over steps: what all come to is what those left after i of them come to
+pub record Left (step : ℕ → Option ℕ) (n at i p : ℕ) : Type 0 where
+  pub same : repeated step n at ≡ repeated step (n - i) p
 
-  pub many_more : (n at p : ℕ) {s : Step} (r : Step) → (n ≡ 0 → ⊥) → s ≡ step_of (one at) → s ≡ Next p
-      → r ≡ step_of (many one (n - 1) p) → r ≡ step_of (many one n at)
-  many_more zero at p r h e f g = absurd (h refl)
-  many_more (suc n) at p {s} r h e f g =
-      sym
-      (then_next (one at) (λ a q. many one n q then λ as' q'. got (a ∷ as') q') p r (sym e ∙ f)
-      λ a. then_same (many one n p) (λ as'. a ∷ as') ∙ sym (rw sub-one at g))
+module _ (step : ℕ → Option ℕ) where
+  pub left_all : (n at : ℕ) → Left step n at 0 at
+  left_all n at = record { same = simp unary_clauses refl }
 
-  pub many_bad : (n at : ℕ) {s : Step} → (n ≡ 0 → ⊥) → s ≡ step_of (one at) → s ≡ Bad → Bad ≡ step_of (many one n at)
-  many_bad zero at h e f = absurd (h refl)
-  many_bad (suc n) at h e f = sym (then_bad (one at) (λ a q. many one n q then λ as' q'. got (a ∷ as') q') (sym e ∙ f))
+  repeated_next : (m p : ℕ) → repeated step (suc m) p ≡ option_and_then (repeated step m) (step p)
+  unfolding repeated
+  repeated_next m p = refl
 
-  -- a loop over items: what all come to is what those left come to
-  pub record Left (n at i p : ℕ) : Type 0 where
-    pub same : step_of (many one n at) ≡ step_of (many one i p)
+  repeated_none : (p : ℕ) → repeated step 0 p ≡ Some p
+  unfolding repeated
+  repeated_none p = go 0 refl
+    where
+      go : (m : ℕ) → m ≡ 0 → repeated step m p ≡ Some p
+      go zero e = refl
+      go (suc m) e = absurd (omega arith)
 
-  pub left_all : (n at : ℕ) → Left n at n at
-  left_all n at = record { same = refl }
+  module _ {n at i p : ℕ} (l : Left step n at i p) where
+    pub left_done : n ≤ i → Some p ≡ repeated step n at
+    left_done e = let z : n - i ≡ 0 = omega arith in sym (l.same ∙ rw z (repeated_none p))
 
-  module _ {n at i p : ℕ} (l : Left n at i p) where
-    pub left_done : i ≡ 0 → Next p ≡ step_of (many one n at)
-    left_done e = many_none i p e ∙ sym l.same
+    module _ (h : i < n) where
+      opened : repeated step n at ≡ option_and_then (repeated step (n - (i + 1))) (step p)
+      opened = let z : n - i ≡ suc (n - (i + 1)) = omega arith in l.same ∙ rw z (repeated_next (n - (i + 1)) p)
 
-    module _ (h : i ≡ 0 → ⊥) {s : Step} (e : s ≡ step_of (one p)) where
-      pub left_more : {q : ℕ} → s ≡ Next q → Left n at (i - 1) q
-      left_more {q} f = record { same = l.same ∙ sym (many_more i p q (step_of (many one (i - 1) q)) h e f refl) }
+      pub left_more : {q : ℕ} → Some q ≡ step p → Left step n at (i + 1) q
+      left_more e = record { same = opened ∙ rw (sym e) refl }
 
-      pub left_bad : s ≡ Bad → Bad ≡ step_of (many one n at)
-      left_bad f = many_bad i p h e f ∙ sym l.same
+      pub left_bad : None ≡ step p → None ≡ repeated step n at
+      left_bad e = sym (opened ∙ rw (sym e) refl)
 
-pub ruleset loops = (left_all, left_done, left_more, left_bad)
+-- repeating what a definition finds
+module _ {A : Type 0} where
+  many_step : (g : Got A) (rest : ℕ → Option ℕ) (all : ℕ → Got (List A)) → ((p : ℕ) → rest p ≡ step_of (all p))
+      → option_and_then rest (step_of g) ≡ step_of (g then λ a p. all p then λ as' q. got (a ∷ as') q)
+  many_step (got a p) rest all h = h p ∙ sym (then_same (all p) (λ as'. a ∷ as'))
+  many_step bad rest all h = refl
 
-pub ruleset steps = (many_none, many_more, many_bad)
+  pub many_steps : (one : ℕ → Got A) (n at : ℕ) → repeated (λ x. step_of (one x)) n at ≡ step_of (many one n at)
+  unfolding repeated
+  many_steps one zero at = refl
+  many_steps one (suc n) at = many_step (one at) (repeated (λ x. step_of (one x)) n) (many one n) (λ p. many_steps one n p)

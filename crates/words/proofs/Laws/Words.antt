@@ -1,11 +1,9 @@
 -- Words written and read back.
 use Prim.Native.Nat.{ℕ, ◌+◌, ◌*◌, ◌/◌, ◌%◌, ◌<◌, ◌≤◌, ◌^◌}
-use mathlib.Core.Path.{◌≡◌, refl, sym, ap, ◌∙◌}
-use mathlib.Core.List.{List, ◌++◌, append-nil}
-use lib.Seq.{drop-length}
-use borrow.Author.Fill.{fill_more}
+use mathlib.Core.Path.{◌≡◌, sym, ap, ◌∙◌}
+use mathlib.Core.List.{List}
 use native.Mathlib.Omega.{arith}
-use lib.ListN.{length, get_or, set, drop, replicate, length-set}
+use lib.ListN.{length, get_or, set}
 use Rattle.grammar.specs.Words.{words, word_of}
 use Rattle.grammar.specs.Laws.Words.{words_set, get_d_words}
 use Rattle.words.specs.Words.{word_from, with_word}
@@ -22,28 +20,3 @@ put_word_law before after at w h f e =
 -- the word whose four bytes these are
 pub word_law : (bs : List ℕ) (at : ℕ) {r : ℕ} → 4 * at + 4 ≤ length bs → r ≡ word_from bs (4 * at) → r ≡ get_or (words bs) at 0
 word_law bs at h e = e ∙ sym (get_d_words bs at h)
-
--- zeros in front of `i`, and behind it what stood there
-pub record Clearing (before s : List ℕ) (i : ℕ) : Type 0 where
-  pub within : i ≤ length before
-  pub long : length s ≡ length before
-  pub is : s ≡ replicate i 0 ++ drop i before
-
-pub none_cleared : (s : List ℕ) → Clearing s s 0
-none_cleared s = record { within = omega arith; long = refl; is = refl }
-
-module _ {before s : List ℕ} {i : ℕ} (c : Clearing before s i) where
-  pub more_cleared : i < length s → Clearing before (set s i 0) (i + 1)
-  more_cleared h =
-      record {
-        within = omega arith;
-        long = simp length-set c.long;
-        is = rw c.is (fill_more i 0 before (omega arith));
-      }
-
-  pub all_cleared : length s ≤ i → s ≡ replicate (length before) 0
-  all_cleared h =
-      let k : i ≡ length before = omega arith in
-      c.is ∙ rw (k, drop-length before) (append-nil (replicate (length before) 0))
-
-pub ruleset clears = (none_cleared, more_cleared, all_cleared)

@@ -1,48 +1,63 @@
-use Rattle.std.proofs.Common.{rules}
+use Rattle.std.proofs.Common.{rules, arith, ◌∙◌}
 use Rattle.records.proofs.records.+tree.Goals as goal
-use Rattle.records.proofs.Laws.Steps.{loops}
+use Rattle.records.proofs.Laws.Steps.{left_all, left_more, left_bad, left_done, many_steps}
 use Rattle.records.proofs.Laws.Trees.{trees}
 
--- src/records.rt:243:9
 pub alternative_at-returns-then-left-lt5 : goal.alternative_at-returns-then-left-lt5
-alternative_at-returns-then-left-lt5 t c = search (rules, trees, loops)
+alternative_at-returns-then-left-lt5 t c = search (rules, trees)
 
--- src/records.rt:246:9
 pub alternative_at-returns-then-word-gt-MOST : goal.alternative_at-returns-then-word-gt-MOST
-alternative_at-returns-then-word-gt-MOST t c = search (rules, trees, loops)
+alternative_at-returns-then-word-gt-MOST t c = search (rules, trees)
 
--- src/records.rt:237:1
-pub alternative_at-returns-in-Next : goal.alternative_at-returns-in-Next
-alternative_at-returns-in-Next t c = search (rules, trees, loops)
+pub alternative_at-returns : goal.alternative_at-returns
+alternative_at-returns t c = let found = c.in_ok-p.ensures in search (rules, trees)
 
--- src/records.rt:237:1
-pub alternative_at-returns-in-Bad : goal.alternative_at-returns-in-Bad
-alternative_at-returns-in-Bad t c = search (rules, trees, loops)
+pub alternative_at-returns-in_err-p : goal.alternative_at-returns-in_err-p
+alternative_at-returns-in_err-p t c = let found = c.in_err-p.ensures in search (rules, trees)
 
--- src/records.rt:284:9
 pub block_at-returns-then-left-lt1 : goal.block_at-returns-then-left-lt1
-block_at-returns-then-left-lt1 t c = search (rules, trees, loops)
+block_at-returns-then-left-lt1 t c = search (rules, trees)
 
--- src/records.rt:275:1
 pub block_at-returns : goal.block_at-returns
-block_at-returns t c = search (rules, trees, loops)
+block_at-returns t c = search (rules, trees)
 
--- src/records.rt:209:9
 pub element_at-returns-then-left-lt6 : goal.element_at-returns-then-left-lt6
-element_at-returns-then-left-lt6 t c = search (rules, trees, loops)
+element_at-returns-then-left-lt6 t c = search (rules, trees)
 
--- src/records.rt:203:1
-pub element_at-returns-in-Next : goal.element_at-returns-in-Next
-element_at-returns-in-Next t c = search (rules, trees, loops)
+pub element_at-returns : goal.element_at-returns
+element_at-returns t c = let found = c.in_ok-p.ensures in search (rules, trees)
 
--- src/records.rt:203:1
-pub element_at-returns-in-Bad : goal.element_at-returns-in-Bad
-element_at-returns-in-Bad t c = search (rules, trees, loops)
+pub element_at-returns-in_err-p : goal.element_at-returns-in_err-p
+element_at-returns-in_err-p t c = let found = c.in_err-p.ensures in search (rules, trees)
 
--- src/records.rt:198:9
 pub payload_at-returns-then-kind-eq-BLOCK : goal.payload_at-returns-then-kind-eq-BLOCK
-payload_at-returns-then-kind-eq-BLOCK t c = search (rules, trees, loops)
+payload_at-returns-then-kind-eq-BLOCK t c = search (rules, trees)
 
--- src/records.rt:191:1
 pub payload_at-returns : goal.payload_at-returns
-payload_at-returns t c = search (rules, trees, loops)
+payload_at-returns t c = search (rules, trees)
+
+pub alternatives_at-loop-init : goal.alternatives_at-loop-init
+alternatives_at-loop-init t c = left_all _ _ _
+
+pub alternatives_at-loop-preserved : goal.alternatives_at-loop-preserved
+alternatives_at-loop-preserved t c = left_more _ c.loop.invariant (omega arith) c.in_ok-p.ensures
+
+pub alternatives_at-returns-in_err-p : goal.alternatives_at-returns-in_err-p
+alternatives_at-returns-in_err-p t c =
+    c.from_residual.ensures ∙ left_bad _ c.loop.invariant (omega arith) c.in_err-p.ensures ∙ many_steps _ _ _
+
+pub alternatives_at-returns : goal.alternatives_at-returns
+alternatives_at-returns t c = left_done _ c.loop.invariant (omega arith) ∙ many_steps _ _ _
+
+pub elements_at-loop-init : goal.elements_at-loop-init
+elements_at-loop-init t c = left_all _ _ _
+
+pub elements_at-loop-preserved : goal.elements_at-loop-preserved
+elements_at-loop-preserved t c = left_more _ c.loop.invariant (omega arith) c.in_ok-p.ensures
+
+pub elements_at-returns-in_err-p : goal.elements_at-returns-in_err-p
+elements_at-returns-in_err-p t c =
+    c.from_residual.ensures ∙ left_bad _ c.loop.invariant (omega arith) c.in_err-p.ensures ∙ many_steps _ _ _
+
+pub elements_at-returns : goal.elements_at-returns
+elements_at-returns t c = left_done _ c.loop.invariant (omega arith) ∙ many_steps _ _ _

@@ -1,4 +1,5 @@
 use Prim.Native.Nat.{◌+◌, ◌*◌}
+use Rattle.records.specs.Step.{step_of}
 use Rattle.records.proofs.Laws.Steps.{Left}
 use Rattle.grammar.specs.Words.{words}
 use Rattle.grammar.specs.Read.{element_at, alternative_at, block_at}
@@ -22,14 +23,10 @@ decreases-elements_at l = l.depth * 8 + 3
 abbrev pub decreases-payload_at : goal.decreases-payload_at
 decreases-payload_at l = l.depth * 8 + 1
 
-abbrev pub invariant-alternatives_at-loop-i : goal.invariant-alternatives_at-loop-i
-invariant-alternatives_at-loop-i l = Left (alternative_at (words l.s) l.end (block_at (words l.s) l.end l.depth)) l.n l.at l.i l.p
+abbrev pub invariant-alternatives_at-loop : goal.invariant-alternatives_at-loop
+invariant-alternatives_at-loop l =
+    Left (λ x. step_of (alternative_at (words l.s) l.end (block_at (words l.s) l.end l.depth) x)) l.n l.at l.counter l.p
 
-abbrev pub decreases-alternatives_at-loop-i : goal.decreases-alternatives_at-loop-i
-decreases-alternatives_at-loop-i l = l.i
-
-abbrev pub invariant-elements_at-loop-i : goal.invariant-elements_at-loop-i
-invariant-elements_at-loop-i l = Left (element_at (words l.s) l.end (block_at (words l.s) l.end l.depth)) l.n l.at l.i l.p
-
-abbrev pub decreases-elements_at-loop-i : goal.decreases-elements_at-loop-i
-decreases-elements_at-loop-i l = l.i
+abbrev pub invariant-elements_at-loop : goal.invariant-elements_at-loop
+invariant-elements_at-loop l =
+    Left (λ x. step_of (element_at (words l.s) l.end (block_at (words l.s) l.end l.depth) x)) l.n l.at l.counter l.p

@@ -15,8 +15,8 @@ pub returns-then-left-lt3 : goal.returns-then-left-lt3
 returns-then-left-lt3 c = search (rules, reads)
 
 -- src/rules.rt:98:26
-pub returns-in-Bad : goal.returns-in-Bad
-returns-in-Bad c = search (rules, reads)
+pub returns-in_err-p : goal.returns-in_err-p
+returns-in_err-p c = let found = c.in_err-p.ensures in rw c.from_residual.ensures (search (rules, reads))
 
 -- src/rules.rt:89:5
 pub loop-at-preserved : goal.loop-at-preserved
