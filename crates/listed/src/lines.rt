@@ -16,7 +16,7 @@ fn field(text: &mut [u8], n: usize, w: u32) -> usize
 
 // A line of a word and numbers.
 pub fn line(text: &mut [u8], n: usize, word: &[u8], numbers: &[u32]) -> usize
-    requires { n + length word.now + 11 * length numbers.now < 2 ^ 36 }
+    requires { n + length word.now + 11 * length numbers.now < 2 ^ 37 }
     ensures { PutFew text.old text.new n result (T.line word.now numbers.now)
         (length word.now + 11 * length numbers.now + 1) }
 {

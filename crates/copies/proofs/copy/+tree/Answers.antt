@@ -7,69 +7,71 @@ use Rattle.copies.proofs.Laws.Copying.{copying, copying_fits}
 use Rattle.copies.proofs.Laws.Elements.{elementary}
 use Rattle.copies.proofs.Laws.Alternatives.{alternating}
 
+ruleset trees = (inner, copying, rooms, elementary, alternating, growth)
+
 -- src/copy.rt:100:9
 pub copy_alternative-alternative_head-head-requires-clause-room :
     goal.copy_alternative-alternative_head-head-requires-clause-room
-copy_alternative-alternative_head-head-requires-clause-room t c = search (rules, inner, copying, rooms, elementary, alternating, growth)
+copy_alternative-alternative_head-head-requires-clause-room t c = search (rules, trees)
 
 -- src/copy.rt:103:9
 pub copy_alternative-copy_marked-inside-requires-clause-marked_room :
     goal.copy_alternative-copy_marked-inside-requires-clause-marked_room
-copy_alternative-copy_marked-inside-requires-clause-marked_room t c = search (rules, inner, copying, rooms, elementary, alternating, growth)
+copy_alternative-copy_marked-inside-requires-clause-marked_room t c = search (rules, trees)
 
 -- src/copy.rt:104:5
 pub copy_alternative-copy_elements-requires : goal.copy_alternative-copy_elements-requires
-copy_alternative-copy_elements-requires t c = search (rules, inner, copying, rooms, elementary, alternating, growth)
+copy_alternative-copy_elements-requires t c = search (rules, trees)
 
 -- src/copy.rt:85:1
 pub copy_alternative-returns : goal.copy_alternative-returns
-copy_alternative-returns t c = search (rules, inner, copying, rooms, elementary, alternating, growth)
+copy_alternative-returns t c = search (rules, trees)
 
 -- src/copy.rt:128:13
 pub copy_alternatives-copy_alternative-c-requires :
     goal.copy_alternatives-copy_alternative-c-requires
-copy_alternatives-copy_alternative-c-requires t c = search (rules, inner, copying, rooms, elementary, alternating, growth)
+copy_alternatives-copy_alternative-c-requires t c = search (rules, trees)
 
 -- src/copy.rt:127:5
 pub copy_alternatives-loop-preserved : goal.copy_alternatives-loop-preserved
-copy_alternatives-loop-preserved t c = search (rules, inner, copying, rooms, elementary, alternating, growth)
+copy_alternatives-loop-preserved t c = search (rules, trees)
 
 -- src/copy.rt:108:1
 pub copy_alternatives-returns : goal.copy_alternatives-returns
-copy_alternatives-returns t c = search (rules, inner, copying, rooms, elementary, alternating, growth)
+copy_alternatives-returns t c = search (rules, trees)
 
 -- src/copy.rt:38:9
 pub copy_element-element_head-head-requires-clause-room :
     goal.copy_element-element_head-head-requires-clause-room
-copy_element-element_head-head-requires-clause-room t c = search (rules, inner, copying, rooms, elementary, alternating, growth)
+copy_element-element_head-head-requires-clause-room t c = search (rules, trees)
 
 -- src/copy.rt:41:9
 pub copy_element-copy_head-inside-requires : goal.copy_element-copy_head-inside-requires
-copy_element-copy_head-inside-requires t c = search (rules, inner, copying, rooms, elementary, alternating, growth)
+copy_element-copy_head-inside-requires t c = search (rules, trees)
 
 -- src/copy.rt:44:13
 pub copy_element-copy_count-behind-requires : goal.copy_element-copy_count-behind-requires
-copy_element-copy_count-behind-requires t c = search (rules, inner, copying, rooms, elementary, alternating, growth)
+copy_element-copy_count-behind-requires t c = search (rules, trees)
 
 -- src/copy.rt:45:42
 pub copy_element-overflow_sub-depth : goal.copy_element-overflow_sub-depth
-copy_element-overflow_sub-depth t c = search (rules, inner, copying, rooms, elementary, alternating, growth)
+copy_element-overflow_sub-depth t c = search (rules, trees)
 
 -- src/copy.rt:45:9
 pub copy_element-copy_alternatives-requires : goal.copy_element-copy_alternatives-requires
-copy_element-copy_alternatives-requires t c = search (rules, inner, copying, rooms, elementary, alternating, growth)
+copy_element-copy_alternatives-requires t c = search (rules, trees)
 
 -- src/copy.rt:45:9
 pub copy_element-returns-then-kind-eq-BLOCK : goal.copy_element-returns-then-kind-eq-BLOCK
-copy_element-returns-then-kind-eq-BLOCK t c = search (rules, inner, copying, rooms, elementary, alternating, growth)
+copy_element-returns-then-kind-eq-BLOCK t c = search (rules, trees)
 
 -- src/copy.rt:48:9
 pub copy_element-copy_leaf-last-requires : goal.copy_element-copy_leaf-last-requires
-copy_element-copy_leaf-last-requires t c = search (rules, inner, copying, rooms, elementary, alternating, growth)
+copy_element-copy_leaf-last-requires t c = search (rules, trees)
 
 -- src/copy.rt:22:1
 pub copy_element-returns : goal.copy_element-returns
-copy_element-returns t c = search (rules, inner, copying, rooms, elementary, alternating, growth)
+copy_element-returns t c = search (rules, trees)
 
 -- src/copy.rt:76:13
 pub copy_elements-copy_element-c-requires : goal.copy_elements-copy_element-c-requires
@@ -78,11 +80,11 @@ copy_elements-copy_element-c-requires t c =
 
 -- src/copy.rt:75:5
 pub copy_elements-loop-preserved : goal.copy_elements-loop-preserved
-copy_elements-loop-preserved t c = search (rules, inner, copying, rooms, elementary, alternating, growth)
+copy_elements-loop-preserved t c = search (rules, trees)
 
 -- src/copy.rt:56:1
 pub copy_elements-returns : goal.copy_elements-returns
-copy_elements-returns t c = search (rules, inner, copying, rooms, elementary, alternating, growth)
+copy_elements-returns t c = search (rules, trees)
 
 -- src/copy.rt:124:5
 pub copy_alternatives-loop-init : goal.copy_alternatives-loop-init
