@@ -18,7 +18,7 @@ use words::walk::element_head;
 use words::words::word;
 
 // A cycle among n rules, and its hub: places of rules.
-#[derive(Clone, Copy)]
+#[derive(Clone, Copy, Debug, PartialEq, Eq)]
 pub struct Cycle {
     pub n: usize,
     pub members: [u64; Row::WORDS],
@@ -26,7 +26,7 @@ pub struct Cycle {
 }
 
 // What is met at one element: nothing that counts; or what decides, of a member its place.
-#[derive(Clone, Copy)]
+#[derive(Clone, Copy, Debug, PartialEq, Eq)]
 pub enum Met {
     Silent,
     Settled,
@@ -36,13 +36,13 @@ pub enum Met {
 }
 
 // Where a member is met: the element's index, and the member's place.
-#[derive(Clone, Copy)]
+#[derive(Clone, Copy, Debug, PartialEq, Eq)]
 pub struct Place {
     pub index: usize,
     pub target: usize,
 }
 
-#[derive(Clone, Copy)]
+#[derive(Clone, Copy, Debug, PartialEq, Eq)]
 pub enum Corner {
     Settled,
     Blocked,
@@ -141,10 +141,9 @@ pub fn find_corner(s: &[u8], end: usize, names: &[u32], c: Cycle, work: &[u8], x
     ensures { CornerAt names.now c (words s.now) end inner_depth work.now x result }
 {
     let n = x.ne;
-    let mut i: usize = 0;
-    while i < n {
+    for i in 0..n {
         match meet_item(s, end, names, c, item(work, x, i)) {
-            Met::Silent => i += 1,
+            Met::Silent => {}
             Met::Settled => return Corner::Settled,
             Met::Blocked => return Corner::Blocked,
             Met::Optional(t) => return Corner::Optional(Place {
