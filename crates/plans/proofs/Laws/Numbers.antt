@@ -6,18 +6,20 @@ use mathlib.Core.Bool.{true, false}
 use lib.ListN.{length, get_or, replicate}
 use borrow.Author.Tests.{eq-eqb, ne_eqb}
 use Rattle.plan.specs.declared.plan.Plan.{Plan}
-use Rattle.plan.specs.declared.plan.Decision.{Decision}
-use Rattle.plan.specs.declared.plan.Decision.TheVariants.{Planned, Declined, Overfull}
+use Rattle.std.specs.Prelude.{Option, Some, None, Result, Ok, Err}
+use Rattle.reference.specs.Substitute.{clause_number}
+use Rattle.steps.specs.Decide.{clause_of}
+use Rattle.steps.specs.declared.decide.Clause.{Clause}
+use Rattle.turns.specs.declared.turn.Unplanned.{Unplanned}
+use Rattle.turns.specs.declared.turn.Unplanned.TheVariants.{Declined, Overfull}
 use Rattle.plan.specs.declared.search.FoundPlan.{FoundPlan}
 use Rattle.plan.specs.declared.search.Search.{Search}
 use Rattle.plan.specs.declared.search.Search.TheVariants as S
 use Rattle.plans.specs.First.{search_numbers, search_cycle, search_row}
-use Rattle.plans.specs.declared.nth.Choice.{Choice}
-use Rattle.plans.specs.declared.nth.Choice.TheVariants.{None, Some}
 use Rattle.plans.specs.Nth.{capped, decision_numbers, decision_row, choice_numbers, choice_row, left_by}
 
-module _ {d : Decision} where
-  module _ {p : Plan} (z : d ≡ Planned p) where
+module _ {d : Result Plan Unplanned} where
+  module _ {p : Plan} (z : d ≡ Ok p) where
     pub planned_numbers : {k a b e : ℕ} → a ≡ capped p.hub → b ≡ capped p.steps → e ≡ capped p.l.outa
         → (0 ∷ k ∷ 0 ∷ a ∷ 0 ∷ b ∷ e ∷ 0 ∷ []) ≡ decision_numbers k d
     planned_numbers {k} x y w =
@@ -26,21 +28,21 @@ module _ {d : Decision} where
     pub planned_row : (p.low ∷ p.high ∷ []) ≡ decision_row d
     planned_row = sym (ap decision_row z)
 
-  module _ {n : ℕ} (z : d ≡ Declined n) where
-    pub declined_numbers : {k : ℕ} → (0 ∷ k ∷ 1 ∷ 0 ∷ n ∷ 0 ∷ 0 ∷ 0 ∷ []) ≡ decision_numbers k d
-    declined_numbers {k} = sym (ap (decision_numbers k) z)
+  module _ {c : Clause} (z : d ≡ Err (Declined c)) where
+    pub declined_numbers : {k n : ℕ} → n ≡ clause_number (clause_of c) → (0 ∷ k ∷ 1 ∷ 0 ∷ n ∷ 0 ∷ 0 ∷ 0 ∷ []) ≡ decision_numbers k d
+    declined_numbers {k} e = ap (λ m. 0 ∷ k ∷ 1 ∷ 0 ∷ m ∷ 0 ∷ 0 ∷ 0 ∷ []) e ∙ sym (ap (decision_numbers k) z)
 
     pub declined_row : (0 ∷ 0 ∷ []) ≡ decision_row d
     declined_row = sym (ap decision_row z)
 
-  module _ (z : d ≡ Overfull) where
+  module _ (z : d ≡ Err Overfull) where
     pub overfull_numbers : {k : ℕ} → (0 ∷ k ∷ 2 ∷ 0 ∷ 0 ∷ 0 ∷ 0 ∷ 0 ∷ []) ≡ decision_numbers k d
     overfull_numbers {k} = sym (ap (decision_numbers k) z)
 
     pub overfull_row : (0 ∷ 0 ∷ []) ≡ decision_row d
     overfull_row = sym (ap decision_row z)
 
-module _ {c : Choice} where
+module _ {c : Option (Result Plan Unplanned)} where
   module _ (z : c ≡ None) where
     pub none_numbers : {k : ℕ} → (0 ∷ k ∷ 3 ∷ 0 ∷ 0 ∷ 0 ∷ 0 ∷ 0 ∷ []) ≡ choice_numbers k c
     none_numbers {k} = sym (ap (choice_numbers k) z)
@@ -48,7 +50,7 @@ module _ {c : Choice} where
     pub none_row : (0 ∷ 0 ∷ []) ≡ choice_row c
     none_row = sym (ap choice_row z)
 
-  module _ {d : Decision} (z : c ≡ Some d) where
+  module _ {d : Result Plan Unplanned} (z : c ≡ Some d) where
     pub some_numbers : (k : ℕ) {ns : List ℕ} → ns ≡ decision_numbers k d → ns ≡ choice_numbers k c
     some_numbers k e = e ∙ sym (ap (choice_numbers k) z)
 
