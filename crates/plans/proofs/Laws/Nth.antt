@@ -20,7 +20,7 @@ use Rattle.analysis.specs.declared.rounds.Marks.{Marks}
 use Rattle.hub.specs.Preserved.{between}
 use Rattle.turns.specs.Midway.{LimitsFit, IsStandard}
 use Rattle.turns.specs.declared.state.Limits.{Limits}
-use Rattle.std.specs.Prelude.{Option, Some, None, Result}
+use Rattle.std.specs.Prelude.{Some, None, Result}
 use Rattle.turns.specs.declared.turn.Unplanned.{Unplanned}
 use Rattle.plan.specs.declared.plan.Plan.{Plan}
 use Rattle.plan.specs.Known.{CycleKnown}
