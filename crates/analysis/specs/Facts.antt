@@ -72,8 +72,8 @@ module _ (c : Corners) (rs : List Rule) (ids : List ℕ) where
   -- A round by the nullable rules in a list.
   pub record RoundBy (xs : List ℕ) (calls corners : List (List ℕ)) (r : Round) : Type 0 where
     pub rows : RowsBy xs calls corners
-    pub stops : RowOf ids (length rs) stopping r.stops
-    pub nullable : RowOf ids (length rs) (nullable_round body_depth rs xs) r.nullable
+    pub stops : RowOf ids (length rs) stopping r.marks.stops
+    pub nullable : RowOf ids (length rs) (nullable_round body_depth rs xs) r.marks.nullable
     pub count : r.count ≡ length (nullable_round body_depth rs xs)
 
   -- The facts of the grammar.

@@ -1,9 +1,7 @@
 -- Rules are told by their places in the sheet handed in, and found by their names: a table in the lent work area has a
 -- byte for each remainder of a name, which says where to look first.
-use Rattle.std.specs.Prelude.{ℕ, zero, suc, ◌<◌, ◌≤◌, ◌%◌, ◌≡◌, List, Bool, false, ◌&&◌, ◌||◌, length, get_or, set, eqb, ltb}
+use Rattle.std.specs.Prelude.{ℕ, zero, suc, ◌<◌, ◌≤◌, ◌%◌, ◌≡◌, List, Bool, false, ◌&&◌, ◌||◌, length, get_or, set, eqb, ltb, Option, Some, None}
 use Rattle.grammar.specs.Numbers.{work_bytes}
-use Rattle.analysis.specs.declared.names.Target.{Target}
-use Rattle.analysis.specs.declared.names.Target.TheVariants.{Unknown, Rule}
 
 -- Rule j of n has a name.
 unfoldable pub is_named : List ℕ → ℕ → ℕ → ℕ → Bool
@@ -41,6 +39,6 @@ pub record At (names : List ℕ) (n m i : ℕ) : Type 0 where
 pub record Nowhere (names : List ℕ) (n m : ℕ) : Type 0 where
   pub none : (j : ℕ) → is_named names n m j ≡ false
 
-pub record IsTarget (names : List ℕ) (n m : ℕ) (r : Target) : Type 0 where
-  pub rule : (i : ℕ) → r ≡ Rule i → At names n m i
-  pub unknown : r ≡ Unknown → Nowhere names n m
+pub record IsTarget (names : List ℕ) (n m : ℕ) (r : Option ℕ) : Type 0 where
+  pub rule : (i : ℕ) → r ≡ Some i → At names n m i
+  pub unknown : r ≡ None → Nowhere names n m

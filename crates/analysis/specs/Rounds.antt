@@ -18,8 +18,8 @@ count_below test (suc n) = count_below test n + one_if (test n)
 
 -- One rule more is marked, if it is to be.
 pub record Marked (before : Round) (i : ℕ) (nu st : Bool) (r : Round) : Type 0 where
-  pub nullable : AddIf before.nullable i nu r.nullable
-  pub stops : AddIf before.stops i st r.stops
+  pub nullable : AddIf before.marks.nullable i nu r.marks.nullable
+  pub stops : AddIf before.marks.stops i st r.marks.stops
   pub count : r.count ≡ before.count + one_if nu
 
 -- What is kept of the survey of the rule at a place, which is rule k.
@@ -34,10 +34,10 @@ pub record Recorded (v : View) (ws : List ℕ) (end at k : ℕ) (cs ks : List (L
 -- The rules below i are surveyed; rows from i on are as they were.
 pub record Recording (v : View) (ws : List ℕ) (end : ℕ) (places : List ℕ) (cs₀ ks₀ : List (List ℕ)) (i : ℕ) (cs ks : List (List ℕ))
     (r : Round) : Type 0 where
-  pub each : (k : ℕ) → k < i → Recorded v ws end (get_or places k 0) k cs ks r.nullable r.stops
-  pub nullable_none : (k : ℕ) → i ≤ k → bit r.nullable k ≡ false
-  pub stops_none : (k : ℕ) → i ≤ k → bit r.stops k ≡ false
-  pub counted : r.count ≡ count_below (bit r.nullable) i
+  pub each : (k : ℕ) → k < i → Recorded v ws end (get_or places k 0) k cs ks r.marks.nullable r.marks.stops
+  pub nullable_none : (k : ℕ) → i ≤ k → bit r.marks.nullable k ≡ false
+  pub stops_none : (k : ℕ) → i ≤ k → bit r.marks.stops k ≡ false
+  pub counted : r.count ≡ count_below (bit r.marks.nullable) i
   pub low : r.count ≤ i
   pub calls_behind : (k : ℕ) → i ≤ k → get_or cs k [] ≡ get_or cs₀ k []
   pub corners_behind : (k : ℕ) → i ≤ k → get_or ks k [] ≡ get_or ks₀ k []

@@ -7,14 +7,14 @@ ghost use Rattle.words.specs.Room.{Room};
 ghost use Rattle.analysis.specs.Names.{Tabled};
 ghost use Rattle.analysis.specs.Survey.{view_of, seen_of, skipping, StopSeen, BitSeen, past_call, SymbolSeen, NameSeen, LeafSeen};
 
-use crate::names::{Target, look_up};
+use crate::names::look_up;
 use reach::rows::{Row, add_if, has};
 use words::numbers::{Kind, Quantifier};
 use words::words::word;
 
 // What is known of the rules while a body is walked: how many places there are, which rules are nullable, and whether left
 // corners are sought past symbols that can be empty.
-#[derive(Clone, Copy)]
+#[derive(Clone, Copy, Debug, PartialEq, Eq)]
 pub struct Known {
     pub n: usize,
     pub nullable: [u64; Row::WORDS],
@@ -22,7 +22,7 @@ pub struct Known {
 }
 
 // Whether left corners are still sought, and whether all in front is nullable.
-#[derive(Clone, Copy)]
+#[derive(Clone, Copy, Debug, PartialEq, Eq)]
 pub struct Passing {
     pub seeks: bool,
     pub null: bool,
@@ -100,8 +100,8 @@ fn see_name(
         (seen_of t.old p.seeks p.null) (seen_of t.new result.seeks result.null) }
 {
     match look_up(names, known.n, table, name) {
-        Target::Unknown => see_symbol(known.past, skips, p),
-        Target::Rule(i) => {
+        None => see_symbol(known.past, skips, p),
+        Some(i) => {
             let nullable = known.nullable;
             let empty = skips | has(nullable, i);
             see_call(i, empty, p, t)
@@ -110,6 +110,7 @@ fn see_name(
 }
 
 // An element that is no block; its payload stands at `payload`.
+#[tactic(auto, using(crate::proofs::Laws::Seen::leaves))]
 pub fn see_leaf(
     s: &[u8],
     end: usize,

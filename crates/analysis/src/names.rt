@@ -11,13 +11,8 @@ impl Table {
     const SLOTS: u32 = 65536;
 }
 
-#[derive(Clone, Copy)]
-pub enum Target {
-    Unknown,
-    Rule(usize),
-}
-
 // A name as an index.
+// Stays: callers in other crates read places by it, and its equation is what their laws cite.
 pub fn index(name: u32) -> usize
     ensures { result ≡ name }
 {
@@ -38,49 +33,30 @@ pub fn put_names(names: &[u32], n: usize, table: &mut [u8])
     ensures table_after { table.new ≡ table_with names.now n table.old }
     ensures tabled { Tabled names.now n table.new }
 {
-    let mut i = 0;
-    while i < n {
-        let at = slot(names[i]);
-        table[at] = i as u8;
-        i += 1;
+    for i in 0..n {
+        table[slot(names[i])] = i as u8;
     }
-}
-
-// A byte of the table as a place.
-fn place(x: u8) -> usize
-    ensures { result ≡ x }
-{
-    x as usize
 }
 
 // The rule that has a name, found by looking through the names.
-pub fn scan(names: &[u32], n: usize, name: u32) -> Target
+pub fn scan(names: &[u32], n: usize, name: u32) -> Option<usize>
     requires { Told names.now n }
     ensures { IsTarget names.now n name result }
 {
-    let mut i = 0;
-    while i < n {
-        if names[i] == name {
-            return Target::Rule(i);
-        }
-        i += 1;
-    }
-    Target::Unknown
+    names[..n].iter().position(|x| *x == name)
 }
 
 // A byte of the table says where to look. Where another name stands there, or without a table, the names are looked through.
-pub fn look_up(names: &[u32], n: usize, table: &[u8], name: u32) -> Target
+pub fn look_up(names: &[u32], n: usize, table: &[u8], name: u32) -> Option<usize>
     requires { Tabled names.now n table.now }
     ensures { IsTarget names.now n name result }
 {
-    if table.len() == 0 {
+    if table.is_empty() {
         return scan(names, n, name);
     }
-    let i = place(table[slot(name)]);
-    if i < n {
-        if names[i] == name {
-            return Target::Rule(i);
-        }
+    let i = usize::from(table[slot(name)]);
+    if i < n && names[i] == name {
+        return Some(i);
     }
     scan(names, n, name)
 }

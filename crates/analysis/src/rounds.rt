@@ -7,39 +7,28 @@ ghost use Rattle.words.specs.Room.{Room};
 ghost use Rattle.records.specs.Rules.{FoundRows};
 ghost use Rattle.analysis.specs.Names.{Tabled, table_with};
 ghost use Rattle.analysis.specs.Survey.{view_of};
-ghost use Rattle.analysis.specs.Rounds.{one_if, Marked, Recording};
+ghost use Rattle.analysis.specs.Rounds.{Marked, Recording};
 ghost use Rattle.analysis.specs.Facts.{Standing, FactsFound};
 ghost use Rattle.reach.specs.Rows.{Behind};
 
 use crate::leaf::Known;
-use crate::names::{index, put_names};
+use crate::names::put_names;
 use crate::survey::survey_rule;
 use reach::rows::{Row, add_if};
 use records::rules::Rules;
 
 // Rules that are nullable, and rules that cannot be inlined as satellites.
-#[derive(Clone, Copy)]
+#[derive(Clone, Copy, Debug, PartialEq, Eq)]
 pub struct Marks {
     pub nullable: [u64; Row::WORDS],
     pub stops: [u64; Row::WORDS],
 }
 
-// What a round finds beside the rows: the same, and how many are nullable.
-#[derive(Clone, Copy)]
+// What a round finds beside the rows, and how many rules are nullable by it.
+#[derive(Clone, Copy, Debug, PartialEq, Eq)]
 struct Round {
-    nullable: [u64; Row::WORDS],
-    stops: [u64; Row::WORDS],
+    marks: Marks,
     count: u32,
-}
-
-// One where it is so.
-fn one_if(on: bool) -> u32
-    ensures { (result ≡ one_if on) × (result ≤ 1) }
-{
-    if on {
-        return 1;
-    }
-    0
 }
 
 // One rule more.
@@ -47,14 +36,18 @@ fn mark(r: Round, i: usize, nullable: bool, stops: bool) -> Round
     requires { (i < rule_limit) × (r.count ≤ rule_limit) }
     ensures { Marked r i nullable stops result }
 {
-    let a = r.nullable;
-    let b = r.stops;
+    let m = r.marks;
+    let a = m.nullable;
+    let b = m.stops;
     let c = add_if(a, i, nullable);
     let d = add_if(b, i, stops);
-    Round {
+    let marks = Marks {
         nullable: c,
         stops: d,
-        count: r.count + one_if(nullable),
+    };
+    Round {
+        marks,
+        count: r.count + u32::from(nullable),
     }
 }
 
@@ -78,21 +71,22 @@ fn survey_all(
     let names = rules.names;
     let places = rules.places;
     let n = known.n;
+    let none = Marks {
+        nullable: [0; Row::WORDS],
+        stops: [0; Row::WORDS],
+    };
     let mut r = Round {
-        nullable: [0u64; Row::WORDS],
-        stops: [0u64; Row::WORDS],
+        marks: none,
         count: 0,
     };
-    let mut i = 0;
-    while i < n {
-        let v = survey_rule(s, end, &names, known, table, index(places[i]));
+    for i in 0..n {
+        let v = survey_rule(s, end, &names, known, table, places[i] as usize);
         let c = v.calls;
         let k = v.corners;
         calls[i] = c;
         corners[i] = k;
         let m = mark(r, i, v.nullable, v.stops);
         r = m;
-        i += 1;
     }
     r
 }
@@ -117,25 +111,24 @@ fn rounds(
     let n = rules.n as usize;
     let mut found = [0u64; Row::WORDS];
     let mut count: u32 = 0;
-    let mut left = n;
-    while left != 0 {
+    for _ in 0..n {
         let known = Known {
             n,
             nullable: found,
             past,
         };
         let r = survey_all(s, end, rules, known, table, calls, corners);
-        let stops = r.stops;
+        let marks = r.marks;
         if r.count == count {
+            let stops = marks.stops;
             return Marks {
                 nullable: found,
                 stops,
             };
         }
-        let more = r.nullable;
+        let more = marks.nullable;
         found = more;
         count = r.count;
-        left -= 1;
     }
     let known = Known {
         n,
@@ -143,7 +136,8 @@ fn rounds(
         past,
     };
     let r = survey_all(s, end, rules, known, table, calls, corners);
-    let stops = r.stops;
+    let marks = r.marks;
+    let stops = marks.stops;
     Marks {
         nullable: found,
         stops,

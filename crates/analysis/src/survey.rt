@@ -72,26 +72,15 @@ fn body(
     ensures { BodyWalked (view_of names.now known) (words s.now) end n at
         (seen_of t.old seeks null) result.at (seen_of t.new result.seeks result.null) }
 {
-    let mut i: u32 = n;
-    let mut here = at;
-    let mut sought = seeks;
-    let mut empty = null;
-    while i != 0 {
-        let q = outermost(s, end, names, known, table, here, sought, empty, t);
-        here = q.at;
-        sought = q.seeks;
-        empty = q.null;
-        i -= 1;
+    let mut p = Place { at, seeks, null };
+    for _ in 0..n {
+        p = outermost(s, end, names, known, table, p.at, p.seeks, p.null, t);
     }
-    Place {
-        at: here,
-        seeks: sought,
-        null: empty,
-    }
+    p
 }
 
 // What a survey finds of a rule.
-#[derive(Clone, Copy)]
+#[derive(Clone, Copy, Debug, PartialEq, Eq)]
 pub struct Survey {
     pub calls: [u64; Row::WORDS],
     pub corners: [u64; Row::WORDS],

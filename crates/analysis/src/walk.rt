@@ -14,7 +14,7 @@ use words::walk::{alternative_head, element_head, leaf_end};
 use words::words::word;
 
 // Where the walk is, whether left corners are still sought, and whether all in front is nullable.
-#[derive(Clone, Copy)]
+#[derive(Clone, Copy, Debug, PartialEq, Eq)]
 pub struct Place {
     pub at: usize,
     pub seeks: bool,
@@ -134,22 +134,11 @@ fn elements(
     ensures { ElementsWalked (surveying (view_of names.now known)) (words s.now) end depth n at
         (seen_of t.old seeks null) result.at (seen_of t.new result.seeks result.null) }
 {
-    let mut i: u32 = n;
-    let mut here = at;
-    let mut sought = seeks;
-    let mut empty = null;
-    while i != 0 {
-        let q = element(s, end, depth, names, known, table, here, sought, empty, t);
-        here = q.at;
-        sought = q.seeks;
-        empty = q.null;
-        i -= 1;
+    let mut p = Place { at, seeks, null };
+    for _ in 0..n {
+        p = element(s, end, depth, names, known, table, p.at, p.seeks, p.null, t);
     }
-    Place {
-        at: here,
-        seeks: sought,
-        null: empty,
-    }
+    p
 }
 
 // The alternative at `at`.
@@ -205,20 +194,9 @@ fn alternatives(
     ensures { AlternativesWalked (surveying (view_of names.now known)) (words s.now) end depth n at
         (seen_of t.old seeks null) result.at (seen_of t.new result.seeks result.null) }
 {
-    let mut i: u32 = n;
-    let mut here = at;
-    let mut sought = seeks;
-    let mut empty = null;
-    while i != 0 {
-        let q = alternative(s, end, depth, names, known, table, here, sought, empty, t);
-        here = q.at;
-        sought = q.seeks;
-        empty = q.null;
-        i -= 1;
+    let mut p = Place { at, seeks, null };
+    for _ in 0..n {
+        p = alternative(s, end, depth, names, known, table, p.at, p.seeks, p.null, t);
     }
-    Place {
-        at: here,
-        seeks: sought,
-        null: empty,
-    }
+    p
 }

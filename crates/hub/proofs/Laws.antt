@@ -1,5 +1,4 @@
 -- The laws that the answers cite.
-pub mod Rows
 pub mod Lists
 pub mod Rounds
 pub mod Corner

@@ -7,7 +7,6 @@ ghost use Rattle.words.specs.Room.{Room};
 ghost use Rattle.analysis.specs.Facts.{Standing};
 ghost use Rattle.hub.specs.Budget.{Counted, Summed, IsBudget};
 
-use analysis::names::index;
 use reach::rows::{Row, has};
 use records::rules::Rules;
 use words::words::word;
@@ -19,7 +18,7 @@ fn count_if(s: &[u8], end: usize, at: usize, on: bool) -> usize
     ensures { Counted (words s.now) end at on result }
 {
     if on {
-        return index(word(s, at + 3));
+        return word(s, at + 3) as usize;
     }
     0
 }
@@ -33,11 +32,8 @@ fn alternatives(s: &[u8], end: usize, rules: Rules, members: [u64; Row::WORDS]) 
     let places = rules.places;
     let n = rules.n as usize;
     let mut sum = 0;
-    let mut i = 0;
-    while i < n {
-        let more = count_if(s, end, index(places[i]), has(members, i));
-        sum += more;
-        i += 1;
+    for i in 0..n {
+        sum += count_if(s, end, places[i] as usize, has(members, i));
     }
     sum
 }
@@ -49,9 +45,5 @@ pub fn budget(s: &[u8], end: usize, rules: Rules, members: [u64; Row::WORDS], fl
     ensures { IsBudget (words s.now) end rules members floor result }
 {
     let n = alternatives(s, end, rules, members);
-    let square = n * n;
-    if square < floor {
-        return floor;
-    }
-    square
+    floor.max(n * n)
 }

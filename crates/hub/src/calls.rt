@@ -32,11 +32,9 @@ pub fn calls_from(
     ensures { CallsFrom calls.now out from n result }
 {
     let mut r = from;
-    let mut i = 0;
-    while i < n {
+    for i in 0..n {
         let t = add_calls(r, out, i, calls[i]);
         r = t;
-        i += 1;
     }
     r
 }

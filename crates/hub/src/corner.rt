@@ -9,16 +9,16 @@ ghost use Rattle.analysis.specs.Names.{Told};
 ghost use Rattle.analysis.specs.Facts.{Standing};
 ghost use Rattle.hub.specs.Corner.{NameSettles, Settles, AnySettles, IsCandidate, Candidates};
 
-use analysis::names::{Target, index, scan};
+use analysis::names::scan;
 use ends::ends::alternative_end;
-use reach::rows::{Row, add_if, has};
+use reach::rows::{Row, collect, has};
 use records::rules::Rules;
 use words::numbers::{Block, Kind};
 use words::walk::{alternative_head, element_head, leaf_end};
 use words::words::word;
 
 // A cycle among n rules: which rules are its members, and which rules are nullable.
-#[derive(Clone, Copy)]
+#[derive(Clone, Copy, Debug, PartialEq, Eq)]
 pub struct Cycle {
     pub n: usize,
     pub members: [u64; Row::WORDS],
@@ -30,14 +30,9 @@ fn name_settles(names: &[u32], c: Cycle, name: u32) -> bool
     requires { (c.n ≤ rule_limit) × Told names.now c.n }
     ensures { NameSettles names.now c name result }
 {
-    match scan(names, c.n, name) {
-        Target::Unknown => true,
-        Target::Rule(i) => {
-            let members = c.members;
-            let nullable = c.nullable;
-            !has(members, i) & !has(nullable, i)
-        }
-    }
+    let members = c.members;
+    let nullable = c.nullable;
+    scan(names, c.n, name).is_none_or(|i| !has(members, i) & !has(nullable, i))
 }
 
 // n elements from `at` on: the first that is significant decides.
@@ -54,9 +49,8 @@ fn settled_outside(
     requires found_elements { FoundElements (words s.now) end depth n at }
     ensures { Settles names.now c (words s.now) end depth n at result }
 {
-    let mut i: u32 = n;
     let mut p = at;
-    while i != 0 {
+    for _ in 0..n {
         let head = element_head(s, end, depth, p);
         let kind = head.kind;
         let payload = head.payload;
@@ -67,7 +61,6 @@ fn settled_outside(
             return name_settles(names, c, word(s, payload));
         }
         p = leaf_end(s, end, depth, p, kind, payload);
-        i -= 1;
     }
     true
 }
@@ -78,9 +71,8 @@ fn any_settled(s: &[u8], end: usize, names: &[u32], c: Cycle, n: u32, at: usize)
     requires found_alternatives { FoundAlternatives (words s.now) end inner_depth n at }
     ensures { AnySettles names.now c (words s.now) end inner_depth n at result }
 {
-    let mut i: u32 = n;
     let mut p = at;
-    while i != 0 {
+    for _ in 0..n {
         let head = alternative_head(s, end, Block::DEPTH, p);
         let count = head.count;
         let first = head.first;
@@ -88,7 +80,6 @@ fn any_settled(s: &[u8], end: usize, names: &[u32], c: Cycle, n: u32, at: usize)
             return true;
         }
         p = alternative_end(s, end, Block::DEPTH, p);
-        i -= 1;
     }
     false
 }
@@ -100,10 +91,7 @@ fn is_candidate(s: &[u8], end: usize, names: &[u32], c: Cycle, i: usize, at: usi
     ensures { IsCandidate names.now c (words s.now) end i at result }
 {
     let members = c.members;
-    if has(members, i) {
-        return any_settled(s, end, names, c, word(s, at + 3), at + 4);
-    }
-    false
+    has(members, i) && any_settled(s, end, names, c, word(s, at + 3), at + 4)
 }
 
 // Every rule looked at.
@@ -114,13 +102,8 @@ pub fn candidates(s: &[u8], end: usize, rules: Rules, c: Cycle) -> [u64; Row::WO
 {
     let names = rules.names;
     let places = rules.places;
-    let n = c.n;
-    let mut r = [0u64; Row::WORDS];
-    let mut i = 0;
-    while i < n {
-        let t = add_if(r, i, is_candidate(s, end, &names, c, i, index(places[i])));
-        r = t;
-        i += 1;
-    }
-    r
+    collect(
+        c.n,
+        |i| is_candidate(s, end, &names, c, i, places[i] as usize),
+    )
 }

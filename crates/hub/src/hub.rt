@@ -8,7 +8,7 @@ ghost use Rattle.hub.specs.Hub.{Chosen};
 
 use crate::calls::calls_from;
 use crate::corner::{Cycle, candidates};
-use reach::cycles::{Next, first};
+use reach::cycles::first;
 use reach::rows::{Row, meet};
 use records::rules::Rules;
 
@@ -22,7 +22,7 @@ pub fn choose_hub(
     calls: &[[u64; Row::WORDS]; Row::RULES],
     members: [u64; Row::WORDS],
     kept: [u64; Row::WORDS],
-) -> Next
+) -> Option<usize>
     requires room { Room s.now end × (length calls.now ≡ rule_limit) }
     requires standing { Standing (words s.now) end rules }
     ensures { Chosen (words s.now) end rules nullable calls.now members kept result }
@@ -36,8 +36,5 @@ pub fn choose_hub(
     };
     let can = candidates(s, end, rules, c);
     let wanted = meet(can, calls_from(calls, n, members, kept));
-    match first(ids, wanted, n) {
-        Next::Rule(i) => Next::Rule(i),
-        Next::Done => first(ids, can, n),
-    }
+    first(ids, wanted, n).or_else(|| first(ids, can, n))
 }

@@ -6,11 +6,12 @@ ghost use Rattle.grammar.specs.Lists.{member, rising};
 ghost use Rattle.reach.specs.Rows.{RowOf};
 ghost use Rattle.hub.specs.Preserved.{between};
 
-use reach::rows::{Row, add_if};
+use reach::rows::{Row, collect};
 use records::rules::Rules;
 use words::words::word;
 
 // Whether an id is among the words from `from` up to `to`, which rise: by halving.
+// Stays: the words are read out of the bytes of the sheet, so there is no slice of them for std's search to go over.
 pub fn is_preserved(s: &[u8], from: usize, to: usize, id: u32) -> bool
     requires from_le_to { (from ≤ to) × (4 * to ≤ length s.now) }
     requires to_value { rising (between (words s.now) from to) ≡ true }
@@ -40,13 +41,5 @@ pub fn preserved_rows(s: &[u8], rules: Rules, from: usize, to: usize) -> [u64; R
     ensures { RowOf rules.ids rules.n (between (words s.now) from to) result }
 {
     let ids = rules.ids;
-    let n = rules.n as usize;
-    let mut r = [0u64; Row::WORDS];
-    let mut i = 0;
-    while i < n {
-        let t = add_if(r, i, is_preserved(s, from, to, ids[i]));
-        r = t;
-        i += 1;
-    }
-    r
+    collect(rules.n as usize, |i| is_preserved(s, from, to, ids[i]))
 }

@@ -8,6 +8,7 @@ use reach::rows::{Row, is_empty, meet, minus, with, without};
 
 // Rounds, each of which takes away what the planned list or a rule that stays calls, until one takes nothing. The hub's old body
 // does not count: the planned list stands for it.
+#[tactic(auto, using(crate::proofs::Laws::Removal::thinning))]
 fn thinned(
     calls: &[[u64; Row::WORDS]; Row::RULES],
     n: usize,

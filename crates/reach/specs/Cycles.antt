@@ -1,7 +1,5 @@
 -- Cycles by bits (SPECIFICATION 6.7): who is on one, and who has the least id.
-use Rattle.std.specs.Prelude.{ℕ, ◌≤◌, ◌<◌, ◌≡◌, ◌↔◌, List, true, false, get_or}
-use Rattle.reach.specs.declared.cycles.Next.{Next}
-use Rattle.reach.specs.declared.cycles.Next.TheVariants.{Done, Rule}
+use Rattle.std.specs.Prelude.{ℕ, ◌≤◌, ◌<◌, ◌≡◌, ◌↔◌, List, true, false, get_or, Option, Some, None}
 use Rattle.reach.specs.Rows.{bit, edge}
 use Rattle.reach.specs.Reach.{Path, other}
 
@@ -20,6 +18,6 @@ pub record Least (ids left : List ℕ) (n i : ℕ) : Type 0 where
 pub record NoneLeft (left : List ℕ) (n : ℕ) : Type 0 where
   pub none : (j : ℕ) → j < n → bit left j ≡ false
 
-abbrev pub IsNext : List ℕ → List ℕ → ℕ → Next → Type 0
-IsNext ids left n Done = NoneLeft left n
-IsNext ids left n (Rule i) = Least ids left n i
+abbrev pub IsNext : List ℕ → List ℕ → ℕ → Option ℕ → Type 0
+IsNext ids left n None = NoneLeft left n
+IsNext ids left n (Some i) = Least ids left n i

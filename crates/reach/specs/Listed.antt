@@ -1,13 +1,11 @@
 -- The cycles that the definition lists, as rows of bits have them (SPECIFICATION 6.8).
-use Rattle.std.specs.Prelude.{ℕ, ◌≤◌, ◌<◌, ◌≡◌, List, [], ◌∷◌, ◌++◌, map, Bool, true, false, ◌&&◌, length, get_or}
+use Rattle.std.specs.Prelude.{ℕ, ◌≤◌, ◌<◌, ◌≡◌, List, [], ◌∷◌, ◌++◌, map, true, ◌&&◌, length, get_or, Option, Some, None}
 use Rattle.grammar.specs.Tree.{Block, RuleOf}
 use Rattle.grammar.specs.Lists.{each, member, distinct}
 use Rattle.grammar.specs.Corners.{Corners}
 use Rattle.reference.specs.Analysis.{Grammar, Row, row_ids, row_of, reach, component, cycles_from, left_corner_cycles}
 use Rattle.graph.specs.Order.{Rising}
 use Rattle.reach.specs.declared.cycles.Ahead.{Ahead}
-use Rattle.reach.specs.declared.cycles.Next.{Next}
-use Rattle.reach.specs.declared.cycles.Next.TheVariants.{Done, Rule}
 use Rattle.reach.specs.Rows.{bit, edge, Minus, RowOf, Behind}
 use Rattle.reach.specs.Reach.{Loops, Around}
 
@@ -56,9 +54,9 @@ pub record Given (rows : List Row) (n : ℕ) (all closed : List (List ℕ)) (lef
   pub around : (row : List ℕ) → Around closed i n row → Members rows n row (component (reach rows) (row_at rows i).id)
   pub behind : (row less : List ℕ) → Around closed i n row → Minus left row less → Left rows n all closed less rest
 
-abbrev pub Gives : List Row → ℕ → List (List ℕ) → List (List ℕ) → List ℕ → List (List ℕ) → Next → Type 0
-Gives rows n all closed left cycles Done = cycles ≡ []
-Gives rows n all closed left cycles (Rule i) = Given rows n all closed left i cycles
+abbrev pub Gives : List Row → ℕ → List (List ℕ) → List (List ℕ) → List ℕ → List (List ℕ) → Option ℕ → Type 0
+Gives rows n all closed left cycles None = cycles ≡ []
+Gives rows n all closed left cycles (Some i) = Given rows n all closed left i cycles
 
 -- In the definition: the cycles of rules whose left corners the rows have are those of the rules that reach themselves,
 pub record AllLeft (corners : List (List ℕ)) (n : ℕ) (closed : List (List ℕ)) : Type 0 where
@@ -67,7 +65,7 @@ pub record AllLeft (corners : List (List ℕ)) (n : ℕ) (closed : List (List �
       → Left (corner_rows c g d rs) n (left_corner_cycles c g d rs) closed row (left_corner_cycles c g d rs)
 
 -- and the next one is that of the rule with the least id.
-pub record GivesNext (ids left : List ℕ) (n : ℕ) (r : Next) : Type 0 where
+pub record GivesNext (ids left : List ℕ) (n : ℕ) (r : Option ℕ) : Type 0 where
   pub gives : (rows : List Row) (all closed cycles : List (List ℕ)) → Ids rows n ids → Left rows n all closed left cycles
       → Gives rows n all closed left cycles r
 
@@ -79,13 +77,13 @@ pub record Taken (rows : List Row) (ids : List ℕ) (n : ℕ) (all closed cycles
   pub members : RowOf ids n cycle row
   pub behind : Left rows n all closed less rest
 
-abbrev pub Takes : List Row → List ℕ → ℕ → List (List ℕ) → List (List ℕ) → List (List ℕ) → List ℕ → List ℕ → Bool → Type 0
-Takes rows ids n all closed cycles row less true = cycles ≡ []
-Takes rows ids n all closed cycles row less false = Taken rows ids n all closed cycles row less
+abbrev pub Takes : List Row → List ℕ → ℕ → List (List ℕ) → List (List ℕ) → List (List ℕ) → Option Ahead → Type 0
+Takes rows ids n all closed cycles None = cycles ≡ []
+Takes rows ids n all closed cycles (Some a) = Taken rows ids n all closed cycles a.members a.left
 
-pub record AheadOf (closed : List (List ℕ)) (ids : List ℕ) (n : ℕ) (left : List ℕ) (r : Ahead) : Type 0 where
+pub record AheadOf (closed : List (List ℕ)) (ids : List ℕ) (n : ℕ) (left : List ℕ) (r : Option Ahead) : Type 0 where
   pub takes : (rows : List Row) (all cycles : List (List ℕ)) → Ids rows n ids → Left rows n all closed left cycles
-      → Takes rows ids n all closed cycles r.members r.left r.done
+      → Takes rows ids n all closed cycles r
 
 -- Cycles in their order, as rows from the first on.
 pub record CycleRows (ids : List ℕ) (n : ℕ) (all rows : List (List ℕ)) (r : ℕ) : Type 0 where

@@ -36,6 +36,11 @@ pub record Minus (a b r : List ℕ) : Type 0 where
 pub record AddIf (row : List ℕ) (j : ℕ) (on : Bool) (r : List ℕ) : Type 0 where
   pub at : (k : ℕ) → bit r k ≡ (bit row k || (on && eqb k j))
 
+-- Of the rules below n, those for which a test gives yes.
+pub record Collected (Gives : ℕ → Bool → Type 0) (n : ℕ) (r : List ℕ) : Type 0 where
+  pub below : (k : ℕ) → k < n → Gives k (bit r k)
+  pub beyond : (k : ℕ) → n ≤ k → bit r k ≡ false
+
 -- Whether a row has no bits.
 pub record Empty (row : List ℕ) (r : Bool) : Type 0 where
   pub none : r ≡ true → (j : ℕ) → bit row j ≡ false

@@ -1,5 +1,5 @@
 -- What holds before and after one step of the loops over rows.
-use Rattle.std.specs.Prelude.{ℕ, ◌≤◌, ◌<◌, ◌≡◌, ◌↔◌, List, true, ◌&&◌, ◌||◌, length, get_or, ltb}
+use Rattle.std.specs.Prelude.{ℕ, ◌<◌, ◌≡◌, ◌↔◌, List, true, ◌&&◌, ◌||◌, length, ltb}
 use Rattle.grammar.specs.Numbers.{rule_limit}
 use Rattle.reach.specs.Rows.{bit, edge}
 use Rattle.reach.specs.Reach.{Path}
@@ -20,9 +20,3 @@ pub record Below (n : ℕ) (r : List ℕ) : Type 0 where
 -- A row that every rule on a cycle is in.
 pub record Holds (rows : List (List ℕ)) (n : ℕ) (row : List ℕ) : Type 0 where
   pub at : (i : ℕ) → i < n → Path (edge rows) n i i → bit row i ≡ true
-
--- The best of those in front of i; n is none.
-pub record Best (ids left : List ℕ) (n i best : ℕ) : Type 0 where
-  pub most : best ≤ n
-  pub there : best < n → bit left best ≡ true
-  pub least : (j : ℕ) → j < i → bit left j ≡ true → (best < n) × (get_or ids best 0 ≤ get_or ids j 0)

@@ -2,7 +2,6 @@
 // `first` that is left names a cycle, whose members are `around` it; `minus` these, the later cycles are left.
 ghost use Rattle.std.specs.Prelude.{◌≡◌, ◌+◌, ◌<◌, ◌≤◌, length};
 ghost use Rattle.grammar.specs.Numbers.{rule_limit};
-ghost use Rattle.reach.specs.Steps.{Best};
 ghost use Rattle.reach.specs.Cycles.{Joined, IsNext};
 ghost use Rattle.reach.specs.Listed.{AllLeft, GivesNext, AheadOf, CyclesIn};
 
@@ -22,87 +21,59 @@ pub fn joined(corners: [[u64; Row::WORDS]; Row::RULES], n: usize) -> [[u64; Row:
     closed(edges, n)
 }
 
-// The rule with the least id in a row, or none.
-#[derive(Clone, Copy)]
-pub enum Next {
-    Done,
-    Rule(usize),
-}
-
-// The better of rule i and the best in front of it; n is none.
+// The better of rule i and the best in front of it.
 fn better(
     ids: &[u32; Row::RULES],
     left: [u64; Row::WORDS],
-    n: usize,
-    best: usize,
+    best: Option<usize>,
     i: usize,
-) -> usize
-    requires best { Best ids.now left n i best }
-    requires i_lt_n { (i < n) × (n ≤ rule_limit) }
-    ensures { Best ids.now left n (i + 1) result }
+) -> Option<usize>
+    requires best { IsNext ids.now left i best }
+    requires i_lt { i < rule_limit }
+    ensures { IsNext ids.now left (i + 1) result }
 {
-    if has(left, i) {
-        if best == n {
-            return i;
-        }
-        if ids[i] < ids[best] {
-            return i;
-        }
+    if has(left, i) && best.is_none_or(|b| ids[i] < ids[b]) {
+        return Some(i);
     }
     best
 }
 
-pub fn first(ids: [u32; Row::RULES], left: [u64; Row::WORDS], n: usize) -> Next
+// The rule with the least id in a row, or none.
+pub fn first(ids: [u32; Row::RULES], left: [u64; Row::WORDS], n: usize) -> Option<usize>
     requires { n ≤ rule_limit }
     ensures { IsNext ids left n result × GivesNext ids left n result }
 {
-    let mut best = n;
-    let mut i = 0;
-    while i < n {
-        best = better(&ids, left, n, best, i);
-        i += 1;
+    let mut best = None;
+    for i in 0..n {
+        best = better(&ids, left, best, i);
     }
-    if best < n {
-        return Next::Rule(best);
-    }
-    Next::Done
+    best
 }
 
-// The members of the next cycle and those of all behind it, unless none is left.
-#[derive(Clone, Copy)]
+// The members of a cycle and those of all behind it.
+#[derive(Clone, Copy, Debug, PartialEq, Eq)]
 pub struct Ahead {
-    pub done: bool,
     pub members: [u64; Row::WORDS],
     pub left: [u64; Row::WORDS],
 }
 
+// The next cycle, unless none is left.
 pub fn next_cycle(
     closed: &[[u64; Row::WORDS]; Row::RULES],
     ids: &[u32; Row::RULES],
     n: usize,
     left: [u64; Row::WORDS],
-) -> Ahead
+) -> Option<Ahead>
     requires { (n ≤ rule_limit) × (length closed.now ≡ rule_limit) }
     ensures { AheadOf closed.now ids.now n left result }
 {
-    match first(*ids, left, n) {
-        Next::Done => {
-            Ahead {
-                done: true,
-                members: left,
-                left,
-            }
-        }
-        Next::Rule(i) => {
-            let members = around(closed, i, n);
-            let later = minus(left, members);
-            Ahead {
-                done: false,
-                members,
-                left: later,
-            }
-        }
-    }
+    let i = first(*ids, left, n)?;
+    let members = around(closed, i, n);
+    let later = minus(left, members);
+    Some(Ahead {
+        members,
+        left: later,
+    })
 }
 
 // The cycles in their order, a row each; returned is how many there are.
@@ -117,16 +88,13 @@ pub fn list_cycles(
 {
     let closed = joined(corners, n);
     let mut left = loops(&closed, n);
-    let mut k = 0;
-    while k < n {
-        let ahead = next_cycle(&closed, &ids, n, left);
-        if ahead.done {
+    for k in 0..n {
+        let Some(ahead) = next_cycle(&closed, &ids, n, left) else {
             return k as u32;
-        }
+        };
         let members = ahead.members;
         cycles[k] = members;
         left = ahead.left;
-        k += 1;
     }
-    k as u32
+    n as u32
 }

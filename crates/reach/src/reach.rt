@@ -4,7 +4,7 @@ ghost use Rattle.grammar.specs.Numbers.{rule_limit};
 ghost use Rattle.reach.specs.Reach.{Others, Closed, Loops, Around};
 ghost use Rattle.reach.specs.Steps.{Through};
 
-use crate::rows::{Row, add_if, has, is_empty, meet, union, without};
+use crate::rows::{Row, collect, has, is_empty, meet, union, without};
 
 // The edges between different rules.
 pub fn others(rows: [[u64; Row::WORDS]; Row::RULES], n: usize) -> [[u64; Row::WORDS]; Row::RULES]
@@ -12,11 +12,8 @@ pub fn others(rows: [[u64; Row::WORDS]; Row::RULES], n: usize) -> [[u64; Row::WO
     ensures { Others rows n result }
 {
     let mut r = rows;
-    let mut i = 0;
-    while i < n {
-        let t = without(r[i], i);
-        r[i] = t;
-        i += 1;
+    for i in 0..n {
+        r[i] = without(r[i], i);
     }
     r
 }
@@ -29,13 +26,10 @@ fn through(rows: &mut [[u64; Row::WORDS]; Row::RULES], k: usize, via: [u64; Row:
     if is_empty(via) {
         return;
     }
-    let mut i = 0;
-    while i < n {
+    for i in 0..n {
         if has(rows[i], k) {
-            let t = union(rows[i], via);
-            rows[i] = t;
+            rows[i] = union(rows[i], via);
         }
-        i += 1;
     }
 }
 
@@ -45,11 +39,9 @@ pub fn closed(rows: [[u64; Row::WORDS]; Row::RULES], n: usize) -> [[u64; Row::WO
     ensures { Closed rows n result }
 {
     let mut r = rows;
-    let mut k = 0;
-    while k < n {
+    for k in 0..n {
         let via = r[k];
         through(&mut r, k, via, n);
-        k += 1;
     }
     r
 }
@@ -59,14 +51,7 @@ pub fn loops(reach: &[[u64; Row::WORDS]; Row::RULES], n: usize) -> [u64; Row::WO
     requires { (n ≤ rule_limit) × (length reach.now ≡ rule_limit) }
     ensures { Loops reach.now n result }
 {
-    let mut r = [0; Row::WORDS];
-    let mut i = 0;
-    while i < n {
-        let t = add_if(r, i, has(reach[i], i));
-        r = t;
-        i += 1;
-    }
-    r
+    collect(n, |i| has(reach[i], i))
 }
 
 // The rules that rule i reaches and that reach it.
@@ -74,12 +59,5 @@ pub fn around(reach: &[[u64; Row::WORDS]; Row::RULES], i: usize, n: usize) -> [u
     requires { (i < n) × (n ≤ rule_limit) × (length reach.now ≡ rule_limit) }
     ensures { Around reach.now i n result }
 {
-    let mut r = [0; Row::WORDS];
-    let mut j = 0;
-    while j < n {
-        let t = add_if(r, j, has(reach[j], i));
-        r = t;
-        j += 1;
-    }
-    meet(reach[i], r)
+    meet(reach[i], collect(n, |j| has(reach[j], i)))
 }

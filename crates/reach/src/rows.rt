@@ -1,8 +1,10 @@
 // Sets of rules: a row has a bit for each of 128 rules, in two words of 64 bits.
-ghost use Rattle.std.specs.Prelude.{◌≡◌, ◌∷◌, [], ◌<◌};
+ghost use Rattle.std.specs.Prelude.{ℕ, ◌≡◌, ◌∷◌, [], ◌<◌, ◌≤◌};
 ghost use Rattle.grammar.specs.Numbers.{rule_limit};
-ghost use Rattle.reach.specs.Rows.{bit, One, With, Without, Union, Meet, Minus, AddIf, Empty};
+ghost use Rattle.reach.specs.Rows.{bit, One, With, Without, Union, Meet, Minus, AddIf, Collected, Empty};
 
+// Stays: rows are arrays by value and the functions over them are free ones, since SPECIFICATION 17.1 fixes reachability over
+// `[[u64; 2]; 128]` by value; `Row` has no more than their sizes.
 #[derive(Drop)]
 pub struct Row;
 
@@ -81,6 +83,20 @@ pub fn add_if(row: [u64; Row::WORDS], j: usize, on: bool) -> [u64; Row::WORDS]
         return with(row, j);
     }
     row
+}
+
+// The rules below n that pass a test.
+pub fn collect<F: Fn(usize) -> bool>(n: usize, test: F) -> [u64; Row::WORDS]
+    requires room { n ≤ rule_limit }
+    requires test { (i : ℕ) → i < n → F.pre test i }
+    ensures { Collected (F.post test) n result }
+{
+    let mut r = [0; Row::WORDS];
+    for i in 0..n {
+        let t = add_if(r, i, test(i));
+        r = t;
+    }
+    r
 }
 
 fn are_zero(a: u64, b: u64) -> bool

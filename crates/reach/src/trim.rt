@@ -3,7 +3,7 @@ ghost use Rattle.std.specs.Prelude.{◌<◌, ◌≤◌};
 ghost use Rattle.grammar.specs.Numbers.{rule_limit};
 ghost use Rattle.reach.specs.Steps.{Below, Kept, Holds};
 
-use crate::rows::{Row, is_empty, meet, with, without};
+use crate::rows::{Row, collect, is_empty, meet, without};
 
 // A rule stays in a row if it leads to one that is in it.
 fn kept(row: [u64; Row::WORDS], i: usize, to: [u64; Row::WORDS]) -> [u64; Row::WORDS]
@@ -21,14 +21,7 @@ fn all(n: usize) -> [u64; Row::WORDS]
     requires { n ≤ rule_limit }
     ensures { Below n result }
 {
-    let mut r = [0; Row::WORDS];
-    let mut i = 0;
-    while i < n {
-        let t = with(r, i);
-        r = t;
-        i += 1;
-    }
-    r
+    collect(n, |_| true)
 }
 
 // Every rule on a cycle stays: one that leads to no rule left is on none. From the last rule to the first, and back.
@@ -37,16 +30,13 @@ pub fn trim(rows: [[u64; Row::WORDS]; Row::RULES], n: usize) -> [u64; Row::WORDS
     ensures { Holds rows n result }
 {
     let mut r = all(n);
-    let mut i = n;
-    while i != 0 {
-        i -= 1;
+    for i in (0..n).rev() {
         let t = kept(r, i, rows[i]);
         r = t;
     }
-    while i < n {
+    for i in 0..n {
         let t = kept(r, i, rows[i]);
         r = t;
-        i += 1;
     }
     r
 }

@@ -7,7 +7,7 @@ use Rattle.reference.specs.Analysis.{ids_of}
 use Rattle.reach.specs.Rows.{bit, RowOf}
 use Rattle.analysis.specs.Facts.{Among}
 use Rattle.renew.specs.Less.{after, Less, RowsLess}
-use Rattle.renew.specs.declared.places.Rest.{Rest}
+use Rattle.renew.specs.declared.renew.Renewed.{Renewed}
 
 -- The rules that stay where those in a list are gone.
 abbrev pub staying : List ℕ → List Rule → List Rule
@@ -27,13 +27,13 @@ module _ (rs : List Rule) where
     pub inside : i < length rs
     pub is : get_or (ids_of rs) i 0 ≡ id
 
-module _ (cs ks : List (List ℕ)) (m : Rest) (cs' ks' : List (List ℕ)) (m' : Rest) where
+module _ (cs ks : List (List ℕ)) (m : Renewed) (cs' ks' : List (List ℕ)) (m' : Renewed) where
   -- All rows without place k, of n.
   pub record PlaceLess (n k : ℕ) : Type 0 where
     pub calls : RowsLess n k cs cs'
     pub corners : RowsLess n k ks ks'
-    pub nullable : Less m.nullable k m'.nullable
-    pub stops : Less m.stops k m'.stops
+    pub nullable : Less m.marks.nullable k m'.marks.nullable
+    pub stops : Less m.marks.stops k m'.marks.stops
     pub kept : Less m.kept k m'.kept
     pub hub : m'.hub ≡ after k m.hub
 
@@ -54,8 +54,8 @@ module _ (cs ks : List (List ℕ)) (m : Rest) (cs' ks' : List (List ℕ)) (m' : 
   pub record Fewer (rs qs : List Rule) (gone : List ℕ) : Type 0 where
     pub calls : (give : Rule → List ℕ) → HasRows rs give cs → HasRows qs give cs'
     pub corners : (give : Rule → List ℕ) → HasRows rs give ks → HasRows qs give ks'
-    pub nullable : (xs : List ℕ) → HasRow rs xs m.nullable → HasRow qs xs m'.nullable
-    pub stops : (xs : List ℕ) → HasRow rs xs m.stops → HasRow qs xs m'.stops
+    pub nullable : (xs : List ℕ) → HasRow rs xs m.marks.nullable → HasRow qs xs m'.marks.nullable
+    pub stops : (xs : List ℕ) → HasRow rs xs m.marks.stops → HasRow qs xs m'.marks.stops
     pub kept : (xs : List ℕ) → HasRow rs xs m.kept → HasRow qs xs m'.kept
     pub hub : (h : ℕ) → member h gone ≡ false → IsAt rs m.hub h → IsAt qs m'.hub h
 

@@ -1,4 +1,6 @@
 // A row with a place taken out: the places above it move down by one.
+#![tactic(auto, using(crate::proofs::Laws::Words::lesses))]
+
 ghost use Rattle.std.specs.Prelude.{◌∷◌, [], ◌<◌};
 ghost use Rattle.grammar.specs.Numbers.{rule_limit};
 ghost use Rattle.renew.specs.Less.{WordLess, Less};

@@ -5,18 +5,12 @@ ghost use Rattle.renew.specs.Less.{before, after, RowsLess};
 ghost use Rattle.renew.specs.Fewer.{PlaceLess, PlaceLessIf, RulesLess};
 
 use crate::less::without_place;
+use crate::renew::Renewed;
+use analysis::rounds::Marks;
 use reach::rows::{Row, has};
 
-// Rows by value, and the hub's place.
-#[derive(Clone, Copy)]
-pub struct Rest {
-    pub nullable: [u64; Row::WORDS],
-    pub stops: [u64; Row::WORDS],
-    pub kept: [u64; Row::WORDS],
-    pub hub: usize,
-}
-
 // Where the rule at place i stood before place k was taken out.
+#[tactic(auto, using(crate::proofs::Laws::Less::befores))]
 fn place_before(k: usize, i: usize) -> usize
     requires { i < rule_limit }
     ensures { (result ≡ before k i) × (result ≤ i + 1) }
@@ -28,6 +22,7 @@ fn place_before(k: usize, i: usize) -> usize
 }
 
 // Where the rule at place i stands when place k is taken out.
+#[tactic(auto, using(crate::proofs::Laws::Less::afters))]
 fn place_after(k: usize, i: usize) -> usize
     ensures { result ≡ after k i }
 {
@@ -42,37 +37,36 @@ fn rows_less(rows: &mut [[u64; Row::WORDS]; Row::RULES], n: usize, k: usize)
     requires { (k < n) × (n ≤ rule_limit) × (length rows.old ≡ rule_limit) }
     ensures { RowsLess n k rows.old rows.new }
 {
-    let last = n - 1;
-    let mut i = 0;
-    while i < last {
+    for i in 0..n - 1 {
         let from = place_before(k, i);
-        let row = rows[from];
-        let t = without_place(row, k);
-        rows[i] = t;
-        i += 1;
+        rows[i] = without_place(rows[from], k);
     }
 }
 
 // All without place k.
 fn place_less(
-    m: Rest,
+    m: Renewed,
     n: usize,
     k: usize,
     calls: &mut [[u64; Row::WORDS]; Row::RULES],
     corners: &mut [[u64; Row::WORDS]; Row::RULES],
-) -> Rest
+) -> Renewed
     requires k_lt_n { (k < n) × (n ≤ rule_limit) }
     requires calls_len { (length calls.old ≡ rule_limit) × (length corners.old ≡ rule_limit) }
     ensures { PlaceLess calls.old corners.old m calls.new corners.new result n k }
 {
     rows_less(calls, n, k);
     rows_less(corners, n, k);
-    let a = m.nullable;
-    let b = m.stops;
+    let marks = m.marks;
+    let a = marks.nullable;
+    let b = marks.stops;
     let c = m.kept;
-    Rest {
+    let less = Marks {
         nullable: without_place(a, k),
         stops: without_place(b, k),
+    };
+    Renewed {
+        marks: less,
         kept: without_place(c, k),
         hub: place_after(k, m.hub),
     }
@@ -81,12 +75,12 @@ fn place_less(
 // All without place k, if rule k is gone.
 fn place_less_if(
     gone: [u64; Row::WORDS],
-    m: Rest,
+    m: Renewed,
     n: usize,
     k: usize,
     calls: &mut [[u64; Row::WORDS]; Row::RULES],
     corners: &mut [[u64; Row::WORDS]; Row::RULES],
-) -> Rest
+) -> Renewed
     requires k_lt_n { (k < n) × (n ≤ rule_limit) }
     requires calls_len { (length calls.old ≡ rule_limit) × (length corners.old ≡ rule_limit) }
     ensures { PlaceLessIf calls.old corners.old m calls.new corners.new result gone n k }
@@ -100,19 +94,17 @@ fn place_less_if(
 // All without the places of the rules that are gone.
 pub fn rules_less(
     gone: [u64; Row::WORDS],
-    m: Rest,
+    m: Renewed,
     n: usize,
     calls: &mut [[u64; Row::WORDS]; Row::RULES],
     corners: &mut [[u64; Row::WORDS]; Row::RULES],
-) -> Rest
+) -> Renewed
     requires n_le_rule_limit { n ≤ rule_limit }
     requires calls_len { (length calls.old ≡ rule_limit) × (length corners.old ≡ rule_limit) }
     ensures { RulesLess calls.old corners.old m calls.new corners.new result gone n }
 {
     let mut t = m;
-    let mut k = n;
-    while k != 0 {
-        k -= 1;
+    for k in (0..n).rev() {
         let u = place_less_if(gone, t, n, k, calls, corners);
         t = u;
     }

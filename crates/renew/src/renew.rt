@@ -7,16 +7,16 @@ ghost use Rattle.analysis.specs.Names.{table_with};
 ghost use Rattle.analysis.specs.Facts.{Standing};
 ghost use Rattle.renew.specs.Renewed.{BitPut, HubSurveyed, Renewable, RenewedOf};
 
-use crate::places::{Rest, rules_less};
+use crate::places::rules_less;
 use analysis::leaf::Known;
-use analysis::names::{index, put_names};
+use analysis::names::put_names;
 use analysis::rounds::Marks;
 use analysis::survey::survey_rule;
 use reach::rows::{Row, add_if, without};
 use records::rules::Rules;
 
 // What is known of the rules that stay, and the hub's place among them.
-#[derive(Clone, Copy)]
+#[derive(Clone, Copy, Debug, PartialEq, Eq)]
 pub struct Renewed {
     pub marks: Marks,
     pub kept: [u64; Row::WORDS],
@@ -57,7 +57,7 @@ fn survey_hub(
     let n = rules.n as usize;
     put_names(&names, n, work);
     let known = Known { n, nullable, past };
-    let v = survey_rule(s, end, &names, known, work, index(places[hub]));
+    let v = survey_rule(s, end, &names, known, work, places[hub] as usize);
     let c = v.calls;
     let k = v.corners;
     calls[hub] = c;
@@ -88,17 +88,11 @@ pub fn renew(
     ensures calls_len_2 { (length calls.new ≡ rule_limit) × (length corners.new ≡ rule_limit) }
     ensures work_after { work.new ≡ table_with rules.names rules.n work.old }
 {
-    let a = marks.nullable;
-    let b = marks.stops;
-    let before = Rest {
-        nullable: a,
-        stops: b,
-        kept,
-        hub,
-    };
+    let before = Renewed { marks, kept, hub };
     let rest = rules_less(gone, before, n, calls, corners);
-    let nullable = rest.nullable;
-    let c = rest.stops;
+    let known = rest.marks;
+    let nullable = known.nullable;
+    let c = known.stops;
     let kept = rest.kept;
     let stops = survey_hub(
         s, end, rules, rest.hub, past, nullable, c, calls, corners, work,

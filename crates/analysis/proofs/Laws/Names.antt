@@ -5,12 +5,13 @@ use mathlib.Core.List.{List}
 use mathlib.Core.Bool.{true, false}
 use native.Mathlib.Omega.{arith}
 use native.Mathlib.Numerals.{add-one}
-use lib.ListN.{length, get_or, set, length-set}
+use lib.ListN.{length, get_or, set, take, length-set}
+use Rattle.std.proofs.Common.{get_or-take, length-take-le}
 use lib.Dec.{eqb, ltb}
 use borrow.Author.Tests.{eqb-true, eqb-false, ltb-true, ltb-false, lt-ltb, eq-eqb}
 use Rattle.grammar.specs.Laws.Parse.{either, left_true, right_true}
 use Rattle.analysis.specs.Names.{is_named, slots, table_with, Told, Tabled, At, IsTarget}
-use Rattle.analysis.specs.declared.names.Target.TheVariants.{Unknown, Rule}
+use Rattle.std.specs.Prelude.{Option, Some, None, MatchOption, EachIndex, slice_index, ◌≢◌}
 
 -- The first i names are in the table.
 pub record Putting (names : List ℕ) (n : ℕ) (before table : List ℕ) (i : ℕ) : Type 0 where
@@ -74,14 +75,14 @@ module _ {names : List ℕ} {n m : ℕ} where
             (λ y. let z = named_is names n m j y in absurd (eqb-false j i x (there j z.0 z.1)))
             (λ y. y ∙ sym x)
 
-    target_at : i < n → get_or names i 0 ≡ m → IsTarget names n m (Rule i)
+    target_at : i < n → get_or names i 0 ≡ m → IsTarget names n m (Some i)
     target_at l e =
         record {
           rule = λ j f. let g : i ≡ j = cc in rw (← g) (found_at l e);
           unknown = λ f. absurd (let z : ◌≡◌ {A = ℕ} 0 1 = cc in omega arith);
         }
 
-  target_none : ((j : ℕ) → j < n → get_or names j 0 ≡ m → ⊥) → IsTarget names n m Unknown
+  target_none : ((j : ℕ) → j < n → get_or names j 0 ≡ m → ⊥) → IsTarget names n m None
   target_none never =
       record {
         rule = λ j f. absurd (let z : ◌≡◌ {A = ℕ} 0 1 = cc in omega arith);
@@ -92,16 +93,19 @@ module _ {names : List ℕ} {n m : ℕ} where
       }
 
 -- A rule that has the name is the only one.
-pub target_found : {names : List ℕ} {n : ℕ} {table : List ℕ} → Tabled names n table → {m i : ℕ} → i < n → get_or names i 0 ≡ m
-    → IsTarget names n m (Rule i)
-target_found t {m} {i} l e =
+only_target : {names : List ℕ} {n : ℕ} → Told names n → {m i : ℕ} → i < n → get_or names i 0 ≡ m → IsTarget names n m (Some i)
+only_target t {m} {i} l e =
     target_at
     (λ j k f.
-    either (ltb j i) (λ x. absurd (t.told.apart j i (ltb-true j i x) l (f ∙ sym e)))
+    either (ltb j i) (λ x. absurd (t.apart j i (ltb-true j i x) l (f ∙ sym e)))
     (λ x.
     either (eqb j i) (eqb-true j i) (λ y.
-    absurd (let a = ltb-false j i x in let b = eqb-false j i y in t.told.apart i j (omega arith) k (e ∙ sym f)))))
+    absurd (let a = ltb-false j i x in let b = eqb-false j i y in t.apart i j (omega arith) k (e ∙ sym f)))))
     l e
+
+pub target_found : {names : List ℕ} {n : ℕ} {table : List ℕ} → Tabled names n table → {m i : ℕ} → i < n → get_or names i 0 ≡ m
+    → IsTarget names n m (Some i)
+target_found t l e = only_target t.told l e
 
 pub table_room : {names : List ℕ} {n : ℕ} {table : List ℕ} → Tabled names n table → (length table ≡ 0 → ⊥) → {m : ℕ} → m < slots
     → m < length table
@@ -112,37 +116,15 @@ names_room t l = let f = t.told.few in omega arith
 
 pub ruleset lookups = (target_found, table_room, names_room)
 
--- Looking through the names: those in front of i are others.
-pub record Scanning (names : List ℕ) (n m i : ℕ) : Type 0 where
-  pub told : Told names n
-  pub others : (j : ℕ) → j < i → get_or names j 0 ≡ m → ⊥
-
-pub scan_none : {names : List ℕ} {n : ℕ} (m : ℕ) → Told names n → Scanning names n m 0
-scan_none m t = record { told = t; others = λ j l e. absurd (omega arith) }
-
-module _ {names : List ℕ} {n m i : ℕ} (s : Scanning names n m i) where
-  pub scan_room : i < n → i < length names
-  scan_room l = let f = s.told.few in omega arith
-
-  pub scan_more : (get_or names i 0 ≡ m → ⊥) → Scanning names n m (i + 1)
-  scan_more d =
-      record {
-        told = s.told;
-        others = λ j l e.
-            either (eqb j i) (λ x. d (rw (eqb-true j i x) at e)) (λ x. let y = eqb-false j i x in s.others j (omega arith) e);
-      }
-
-  pub scan_found : i < n → get_or names i 0 ≡ m → IsTarget names n m (Rule i)
-  scan_found l e =
-      target_at
-      (λ j k f.
-      either (ltb j i) (λ x. absurd (s.others j (ltb-true j i x) f))
-      (λ x.
-      either (eqb j i) (eqb-true j i) (λ y.
-      absurd (let a = ltb-false j i x in let b = eqb-false j i y in s.told.apart i j (omega arith) k (e ∙ sym f)))))
-      l e
-
-  pub scan_past : n ≤ i → IsTarget names n m Unknown
-  scan_past l = target_none {names = names} {n = n} {m = m} λ j k e. s.others j (omega arith) e
-
-pub ruleset scans = (scan_none, scan_room, scan_more, scan_found, scan_past)
+-- What looking through the names finds: the place of the first that is the name, or that there is none.
+pub scanned : {names : List ℕ} {n : ℕ} → Told names n → {m : ℕ} (r : Option ℕ)
+    → MatchOption r (EachIndex (take n names) (λ k. slice_index (take n names) k ≢ m))
+    (λ i. (i < length (take n names)) × (slice_index (take n names) i ≡ m))
+    → IsTarget names n m r
+scanned {names} {n} t {m} None h = target_none {names = names} {n = n} {m = m}
+    λ j k e. h j (rw (length-take-le n names t.few) k) (get_or-take n names j 0 k ∙ e)
+scanned {names} {n} t {m} (Some i) h =
+    let few = t.few in
+    let long : length (take n names) ≡ n = length-take-le n names t.few in
+    let low : i < n = omega (arith, h.0) in
+    only_target t low (sym (get_or-take n names i 0 low) ∙ h.1)

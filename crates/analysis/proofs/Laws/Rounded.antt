@@ -89,7 +89,7 @@ module _ {ws : List ℕ} {end : ℕ} {rules : Rules} (s : Standing ws end rules)
     abbrev grammar : Grammar
     grammar = record { names = names_of rs; nullable = xs }
 
-    abbrev kept : {i : ℕ} (a : Among rs i) → Recorded (record { names = rules.names; n = rules.n; nullable = row; past = past }) ws end (get_or rules.places i 0) i cs ks m.nullable m.stops
+    abbrev kept : {i : ℕ} (a : Among rs i) → Recorded (record { names = rules.names; n = rules.n; nullable = row; past = past }) ws end (get_or rules.places i 0) i cs ks m.marks.nullable m.marks.stops
     kept {i} a = r.each i (let l = few a in let c = all_rules s.rows in omega arith)
 
     meant : {i : ℕ} (a : Among rs i) → SurveyOf (reading past) grammar rules.ids (length rs) a.rule (kept a).survey
@@ -106,16 +106,16 @@ module _ {ws : List ℕ} {end : ℕ} {rules : Rules} (s : Standing ws end rules)
             call_rows = λ i a. rw (kept a).calls (meant a).calls;
             corner_rows = λ i a. rw (kept a).corners (meant a).corners;
           };
-          stops = marks_are (λ t. not (satellite_is_inlinable inner_depth t)) m.stops (λ i a. (kept a).stops ∙ (meant a).stops) r.stops_none;
-          nullable = marks_are (λ t. block_is_nullable grammar body_depth t.body) m.nullable nulls r.nullable_none;
+          stops = marks_are (λ t. not (satellite_is_inlinable inner_depth t)) m.marks.stops (λ i a. (kept a).stops ∙ (meant a).stops) r.stops_none;
+          nullable = marks_are (λ t. block_is_nullable grammar body_depth t.body) m.marks.nullable nulls r.nullable_none;
           count =
               r.counted
-              ∙ ap (count_below (bit m.nullable)) (all_rules s.rows)
-              ∙ count_kept (λ t. block_is_nullable grammar body_depth t.body) rs (bit m.nullable) nulls
+              ∙ ap (count_below (bit m.marks.nullable)) (all_rules s.rows)
+              ∙ count_kept (λ t. block_is_nullable grammar body_depth t.body) rs (bit m.marks.nullable) nulls
               ∙ sym (length-map (keep (λ t. block_is_nullable grammar body_depth t.body) rs) (λ t. t.id));
         }
       where
-        nulls : (i : ℕ) (a : Among rs i) → bit m.nullable i ≡ block_is_nullable grammar body_depth a.rule.body
+        nulls : (i : ℕ) (a : Among rs i) → bit m.marks.nullable i ≡ block_is_nullable grammar body_depth a.rule.body
         nulls i a = (kept a).nullable ∙ (meant a).nullable
 
 -- Rounds, with `left` to go: the definition's rounds from what is found so far.
@@ -151,7 +151,7 @@ module _ {ws : List ℕ} {end : ℕ} {rules : Rules} {left : ℕ} {found : List 
 
   -- What was found is all that is nullable.
   facts : (s : Standing ws end rules) → nullable_rules body_depth s.rows.found.trees ≡ (f.so s).list
-      → FactsOf (reading past) s.rows.found.trees rules.ids cs ks (record { nullable = found; stops = m.stops })
+      → FactsOf (reading past) s.rows.found.trees rules.ids cs ks (record { nullable = found; stops = m.marks.stops })
   facts s a =
       record {
         rows = rw a (by s).rows;
@@ -159,7 +159,7 @@ module _ {ws : List ℕ} {end : ℕ} {rules : Rules} {left : ℕ} {found : List 
         nullable = rw a (subst (λ k. RowOf rules.ids k (f.so s).list found) (all_rules s.rows) (f.so s).row);
       }
 
-  pub find_last : left ≡ 0 → FactsFound ws end rules past cs ks (record { nullable = found; stops = m.stops })
+  pub find_last : left ≡ 0 → FactsFound ws end rules past cs ks (record { nullable = found; stops = m.marks.stops })
   unfolding rounds
   find_last z = record { is = λ s. facts s ((f.so s).same ∙ rw z refl) }
 
@@ -169,7 +169,7 @@ module _ {ws : List ℕ} {end : ℕ} {rules : Rules} {left : ℕ} {found : List 
       (f.so s).same
       ∙ rw (z, rounds, eq-eqb (length (nullable_round body_depth s.rows.found.trees (f.so s).list)) (length (f.so s).list) (sym (by s).count ∙ c ∙ (f.so s).counted)) refl
 
-  pub find_stands : (left ≡ 0 → ⊥) → m.count ≡ count → FactsFound ws end rules past cs ks (record { nullable = found; stops = m.stops })
+  pub find_stands : (left ≡ 0 → ⊥) → m.count ≡ count → FactsFound ws end rules past cs ks (record { nullable = found; stops = m.marks.stops })
   find_stands z c = record { is = λ s. facts s (stands s (left - 1) (omega arith) c) }
 
   moves : (s : Standing ws end rules) (k : ℕ) → left ≡ suc k → (m.count ≡ count → ⊥)
@@ -180,14 +180,14 @@ module _ {ws : List ℕ} {end : ℕ} {rules : Rules} {left : ℕ} {found : List 
       (f.so s).same
       ∙ rw (z, rounds, ne_eqb (length (nullable_round body_depth s.rows.found.trees (f.so s).list)) (length (f.so s).list) (λ x. c ((by s).count ∙ x ∙ sym (f.so s).counted))) refl
 
-  pub find_more : (left ≡ 0 → ⊥) → (m.count ≡ count → ⊥) → Finding ws end rules (left - 1) m.nullable m.count
-  find_more z c =
+  pub find_more : {k : ℕ} → left ≡ suc k → (m.count ≡ count → ⊥) → Finding ws end rules k m.marks.nullable m.count
+  find_more {k} z c =
       record {
         so = λ s.
             record {
               list = nullable_round body_depth s.rows.found.trees (f.so s).list;
-              same = moves s (left - 1) (omega arith) c;
-              row = subst (λ k. RowOf rules.ids k (nullable_round body_depth s.rows.found.trees (f.so s).list) m.nullable) (sym (all_rules s.rows)) (by s).nullable;
+              same = moves s k z c;
+              row = subst (λ k. RowOf rules.ids k (nullable_round body_depth s.rows.found.trees (f.so s).list) m.marks.nullable) (sym (all_rules s.rows)) (by s).nullable;
               counted = (by s).count;
             };
       }

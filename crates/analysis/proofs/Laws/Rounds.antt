@@ -43,7 +43,7 @@ module _ {row row' : List ℕ} {i : ℕ} {on : Bool} (a : AddIf row i on row') w
   added_other k n = a.at k ∙ rw (ne_eqb k i n, and-false on) (or-false (bit row k))
 
 module _ {v : View} {ws : List ℕ} {end : ℕ} {places : List ℕ} where
-  pub record_none : {cs ks : List (List ℕ)} → length cs ≡ rule_limit → length ks ≡ rule_limit → Recording v ws end places cs ks 0 cs ks (record { nullable = replicate 2 0; stops = replicate 2 0; count = 0 })
+  pub record_none : {cs ks : List (List ℕ)} → length cs ≡ rule_limit → length ks ≡ rule_limit → Recording v ws end places cs ks 0 cs ks (record { marks = record { nullable = replicate 2 0; stops = replicate 2 0 }; count = 0 })
   unfolding count_below
   record_none x y =
       record {
@@ -70,24 +70,24 @@ module _ {v : View} {ws : List ℕ} {end : ℕ} {places : List ℕ} where
           nullable_none = λ k h. added_other g.nullable k (λ z. omega arith) ∙ r.nullable_none k (omega arith);
           stops_none = λ k h. added_other g.stops k (λ z. omega arith) ∙ r.stops_none k (omega arith);
           counted = count_more;
-          low = rw count_more (count_low (bit m'.nullable) (i + 1));
+          low = rw count_more (count_low (bit m'.marks.nullable) (i + 1));
           calls_behind = λ k h. get_or-set_other cs i k s.calls [] (λ z. omega arith) ∙ r.calls_behind k (omega arith);
           corners_behind = λ k h. get_or-set_other ks i k s.corners [] (λ z. omega arith) ∙ r.corners_behind k (omega arith);
           calls_long = length-set cs i s.calls ∙ r.calls_long;
           corners_long = length-set ks i s.corners ∙ r.corners_long;
         }
       where
-        here_bit : bit m'.nullable i ≡ s.nullable
+        here_bit : bit m'.marks.nullable i ≡ s.nullable
         here_bit = added_here g.nullable (r.nullable_none i (omega arith))
 
-        count_more : m'.count ≡ count_below (bit m'.nullable) (i + 1)
+        count_more : m'.count ≡ count_below (bit m'.marks.nullable) (i + 1)
         count_more =
             g.count
             ∙ ap (λ x. x + one_if s.nullable)
-            (r.counted ∙ count_same (bit m.nullable) (bit m'.nullable) i (λ k h. sym (added_other g.nullable k (λ z. omega arith))))
-            ∙ rw (add-one i) (ap (λ x. count_below (bit m'.nullable) i + x) (ap one_if (sym here_bit)))
+            (r.counted ∙ count_same (bit m.marks.nullable) (bit m'.marks.nullable) i (λ k h. sym (added_other g.nullable k (λ z. omega arith))))
+            ∙ rw (add-one i) (ap (λ x. count_below (bit m'.marks.nullable) i + x) (ap one_if (sym here_bit)))
 
-        here : {k : ℕ} → k ≡ i → Recorded v ws end (get_or places k 0) k (set cs i s.calls) (set ks i s.corners) m'.nullable m'.stops
+        here : {k : ℕ} → k ≡ i → Recorded v ws end (get_or places k 0) k (set cs i s.calls) (set ks i s.corners) m'.marks.nullable m'.marks.stops
         here z =
             rw z (record {
               survey = s;
@@ -98,7 +98,7 @@ module _ {v : View} {ws : List ℕ} {end : ℕ} {places : List ℕ} where
               stops = added_here g.stops (r.stops_none i (omega arith));
             })
 
-        there : (k : ℕ) → k < i + 1 → (k ≡ i → ⊥) → Recorded v ws end (get_or places k 0) k (set cs i s.calls) (set ks i s.corners) m'.nullable m'.stops
+        there : (k : ℕ) → k < i + 1 → (k ≡ i → ⊥) → Recorded v ws end (get_or places k 0) k (set cs i s.calls) (set ks i s.corners) m'.marks.nullable m'.marks.stops
         there k h n =
             let w = r.each k (omega arith) in
             record {

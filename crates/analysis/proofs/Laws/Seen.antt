@@ -18,8 +18,7 @@ use Rattle.grammar.specs.Laws.Stands.{stands_head}
 use Rattle.reference.specs.Walks.{sort_of, is_end}
 use Rattle.reach.specs.Rows.{bit, AddIf}
 use Rattle.analysis.specs.Names.{is_named, any_below, At, Nowhere, IsTarget}
-use Rattle.analysis.specs.declared.names.Target.{Target}
-use Rattle.analysis.specs.declared.names.Target.TheVariants.{Unknown, Rule}
+use Rattle.std.specs.Prelude.{Option, Some, None}
 use Rattle.analysis.specs.Survey.{View, Seen, seen_of, is_semantic, calls_to, leaf_null, leaf_ends, past_leaf, StopSeen, BitSeen, past_call}
 use Rattle.analysis.specs.Survey.{SymbolSeen, NameSeen, LeafSeen}
 use Rattle.reach.proofs.Laws.Rows.{two_words}
@@ -156,18 +155,18 @@ module _ (v : View) (s : Seen) (skips : Bool) where
       refl (sym (rw (e, n, or-true skips) (and-true s.seeks))) (sym (rw (n, or-true skips) (and-true s.null)))
 
 -- a name
-pub target_low : {names : List ℕ} {n m i : ℕ} {r : Target} → IsTarget names n m r → r ≡ Rule i → n ≤ rule_limit → i < rule_limit
+pub target_low : {names : List ℕ} {n m i : ℕ} {r : Option ℕ} → IsTarget names n m r → r ≡ Some i → n ≤ rule_limit → i < rule_limit
 target_low {i = i} a e l = let b = (a.rule i e).below in omega arith
 
 module _ (v : View) {m : ℕ} {skips : Bool} (xs : List ℕ) (seeks null : Bool) where
-  pub name_unknown : {t : Target} {seeks' null' : Bool} → IsTarget v.names v.n m t → t ≡ Unknown
+  pub name_unknown : {t : Option ℕ} {seeks' null' : Bool} → IsTarget v.names v.n m t → t ≡ None
       → SymbolSeen v.past skips seeks null seeks' null'
       → NameSeen v m skips (seen_of xs seeks null) (seen_of xs seeks' null')
   unfolding seen_of symbol
   name_unknown a e r =
       record { is = λ c f. calls_nothing v (seen_of xs seeks null) skips r c (rw f (a.unknown e)) }
 
-  pub name_known : {t : Target} {r : Seen} {i : ℕ} {h : Bool} → IsTarget v.names v.n m t → t ≡ Rule i
+  pub name_known : {t : Option ℕ} {r : Seen} {i : ℕ} {h : Bool} → IsTarget v.names v.n m t → t ≡ Some i
       → h ≡ bit v.nullable i → r ≡ past_call (seen_of xs seeks null) i (skips || h)
       → NameSeen v m skips (seen_of xs seeks null) r
   name_known {i = i} a e b f =

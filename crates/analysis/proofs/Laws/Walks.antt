@@ -11,12 +11,12 @@ use Rattle.grammar.specs.Numbers.{token_kind, block_kind, kind_end, optional_gre
 use Rattle.grammar.specs.Tree.{ElementHead, inner_depth}
 use Rattle.grammar.specs.Encode.{encode_alternative, encode_block}
 use Rattle.grammar.specs.Valid.{ok_alternative, ok_block}
-use Rattle.grammar.specs.Found.{FoundElement, HeadAt, AlternativeAt, LeafEnd}
-use Rattle.grammar.specs.Fold.{folded, ElementWalked, ElementsWalked, AlternativeWalked, AlternativesWalked}
+use Rattle.grammar.specs.Found.{Found, FoundElement, HeadAt, AlternativeAt, LeafEnd}
+use Rattle.grammar.specs.Fold.{folded, WalkedOne, WalkedMany, ElementWalked, ElementsWalked, AlternativeWalked, AlternativesWalked}
 use Rattle.grammar.specs.Laws.Complete.{leaf_kind_lem}
 use Rattle.grammar.specs.Laws.Opened.{HeadWords, alternative_words_lem, rule_words_lem}
 use Rattle.grammar.specs.Laws.Found.{alternative_room, block_depth}
-use Rattle.grammar.specs.Laws.Fold.{Folding, folding_found, fold_leaf, fold_block, fold_alternative}
+use Rattle.grammar.specs.Laws.Fold.{Folding, folding_all, folding_done, folding_found, folding_more, fold_leaf, fold_block, fold_alternative}
 use Rattle.reference.specs.Walks.{is_optional}
 use Rattle.analysis.specs.Survey.{View, Seen, seen_of, surveying, skipping, past_block, past_alternative, past_leaf, SymbolSeen, LeafSeen}
 use Rattle.analysis.specs.Survey.{StopSeen, unseen, whole, past_outermost, OutermostWalked, BodyWalked, BodySeen}
@@ -104,12 +104,29 @@ module _ (v : View) {ws : List ℕ} {end at : ℕ} where
 
 pub ruleset outers = (outer_plain, outer_labelled)
 
+-- A loop that counts up to n, of which k trees are done.
+module _ {ws : List ℕ} {end : ℕ} {A S : Type 0} {enc : A → List ℕ} {ok : A → Bool} {step : S → A → S} {n at : ℕ} {s₀ : S} {k p : ℕ}
+    {s : S} (g : Folding ws end enc ok step n at s₀ (n - k) p s) where
+  pub counted_done : n ≤ k → WalkedMany ws end enc ok step n at s₀ p s
+  counted_done l = folding_done g (omega arith)
+
+  module _ (l : k < n) where
+    pub counted_found : Found ws end enc ok p
+    counted_found = folding_found g (λ z. absurd (omega arith))
+
+    pub counted_more : {q : ℕ} {t : S} → WalkedOne ws end enc ok step p s q t → Folding ws end enc ok step n at s₀ (n - (k + 1)) q t
+    counted_more {q} {t} o =
+        let less : n - k - 1 ≡ n - (k + 1) = omega arith in
+        rw (← less) (folding_more g (λ z. absurd (omega arith)) o)
+
+pub ruleset counted = (folding_all, counted_done, counted_found, counted_more)
+
 abbrev pub BodyFolding : View → List ℕ → ℕ → ℕ → ℕ → Seen → ℕ → ℕ → Seen → Type 0
 BodyFolding v ws end = Folding ws end (encode_alternative (encode_block inner_depth)) (ok_alternative (ok_block inner_depth)) (past_outermost v inner_depth)
 
-pub body_room : (v : View) {ws : List ℕ} {end n at : ℕ} {s₀ : Seen} {i p : ℕ} {s : Seen} → BodyFolding v ws end n at s₀ i p s → (i ≡ 0 → ⊥)
+pub body_room : (v : View) {ws : List ℕ} {end n at : ℕ} {s₀ : Seen} {k p : ℕ} {s : Seen} → BodyFolding v ws end n at s₀ (n - k) p s → k < n
     → p + 5 ≤ end
-body_room v g some = alternative_room inner_depth (folding_found g some)
+body_room v g l = alternative_room inner_depth (counted_found g l)
 
 -- A whole rule.
 pub rule_surveyed : (v : View) {ws : List ℕ} {end at m f q : ℕ} (ys : List ℕ) (seeks : Bool) {null : Bool} → m ≡ get_or ws (at + 3) 0 → f ≡ get_or ws (at + 2) 0

@@ -4,9 +4,7 @@ use mathlib.Core.Path.{◌≡◌, refl, sym, ap, ◌∙◌}
 use mathlib.Core.List.{List, [], ◌∷◌}
 use mathlib.Core.Bool.{Bool, true, false, ◌||◌}
 use native.Mathlib.Omega.{arith}
-use lib.ListN.{length, get_or, replicate}
-use lib.Dec.{eqb}
-use borrow.Author.Tests.{eqb-true, eqb-false}
+use lib.ListN.{length, get_or}
 use Rattle.grammar.specs.Tree.{AlternativeOf, Block, inner_depth}
 use Rattle.grammar.specs.Stands.{Spans}
 use Rattle.grammar.specs.Encode.{encode_alternative, encode_block}
@@ -14,13 +12,10 @@ use Rattle.grammar.specs.Valid.{ok_alternative, ok_block}
 use Rattle.grammar.specs.Lists.{each, all, any}
 use Rattle.grammar.specs.Found.{FoundAlternative, FoundAlternatives, FoundElements, AlternativeAt}
 use Rattle.grammar.specs.Fold.{AlternativeWalked}
-use Rattle.grammar.specs.Laws.Parse.{either}
 use Rattle.grammar.specs.Laws.Opened.{first_spans, first_found, rest_found, alternative_words_lem, rule_words_lem}
 use Rattle.grammar.specs.Laws.Found.{alternative_room, inner_found}
 use Rattle.reference.specs.Analysis.{Grammar}
-use Rattle.reach.specs.Rows.{bit, AddIf}
-use Rattle.reach.proofs.Laws.Rows.{no_bits}
-use Rattle.hub.proofs.Laws.Rows.{added_here, added_other}
+use Rattle.reach.specs.Rows.{bit, Collected}
 use Rattle.ends.specs.Ends.{skipping}
 use Rattle.hub.specs.Corner.{Tells, is_settled, Settles, AnySettles, IsCandidate, Candidates}
 use Rattle.hub.specs.declared.corner.Cycle.{Cycle}
@@ -74,13 +69,17 @@ module _ {names : List ℕ} {c : Cycle} {ws : List ℕ} {end d : ℕ} where
   pub try_all : {n at : ℕ} → FoundAlternatives ws end d n at → at ≤ end → Trying names c ws end d n at n at
   try_all f l = record { rest = λ r s. s; found = f; within = l }
 
-  module _ {n at i p : ℕ} (g : Trying names c ws end d n at i p) where
-    pub try_done : i ≡ 0 → AnySettles names c ws end d n at false
-    try_done z = g.rest false (none_any z)
+  -- k alternatives are done.
+  module _ {n at k p : ℕ} (g : Trying names c ws end d n at (n - k) p) where
+    pub try_done : n ≤ k → AnySettles names c ws end d n at false
+    try_done l = g.rest false (none_any (omega arith))
 
-    module _ (z : i ≡ 0 → ⊥) where
+    module _ (l : k < n) where
+      left : n - k ≡ 0 → ⊥
+      left z = absurd (omega arith)
+
       pub try_found : FoundAlternative ws end d p
-      try_found = first_found g.found z
+      try_found = first_found g.found left
 
       pub try_room : p + 5 ≤ end
       try_room = alternative_room d try_found
@@ -90,16 +89,18 @@ module _ {names : List ℕ} {c : Cycle} {ws : List ℕ} {end d : ℕ} where
         try_inner = inner_found d head try_found
 
         pub try_yes : {b : Bool} → Settles names c ws end d count first b → b ≡ true → AnySettles names c ws end d n at true
-        try_yes v e = g.rest true (yes_any z head v e)
+        try_yes v e = g.rest true (yes_any left head v e)
 
         pub try_more : {b : Bool} {there : ℕ} → Settles names c ws end d count first b → b ≡ false
-            → AlternativeWalked skipping ws end d p tt there tt → Trying names c ws end d n at (i - 1) there
-        try_more v e w =
-            record {
-              rest = λ r s. g.rest r (no_any z head v e w s);
-              found = rest_found g.found z w.passed;
+            → AlternativeWalked skipping ws end d p tt there tt → Trying names c ws end d n at (n - (k + 1)) there
+        try_more {there = there} v e w =
+            let less : n - k - 1 ≡ n - (k + 1) = omega arith in
+            rw (← less)
+            (record {
+              rest = λ r s. g.rest r (no_any left head v e w s);
+              found = rest_found g.found left w.passed;
               within = w.within;
-            }
+            })
 
 pub ruleset trying = (try_all, try_done, try_found, try_room, try_inner, try_yes, try_more)
 
@@ -119,27 +120,9 @@ module _ {names : List ℕ} (c : Cycle) {ws : List ℕ} {end i at : ℕ} {b : Bo
 
 pub ruleset judging = (candidate_out, candidate_in)
 
--- The rules looked at so far.
-module _ {names : List ℕ} {c : Cycle} {ws : List ℕ} {end : ℕ} {places : List ℕ} where
-  pub candidates_none : Candidates names c ws end places 0 (replicate 2 0)
-  candidates_none = record { each = λ k l. absurd (omega arith); none = λ k l. no_bits k }
-
-  pub candidates_more : {i : ℕ} {row row' : List ℕ} {at : ℕ} {b : Bool} → Candidates names c ws end places i row
-      → IsCandidate names c ws end i at b → at ≡ get_or places i 0 → AddIf row i b row' → Candidates names c ws end places (i + 1) row'
-  candidates_more {i} {row} {row'} {at} {b} x v e a =
-      record {
-        each = λ k l. either (eqb k i) (λ z. here (eqb-true k i z)) (λ z. there k l (eqb-false k i z));
-        none = λ k l. added_other a k (λ z. omega arith) ∙ x.none k (omega arith);
-      }
-    where
-      here : {k : ℕ} → k ≡ i → IsCandidate names c ws end k (get_or places k 0) (bit row' k)
-      here z = rw (z, added_here a (x.none i (omega arith)), ← e) v
-
-      there : (k : ℕ) → k < i + 1 → (k ≡ i → ⊥) → IsCandidate names c ws end k (get_or places k 0) (bit row' k)
-      there k l n = rw (added_other a k n) (x.each k (omega arith))
-
-  pub candidates_all : {i n m : ℕ} {row : List ℕ} → Candidates names c ws end places i row → i ≤ n → n ≤ i → n ≡ m
-      → Candidates names c ws end places m row
-  candidates_all {i} {n} {m} x l k e = let z : i ≡ m = omega arith in rw (← z) x
-
-pub ruleset collecting = (candidates_none, candidates_more, candidates_all)
+-- All rules, each looked at.
+pub candidates_of : {names : List ℕ} {c : Cycle} {ws : List ℕ} {end : ℕ} {places row : List ℕ} {Gives : ℕ → Bool → Type 0} {n m : ℕ}
+    → Collected Gives n row → n ≡ m → ((k : ℕ) (b : Bool) → k < n → Gives k b → IsCandidate names c ws end k (get_or places k 0) b)
+    → Candidates names c ws end places m row
+candidates_of {row = row} x e h =
+    record { each = λ k l. let low = rw (← e) at l in h k (bit row k) low (x.below k low); none = λ k l. x.beyond k (rw (← e) at l) }

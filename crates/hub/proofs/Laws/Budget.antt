@@ -1,5 +1,5 @@
 -- The budget: how many alternatives a rule has, and the sum over the members.
-use Prim.Native.Nat.{ℕ, zero, suc, ◌+◌, ◌*◌, ◌<◌, ◌≤◌}
+use Prim.Native.Nat.{ℕ, zero, suc, ◌+◌, ◌*◌, ◌≤◌, max}
 use mathlib.Core.Path.{◌≡◌, refl, sym, ap, ap₂, ◌∙◌, subst}
 use mathlib.Core.List.{List, [], ◌∷◌, map}
 use mathlib.Core.Bool.{Bool, true, false}
@@ -117,12 +117,6 @@ module _ {ws : List ℕ} {end : ℕ} {rules : Rules} {members : List ℕ} {n : �
         (λ i a.
         ap₂ amount (row_bit cy.row (place_low s a) ∙ ap (λ x. member x cycle) (id_at s.rows a)) (key_at (λ r. length r.body) 0 a))
 
-  pub budget_floor : {floor : ℕ} → n * n < floor → IsBudget ws end rules members floor floor
+  pub budget_is : {floor r : ℕ} → r ≡ max floor (n * n) → IsBudget ws end rules members floor r
   unfolding substitution_budget
-  budget_floor l = record { is = λ s limits e cycle cy. rw (← (alternatives_are s cy)) (omega arith) }
-
-  pub budget_square : {floor : ℕ} → floor ≤ n * n → IsBudget ws end rules members floor (n * n)
-  unfolding substitution_budget
-  budget_square l = record { is = λ s limits e cycle cy. rw (← (alternatives_are s cy)) (omega arith) }
-
-pub ruleset budgets = (budget_floor, budget_square)
+  budget_is m = record { is = λ s limits e cycle cy. rw (← (alternatives_are s cy)) (omega arith) }

@@ -22,26 +22,21 @@ use Rattle.reference.specs.Walks.{sort_of, is_one, bare_reference}
 use Rattle.reference.specs.Plan.{Corner, bare, outside_cycle, unusable, classify_corner, called_corner, corner_enters_cycle}
 use Rattle.reach.specs.Rows.{bit}
 use Rattle.analysis.specs.Names.{IsTarget}
-use Rattle.analysis.specs.declared.names.Target.{Target}
-use Rattle.analysis.specs.declared.names.Target.TheVariants.{Unknown, Rule}
+use Rattle.std.specs.Prelude as Rust
+use Rattle.std.specs.Prelude.{Some, None, MatchOption}
 use Rattle.hub.specs.Corner.{Tells, NameSettles, Settles}
 use Rattle.hub.specs.declared.corner.Cycle.{Cycle}
 
--- A call of a name.
-module _ {names : List ℕ} {m : ℕ} {t : Target} (c : Cycle) (a : IsTarget names c.n m t) where
-  pub name_unknown : t ≡ Unknown → NameSettles names c m true
-  name_unknown e = record { by = λ g cycle f. rw (f.unknown m (a.unknown e)) refl }
-
-  pub name_rule : {i : ℕ} {x y : Bool} → t ≡ Rule i → x ≡ bit c.members i → y ≡ bit c.nullable i
-      → NameSettles names c m (not x && not y)
-  name_rule {i} e p q =
-      record {
-        by = λ g cycle f.
-            let b = f.rule m i (a.rule i e) in
-            rw b.is (ap₂ (λ u v. not u && not v) (p ∙ b.inside) (q ∙ b.empty));
-      }
-
-pub ruleset namings = (name_unknown, name_rule)
+-- A call of a name, by the rule that has it.
+pub name_settled : {names : List ℕ} {m : ℕ} (c : Cycle) (t : Rust.Option ℕ) → IsTarget names c.n m t → {r : Bool}
+    → MatchOption t (r ≡ true) (λ i. r ≡ (not (bit c.members i) && not (bit c.nullable i))) → NameSettles names c m r
+name_settled {m = m} c None a h = record { by = λ g cycle f. rw (f.unknown m (a.unknown refl)) h }
+name_settled {m = m} c (Some i) a h =
+    record {
+      by = λ g cycle f.
+          let b = f.rule m i (a.rule i refl) in
+          rw b.is (h ∙ ap₂ (λ u v. not u && not v) b.inside b.empty);
+    }
 
 -- A call in front, by its target.
 decide : (x y z : Bool)
@@ -169,31 +164,37 @@ module _ {names : List ℕ} {c : Cycle} {ws : List ℕ} {end d : ℕ} where
   pub seek_all : {n at : ℕ} → FoundElements ws end d n at → at ≤ end → Seeking names c ws end d n at n at
   seek_all f l = record { rest = λ r s. s; found = f; within = l }
 
-  module _ {n at i p : ℕ} (g : Seeking names c ws end d n at i p) where
-    pub seek_done : i ≡ 0 → Settles names c ws end d n at true
-    seek_done z = g.rest true (none_settles z)
+  -- k elements are done.
+  module _ {n at k p : ℕ} (g : Seeking names c ws end d n at (n - k) p) where
+    pub seek_done : n ≤ k → Settles names c ws end d n at true
+    seek_done l = g.rest true (none_settles (omega arith))
 
-    module _ (z : i ≡ 0 → ⊥) where
+    module _ (l : k < n) where
+      left : n - k ≡ 0 → ⊥
+      left z = absurd (omega arith)
+
       pub seek_found : FoundElement ws end d p
-      seek_found = first_found g.found z
+      seek_found = first_found g.found left
 
       pub seek_room : p + 6 ≤ end
       seek_room = element_room d seek_found
 
-      module _ {k q : ℕ} (head : HeadAt ws end p k q) where
-        pub seek_past : call_kind < k → Settles names c ws end d n at true
-        seek_past l = g.rest true (past_settles head z l)
+      module _ {kind q : ℕ} (head : HeadAt ws end p kind q) where
+        pub seek_past : call_kind < kind → Settles names c ws end d n at true
+        seek_past l = g.rest true (past_settles head left l)
 
-        pub seek_call : {w : ℕ} {r : Bool} → k ≡ call_kind → w ≡ get_or ws q 0 → NameSettles names c w r → Settles names c ws end d n at r
-        seek_call {r = r} l e v = g.rest r (call_settles head z l e v)
+        pub seek_call : {w : ℕ} {r : Bool} → kind ≡ call_kind → w ≡ get_or ws q 0 → NameSettles names c w r → Settles names c ws end d n at r
+        seek_call {r = r} l e v = g.rest r (call_settles head left l e v)
 
-        pub seek_more : {there : ℕ} → k ≤ call_kind → (k ≡ call_kind → ⊥) → LeafEnd ws end d p q there
-            → Seeking names c ws end d n at (i - 1) there
-        seek_more l o e =
-            record {
-              rest = λ r s. g.rest r (silent_settles head z (omega arith) e s);
-              found = rest_found g.found z e.is;
+        pub seek_more : {there : ℕ} → kind ≤ call_kind → (kind ≡ call_kind → ⊥) → LeafEnd ws end d p q there
+            → Seeking names c ws end d n at (n - (k + 1)) there
+        seek_more {there} m o e =
+            let less : n - k - 1 ≡ n - (k + 1) = omega arith in
+            rw (← less)
+            (record {
+              rest = λ r s. g.rest r (silent_settles head left (omega arith) e s);
+              found = rest_found g.found left e.is;
               within = e.within;
-            }
+            })
 
 pub ruleset seeking = (seek_all, seek_done, seek_found, seek_room, seek_past, seek_call, seek_more)

@@ -16,8 +16,7 @@ use Rattle.reference.specs.Plan.{externally_referenced, is_candidate, choose_hub
 use Rattle.records.specs.declared.rules.Rules.{Rules}
 use Rattle.reach.specs.Rows.{bit, edge, RowOf, Meet}
 use Rattle.reach.specs.Cycles.{Least, NoneLeft, IsNext}
-use Rattle.reach.specs.declared.cycles.Next.{Next}
-use Rattle.reach.specs.declared.cycles.Next.TheVariants.{Done, Rule}
+use Rattle.std.specs.Prelude.{Option, Some, None, MatchOption}
 use Rattle.analysis.specs.Names.{any_below}
 use Rattle.analysis.specs.declared.rounds.Marks.{Marks}
 use Rattle.analysis.proofs.Laws.Standing.{all_rules, id_at, rule_spans}
@@ -131,7 +130,7 @@ module _ {ws : List ℕ} {end : ℕ} {rules : Rules} {past : Bool} {calls corner
       member_bit {j} l t = row_bit cy.row l ∙ left_true (member (id j) cycle) _ (sym (can_bit f l) ∙ t)
 
       hub_wanted : {i : ℕ} → Least rules.ids both rules.n i
-          → HubIs rules.ids rules.n members (Rule i) (choose_hub g cycle inner_depth rs preserved)
+          → HubIs rules.ids rules.n members (Some i) (choose_hub g cycle inner_depth rs preserved)
       unfolding choose_hub
       hub_wanted {i} h = (
         h.below,
@@ -142,11 +141,11 @@ module _ {ws : List ℕ} {end : ℕ} {rules : Rules} {past : Bool} {calls corner
       all_can : (j : ℕ) → j < rules.n → bit can j ≡ (bit can j && true)
       all_can j l = sym (and-true (bit can j))
 
-      hub_other : (r : Next) → NoneLeft both rules.n → IsNext rules.ids can rules.n r
+      hub_other : (r : Option ℕ) → NoneLeft both rules.n → IsNext rules.ids can rules.n r
           → HubIs rules.ids rules.n members r (choose_hub g cycle inner_depth rs preserved)
       unfolding choose_hub
-      hub_other Done z h = rw (first_not is_wanted both is_wanted_lem z, choose_hub) (first_not (λ i. true) can all_can h)
-      hub_other (Rule i) z h = (
+      hub_other None z h = rw (first_not is_wanted both is_wanted_lem z, choose_hub) (first_not (λ i. true) can all_can h)
+      hub_other (Some i) z h = (
         h.below,
         member_bit h.below h.there,
         rw (first_not is_wanted both is_wanted_lem z, choose_hub) (first_is (λ i. true) can all_can h),
@@ -156,7 +155,7 @@ module _ {ws : List ℕ} {end : ℕ} {rules : Rules} {n : ℕ} {members nullable
     (f : CandidatesBy ws end rules members can n nullable)
     {calls : List (List ℕ)} {kept w both : List ℕ} (c : CallsFrom calls members kept n w) (b : Meet can w both) where
   -- The answer that was found is the definition's.
-  chosen : {r : Next}
+  chosen : {r : Option ℕ}
       → ((past : Bool) (corners : List (List ℕ)) (m : Marks) (k : Known ws end rules past calls corners m) (cycle preserved : List ℕ)
       (cy : IsCycle ws end rules k.standing cycle members) (pr : RowOf rules.ids rules.n preserved kept)
       → CandidatesBy ws end rules members can rules.n m.nullable
@@ -173,14 +172,10 @@ module _ {ws : List ℕ} {end : ℕ} {rules : Rules} {n : ℕ} {members nullable
             (subst (λ x. CallsFrom calls members kept x w) e c);
       }
 
-  pub chosen_wanted : {i : ℕ} {t : Next} → IsNext rules.ids both n t → t ≡ Rule i
-      → Chosen ws end rules nullable calls members kept (Rule i)
-  chosen_wanted {i} h z =
-      chosen λ past corners m k cycle preserved cy pr f' c'.
-      hub_wanted k cy f' pr c' b (rw e at (rw z at h))
-
-  pub chosen_other : {t r : Next} → IsNext rules.ids both n t → t ≡ Done → IsNext rules.ids can n r
+  pub chosen_first : (t r : Option ℕ) → IsNext rules.ids both n t → MatchOption t (IsNext rules.ids can n r) (λ i. r ≡ Some i)
       → Chosen ws end rules nullable calls members kept r
-  chosen_other {t} {r} h z x =
+  chosen_first None r h x =
       chosen λ past corners m k cycle preserved cy pr f' c'.
-      hub_other k cy f' pr c' b r (rw e at (rw z at h)) (subst (λ j. IsNext rules.ids can j r) e x)
+      hub_other k cy f' pr c' b r (rw e at h) (subst (λ j. IsNext rules.ids can j r) e x)
+  chosen_first (Some i) r h x =
+      rw x (chosen λ past corners m k cycle preserved cy pr f' c'. hub_wanted k cy f' pr c' b (rw e at h))

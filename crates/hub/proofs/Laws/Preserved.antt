@@ -4,7 +4,7 @@ use mathlib.Core.Path.{◌≡◌, sym, ap, ◌∙◌, subst}
 use mathlib.Core.List.{List, [], ◌∷◌, Memᴰ}
 use mathlib.Core.Bool.{Bool, true, false}
 use native.Mathlib.Omega.{arith}
-use lib.ListN.{length, get_or, drop, replicate, length-take, length-drop}
+use lib.ListN.{length, get_or, drop, length-take, length-drop}
 use lib.Seq.{get_or-take, get_or-drop}
 use lib.Dec.{eqb, ltb}
 use borrow.Author.Tests.{eqb-true, eqb-false, ltb-true, ltb-false}
@@ -14,12 +14,10 @@ use Rattle.grammar.specs.Laws.Lists.{in_member, member_in}
 use Rattle.grammar.specs.Laws.Parse.{either}
 use Rattle.grammar.specs.Laws.Words.{length_words}
 use Rattle.graph.specs.Order.{Rising, true_rising}
-use Rattle.reach.specs.Rows.{RowOf, AddIf}
-use Rattle.reach.proofs.Laws.Rows.{no_bits}
+use Rattle.reach.specs.Rows.{bit, RowOf, Collected}
 use Rattle.reach.proofs.Laws.Graph.{at_in, in_at}
 use Rattle.hub.specs.Preserved.{between}
-use Rattle.hub.proofs.Laws.Rows.{added_here, added_other}
-use Rattle.hub.proofs.Laws.Grounds.{row_bit, row_of, row_none}
+use Rattle.hub.proofs.Laws.Grounds.{row_of}
 
 -- Of rising numbers the later is the larger.
 rising_at : (xs : List ℕ) → Rising xs → (i j : ℕ) → i < j → j < length xs → get_or xs i 0 < get_or xs j 0
@@ -148,22 +146,7 @@ module _ {bs : List ℕ} {from to id low high : ℕ} (g : Halving bs from to id 
 
 pub ruleset halving = (halve_all, halve_done, halve_found, halve_up, halve_down)
 
--- The rules looked at so far.
-pub rows_none : {ids xs : List ℕ} → RowOf ids 0 xs (replicate 2 0)
-rows_none = row_of (λ j l. absurd (omega arith)) (λ j l. no_bits j)
-
-pub rows_more : {ids : List ℕ} {i : ℕ} {xs r t : List ℕ} {x : ℕ} {on : Bool} → RowOf ids i xs r
-    → x ≡ get_or ids i 0 → on ≡ member x xs → AddIf r i on t
-    → RowOf ids (i + 1) xs t
-rows_more {ids} {i} {xs} {r} {t} {x} {on} g e o a =
-    row_of
-    (λ j l.
-    either (eqb j i)
-    (λ s. let z = eqb-true j i s in rw z (added_here a (row_none g i (omega arith)) ∙ o ∙ ap (λ y. member y xs) e))
-    (λ f. let z = eqb-false j i f in added_other a j z ∙ row_bit g (omega arith)))
-    (λ j l. added_other a j (λ z. omega arith) ∙ row_none g j (omega arith))
-
-pub rows_all : {ids xs r : List ℕ} {i n m : ℕ} → RowOf ids i xs r → i ≤ n → n ≤ i → n ≡ m → RowOf ids m xs r
-rows_all {ids} {xs} {r} {i} {n} {m} g l k e = let z : i ≡ m = omega arith in subst (λ y. RowOf ids y xs r) z g
-
-pub ruleset rowing = (rows_none, rows_more, rows_all)
+-- The rules, each looked for.
+pub rows_of : {ids xs row : List ℕ} {Gives : ℕ → Bool → Type 0} {n : ℕ} → Collected Gives n row
+    → ((k : ℕ) (b : Bool) → k < n → Gives k b → b ≡ member (get_or ids k 0) xs) → RowOf ids n xs row
+rows_of {row = row} x h = row_of (λ k l. h k (bit row k) l (x.below k l)) (λ k l. x.beyond k l)

@@ -9,10 +9,11 @@ use lib.ListN.{get_or}
 use lib.Dec.{eqb}
 use borrow.Author.Tests.{eqb-true, eqb-false, eq-eqb}
 use Rattle.grammar.specs.Laws.Parse.{either}
+use Rattle.std.specs.Prelude.{Option, Some, None}
 use Rattle.reach.specs.Rows.{bit, edge, Empty}
 use Rattle.reach.specs.Reach.{Path, last, more, other, Others, Closed}
-use Rattle.reach.specs.Steps.{Holds, Best}
-use Rattle.reach.specs.Cycles.{Joined, Least, NoneLeft}
+use Rattle.reach.specs.Steps.{Holds}
+use Rattle.reach.specs.Cycles.{Joined, Least, NoneLeft, IsNext}
 
 -- A path over edges that are others' too.
 pub path_map : {f g : ℕ → ℕ → Bool} {n : ℕ} → ((i j : ℕ) → i < n → f i j ≡ true → g i j ≡ true) → {i j : ℕ} → i < n → Path f n i j
@@ -47,57 +48,62 @@ module _ {corners edges : List (List ℕ)} {n : ℕ} (o : Others corners n edges
       exact : (i j : ℕ) → i < n → (edge r i j ≡ true) ↔ Path (other corners) n i j
       exact i j l = (λ t. to_other l ((c.at i j l).0 t), λ p. (c.at i j l).1 (of_other l p))
 
-module _ {ids left : List ℕ} {n i best : ℕ} (h : Best ids left n i best) where
-  -- A rule that is not in the row, one that is the first, one that is better, and one that is not.
-  pub best_out : {b : Bool} → b ≡ bit left i → b ≡ false → Best ids left n (i + 1) best
-  best_out e f =
+-- The best of those in front of i + 1.
+module _ (ids left : List ℕ) (i : ℕ) where
+  -- Rule i is not in the row,
+  pub best_out : (best : Option ℕ) {b : Bool} → IsNext ids left i best → b ≡ bit left i → b ≡ false → IsNext ids left (i + 1) best
+  best_out None h e f =
       record {
-        most = h.most;
+        none = λ j l. either (eqb j i) (λ u. ap (bit left) (eqb-true j i u) ∙ sym e ∙ f)
+            (λ u. let ne = eqb-false j i u in h.none j (omega arith));
+      }
+  best_out (Some best) h e f =
+      record {
+        below = let l = h.below in omega arith;
         there = h.there;
         least = λ j l t. either (eqb j i) (λ u. absurd (true≢false (sym t ∙ ap (bit left) (eqb-true j i u) ∙ sym e ∙ f)))
             (λ u. let ne = eqb-false j i u in h.least j (omega arith) t);
       }
 
-  best_new : {b : Bool} → b ≡ bit left i → b ≡ true → i < n → ((j : ℕ) → j < i → bit left j ≡ true → get_or ids i 0 ≤ get_or ids j 0)
-      → Best ids left n (i + 1) i
-  best_new e t l g =
+  -- it is the best, since those in front of it are not in the row or have no lesser id,
+  best_new : {b : Bool} → b ≡ bit left i → b ≡ true → ((j : ℕ) → j < i → bit left j ≡ true → get_or ids i 0 ≤ get_or ids j 0)
+      → IsNext ids left (i + 1) (Some i)
+  best_new e t g =
       record {
-        most = omega arith;
-        there = λ m. sym e ∙ t;
-        least = λ j m u. (
-          l,
-          either (eqb j i) (λ v. let d : get_or ids j 0 ≡ get_or ids i 0 = ap (λ x. get_or ids x 0) (eqb-true j i v) in omega arith)
-              (λ v. let ne = eqb-false j i v in g j (omega arith) u),
-        );
+        below = omega arith;
+        there = sym e ∙ t;
+        least = λ j m u.
+            either (eqb j i) (λ v. let d : get_or ids j 0 ≡ get_or ids i 0 = ap (λ x. get_or ids x 0) (eqb-true j i v) in omega arith)
+            (λ v. let ne = eqb-false j i v in g j (omega arith) u);
       }
 
-  best_kept : best < n → get_or ids best 0 ≤ get_or ids i 0 → Best ids left n (i + 1) best
-  best_kept l m =
-      record {
-        most = h.most;
-        there = h.there;
+  pub best_first : {best : Option ℕ} {b : Bool} → IsNext ids left i best → b ≡ bit left i → b ≡ true → best ≡ None
+      → IsNext ids left (i + 1) (Some i)
+  best_first h e t z =
+      let none : NoneLeft left i = rw z at h in
+      best_new e t (λ j m u. absurd (true≢false (sym u ∙ none.none j m)))
+
+  pub best_better : {best : Option ℕ} {b : Bool} {o : ℕ} → IsNext ids left i best → b ≡ bit left i → b ≡ true → best ≡ Some o
+      → get_or ids i 0 < get_or ids o 0 → IsNext ids left (i + 1) (Some i)
+  best_better {o = o} h e t z g =
+      let least : Least ids left i o = rw z at h in
+      best_new e t (λ j m u. let low = least.least j m u in omega arith)
+
+  -- or the other is still the best.
+  pub best_same : {best : Option ℕ} {o : ℕ} → IsNext ids left i best → best ≡ Some o → get_or ids o 0 ≤ get_or ids i 0
+      → IsNext ids left (i + 1) best
+  best_same {best} {o} h z m =
+      let least : Least ids left i o = rw z at h in
+      let more : Least ids left (i + 1) o = record {
+        below = let l = least.below in omega arith;
+        there = least.there;
         least = λ j k t.
-            either (eqb j i) (λ v. let d : get_or ids j 0 ≡ get_or ids i 0 = ap (λ x. get_or ids x 0) (eqb-true j i v) in (l, (omega arith)))
-            (λ v. let ne = eqb-false j i v in h.least j (omega arith) t);
-      }
+            either (eqb j i) (λ v. let d : get_or ids j 0 ≡ get_or ids i 0 = ap (λ x. get_or ids x 0) (eqb-true j i v) in omega arith)
+            (λ v. let ne = eqb-false j i v in least.least j (omega arith) t);
+      } in
+      rw z more
 
-  pub best_first : {b : Bool} → b ≡ bit left i → b ≡ true → i < n → best ≡ n → Best ids left n (i + 1) i
-  best_first e t l z = best_new e t l (λ j m u. let low = (h.least j m u).0 in absurd (omega arith))
+pub best_none : (ids left : List ℕ) → IsNext ids left 0 None
+best_none ids left = record { none = λ j l. absurd (omega arith) }
 
-  pub best_better : {b : Bool} → b ≡ bit left i → b ≡ true → i < n → get_or ids i 0 < get_or ids best 0 → Best ids left n (i + 1) i
-  best_better e t l g = best_new e t l (λ j m u. let low = (h.least j m u).1 in omega arith)
-
-  pub best_same : (best ≡ n → ⊥) → get_or ids best 0 ≤ get_or ids i 0 → Best ids left n (i + 1) best
-  best_same z m = best_kept (let l = h.most in omega arith) m
-
-pub best_none : {ids left : List ℕ} {n : ℕ} → Best ids left n 0 n
-best_none = record { most = omega arith; there = λ l. absurd (omega arith); least = λ j l. absurd (omega arith) }
-
-pub best_rule : {ids left : List ℕ} {n i best : ℕ} → Best ids left n i best → n ≤ i → best < n → Least ids left n best
-best_rule h m l = record { below = l; there = h.there l; least = λ j k t. (h.least j (omega arith) t).1 }
-
-pub best_done : {ids left : List ℕ} {n i best : ℕ} → Best ids left n i best → n ≤ i → n ≤ best → NoneLeft left n
-best_done {left = left} h m l =
-    record { none = λ j k. either (bit left j) (λ t. let low = (h.least j (omega arith) t).0 in absurd (omega arith)) (λ f. f) }
-
-pub ruleset choosing = (best_out, best_first, best_better, best_same, best_none, best_rule, best_done)
+pub ruleset choosing = (best_out, best_first, best_better, best_same, best_none)

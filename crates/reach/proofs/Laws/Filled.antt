@@ -1,84 +1,64 @@
--- Rows that loops fill, rule by rule.
-use Prim.Native.Nat.{ℕ, ◌+◌, ◌≤◌}
+-- Rows that have the rules for which a test gives yes.
+use Prim.Native.Nat.{ℕ, ◌+◌, ◌<◌}
 use mathlib.Core.Path.{◌≡◌, refl, sym, ap, ap₂, ◌∙◌, subst}
 use mathlib.Core.List.{List, [], ◌∷◌}
 use mathlib.Core.Bool.{Bool, true, false, ◌&&◌, ◌||◌, and-true, and-false}
 use native.Mathlib.Omega.{arith}
 use lib.ListN.{get_or}
 use lib.Dec.{eqb, ltb}
-use borrow.Author.Tests.{eqb-true, eqb-false, ltb-true, ltb-false, lt-ltb, le-ltb}
+use borrow.Author.Tests.{eqb-true, eqb-false, ltb-true, ltb-false, eq-eqb, ne_eqb}
 use Rattle.grammar.specs.Laws.Parse.{either}
-use Rattle.reach.specs.Rows.{bit, edge, With, AddIf, Meet}
+use Rattle.reach.specs.Rows.{bit, edge, AddIf, Meet, Collected}
 use Rattle.reach.specs.Reach.{Loops, Around}
 use Rattle.reach.specs.Steps.{Below}
 use Rattle.reach.proofs.Laws.Rows.{or_false, no_bits}
 
-row_none : (test : ℕ → Bool) (k : ℕ) → bit (0 ∷ 0 ∷ []) k ≡ (ltb k 0 && test k)
-row_none test k = no_bits k ∙ ap (λ b. b && test k) (sym (le-ltb k 0 (omega arith)))
+module _ {Gives : ℕ → Bool → Type 0} where
+  pub collected_none : Collected Gives 0 (0 ∷ 0 ∷ [])
+  collected_none = record { below = λ k l. absurd (omega arith); beyond = λ k l. no_bits k }
 
--- The next rule, if it passes.
-row_next : (test : ℕ → Bool) {i : ℕ} {r t : List ℕ} {on : Bool} → ((k : ℕ) → bit r k ≡ (ltb k i && test k)) → on ≡ test i → AddIf r i on t
-    → (k : ℕ) → bit t k ≡ (ltb k (i + 1) && test k)
-row_next test {i} {r} {t} {on} p e a k = a.at k ∙ ap₂ (λ x y. x || (y && eqb k i)) (p k) e ∙ either (eqb k i) (own k) (other k)
-  where
-    own : (k : ℕ) → eqb k i ≡ true → ((ltb k i && test k) || (test i && eqb k i)) ≡ (ltb k (i + 1) && test k)
-    own k h =
-        let d = eqb-true k i h in
-        rw (le-ltb k i (omega arith), lt-ltb k (i + 1) (omega arith), h) (and-true (test i) ∙ ap test (sym d))
+  -- The next rule, by its test.
+  pub collected_more : {i : ℕ} {r t : List ℕ} {on : Bool} → Collected Gives i r → Gives i on → AddIf r i on t → Collected Gives (i + 1) t
+  collected_more {i} {r} {t} {on} p g a =
+      record {
+        below = λ k l. either (eqb k i)
+            (λ e. let d = eqb-true k i e in subst (λ x. Gives x (bit t x)) (sym d) (subst (Gives i) (sym own) g))
+            (λ n. let d = eqb-false k i n in subst (Gives k) (sym (other k d)) (p.below k (omega arith)));
+        beyond = λ k l. other k (λ e. omega arith) ∙ p.beyond k (omega arith);
+      }
+    where
+      own : bit t i ≡ on
+      own = a.at i ∙ ap₂ (λ x y. x || (on && y)) (p.beyond i (omega arith)) (eq-eqb i i refl) ∙ and-true on
 
-    same : (k : ℕ) → (k ≡ i → ⊥) → ltb k i ≡ ltb k (i + 1)
-    same k n =
-        either (ltb k i)
-        (λ t. let l = ltb-true k i t in t ∙ sym (lt-ltb k (i + 1) (omega arith)))
-        (λ f. let l = ltb-false k i f in f ∙ sym (le-ltb k (i + 1) (omega arith)))
+      other : (k : ℕ) → (k ≡ i → ⊥) → bit t k ≡ bit r k
+      other k n = a.at k ∙ ap (λ y. bit r k || (on && y)) (ne_eqb k i n) ∙ ap (λ y. bit r k || y) (and-false on) ∙ or_false (bit r k)
 
-    other : (k : ℕ) → eqb k i ≡ false → ((ltb k i && test k) || (test i && eqb k i)) ≡ (ltb k (i + 1) && test k)
-    other k h = rw (h, and-false (test i), or_false (ltb k i && test k)) (ap (λ b. b && test k) (same k (eqb-false k i h)))
+  -- Where the test is a function of the rule, so is the row.
+  collected_bit : {n : ℕ} {r : List ℕ} → Collected Gives n r → (test : ℕ → Bool) → ((k : ℕ) (b : Bool) → k < n → Gives k b → b ≡ test k)
+      → (k : ℕ) → bit r k ≡ (ltb k n && test k)
+  collected_bit {n} {r} p test h k =
+      either (ltb k n) (λ t. let l = ltb-true k n t in rw t (h k (bit r k) l (p.below k l)))
+      (λ f. let l = ltb-false k n f in rw f (p.beyond k l))
 
-pub below_none : Below 0 (0 ∷ 0 ∷ [])
-below_none = record { at = λ k. no_bits k ∙ sym (le-ltb k 0 (omega arith)) }
+  pub collected_all : {n : ℕ} {r : List ℕ} → Collected Gives n r → ((k : ℕ) (b : Bool) → k < n → Gives k b → b ≡ true) → Below n r
+  collected_all {n} p h = record { at = λ k. collected_bit p (λ j. true) h k ∙ and-true (ltb k n) }
 
-pub below_more : {i : ℕ} {r t : List ℕ} → Below i r → With r i t → Below (i + 1) t
-below_more {i} {r} b w =
-    let before : (k : ℕ) → bit r k ≡ (ltb k i && true) = λ k. b.at k ∙ sym (and-true (ltb k i)) in
-    record { at = λ k. row_next (λ k. true) {on = true} before refl (record { at = w.at }) k ∙ and-true (ltb k (i + 1)) }
+  pub collected_loops : {reach : List (List ℕ)} {n : ℕ} {r : List ℕ} → Collected Gives n r
+      → ((k : ℕ) (b : Bool) → k < n → Gives k b → b ≡ edge reach k k) → Loops reach n r
+  collected_loops {reach} p h = record { at = collected_bit p (λ k. edge reach k k) h }
 
-pub below_done : {i n : ℕ} {r : List ℕ} → Below i r → i ≤ n → n ≤ i → Below n r
-below_done {r = r} b l m = subst (λ x. Below x r) (omega arith) b
+  -- The rules that reach rule i, of those that it reaches.
+  pub collected_around : {reach : List (List ℕ)} {i n : ℕ} {r s : List ℕ} → Collected Gives n r
+      → ((k : ℕ) (b : Bool) → k < n → Gives k b → b ≡ edge reach k i) → Meet (get_or reach i []) r s → Around reach i n s
+  collected_around {reach} {i} {n} {r} p h a =
+      record {
+        at = λ k. a.at k ∙ ap (λ b. edge reach i k && b) (collected_bit p (λ j. edge reach j i) h k)
+            ∙ swap (edge reach i k) (ltb k n) (edge reach k i);
+      }
+    where
+      swap : (a b c : Bool) → (a && (b && c)) ≡ (b && (a && c))
+      swap true b c = refl
+      swap false true c = refl
+      swap false false c = refl
 
-pub loops_none : {reach : List (List ℕ)} → Loops reach 0 (0 ∷ 0 ∷ [])
-loops_none {reach} = record { at = row_none (λ k. edge reach k k) }
-
-pub loops_more : {reach : List (List ℕ)} {i : ℕ} {r t : List ℕ} {on : Bool} → Loops reach i r → on ≡ bit (get_or reach i []) i
-    → AddIf r i on t
-    → Loops reach (i + 1) t
-loops_more {reach} p e a = record { at = row_next (λ k. edge reach k k) p.at e a }
-
-pub loops_done : {reach : List (List ℕ)} {i n : ℕ} {r : List ℕ} → Loops reach i r → i ≤ n → n ≤ i → Loops reach n r
-loops_done {reach} {r = r} p l m = subst (λ x. Loops reach x r) (omega arith) p
-
--- The rules that reach rule i.
-pub record Into (reach : List (List ℕ)) (i n : ℕ) (r : List ℕ) : Type 0 where
-  pub at : (j : ℕ) → bit r j ≡ (ltb j n && edge reach j i)
-
-pub into_none : {reach : List (List ℕ)} {i : ℕ} → Into reach i 0 (0 ∷ 0 ∷ [])
-into_none {reach} {i} = record { at = row_none (λ k. edge reach k i) }
-
-pub into_more : {reach : List (List ℕ)} {i j : ℕ} {r t : List ℕ} {on : Bool} → Into reach i j r → on ≡ bit (get_or reach j []) i
-    → AddIf r j on t
-    → Into reach i (j + 1) t
-into_more {reach} {i} p e a = record { at = row_next (λ k. edge reach k i) p.at e a }
-
-pub around_done : {reach : List (List ℕ)} {i j n : ℕ} {r s : List ℕ} → Into reach i j r → j ≤ n → n ≤ j → Meet (get_or reach i []) r s
-    → Around reach i n s
-around_done {reach} {i} {j} {n} {r} p l m a =
-    let e : j ≡ n = omega arith in
-    let column : (k : ℕ) → bit r k ≡ (ltb k n && edge reach k i) = λ k. p.at k ∙ ap (λ x. ltb k x && edge reach k i) e in
-    record { at = λ k. a.at k ∙ ap (λ b. edge reach i k && b) (column k) ∙ swap (edge reach i k) (ltb k n) (edge reach k i) }
-  where
-    swap : (a b c : Bool) → (a && (b && c)) ≡ (b && (a && c))
-    swap true b c = refl
-    swap false true c = refl
-    swap false false c = refl
-
-pub ruleset filling = (below_none, below_more, below_done, loops_none, loops_more, loops_done, into_none, into_more, around_done)
+pub ruleset collecting = (collected_none, collected_more)

@@ -17,9 +17,9 @@ use Rattle.graph.specs.Reach.{way_way, way_start}
 use Rattle.graph.specs.Cycles.{in_cycles, Several, several_of, ways_component, component_rises, component_both}
 use Rattle.reach.specs.Rows.{bit, edge, Minus}
 use Rattle.reach.specs.Reach.{Around}
-use Rattle.reach.specs.Cycles.{Least, NoneLeft}
+use Rattle.reach.specs.Cycles.{Least, NoneLeft, IsNext}
 use Rattle.reach.specs.Listed.{row_at, Numbered, Ids, Members, Left, Given, GivesNext}
-use Rattle.reach.specs.declared.cycles.Next.TheVariants.{Done, Rule}
+use Rattle.std.specs.Prelude.{Option, Some, None}
 use Rattle.reach.proofs.Laws.Graph.{in_id}
 use Rattle.reach.proofs.Laws.Listed.{same_test}
 
@@ -181,8 +181,6 @@ given_none (c ∷ cs) d h l =
     let p = place d.numbered h in
     absurd (true≢false (sym (first_left d.numbered h) ∙ l.none p.0 p.1))
 
-pub first_rule : {ids left : List ℕ} {n i : ℕ} → Least ids left n i → GivesNext ids left n (Rule i)
-first_rule l = record { gives = λ rows all closed cycles d h. given_least cycles d h l }
-
-pub first_done : {left : List ℕ} {n : ℕ} → NoneLeft left n → {ids : List ℕ} → GivesNext ids left n Done
-first_done l = record { gives = λ rows all closed cycles d h. given_none cycles d h l }
+pub gives_next : (r : Option ℕ) {ids left : List ℕ} {n : ℕ} → IsNext ids left n r → GivesNext ids left n r
+gives_next None l = record { gives = λ rows all closed cycles d h. given_none cycles d h l }
+gives_next (Some i) l = record { gives = λ rows all closed cycles d h. given_least cycles d h l }

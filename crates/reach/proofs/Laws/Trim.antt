@@ -1,9 +1,8 @@
 -- Rules that lead to no rule left are on no cycle.
-use Prim.Native.Nat.{ℕ, ◌-◌, ◌≤◌, ◌<◌}
+use Prim.Native.Nat.{ℕ, ◌<◌}
 use mathlib.Core.Path.{◌≡◌, sym, ap, ◌∙◌, subst}
 use mathlib.Core.List.{List, []}
 use mathlib.Core.Bool.{Bool, true, false, not, true≢false}
-use native.Mathlib.Omega.{arith}
 use lib.ListN.{get_or}
 use lib.Dec.{eqb}
 use borrow.Author.Tests.{eqb-false, ne_eqb, lt-ltb, not-true}
@@ -47,9 +46,4 @@ holds_kept {rows} {n} {i} {row} {r} h l k =
     leads (last e) = (i, e, h.at i l (last e))
     leads (more {k = j} e m p) = (j, e, h.at j m (path_path p l (last e)))
 
-pub holds_down : {rows : List (List ℕ)} {n i : ℕ} {row r : List ℕ} → Holds rows n row → i ≤ n → (i ≡ 0 → ⊥)
-    → Kept row (i - 1) (get_or rows (i - 1) []) r
-    → Holds rows n r
-holds_down h l z k = holds_kept h (omega arith) k
-
-pub ruleset trimming = (holds_all, holds_kept, holds_down)
+pub ruleset trimming = (holds_all, holds_kept)

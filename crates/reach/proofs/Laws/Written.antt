@@ -1,6 +1,6 @@
 -- Cycles that are written as rows, one after the other, until none is left.
 use Prim.Native.Nat.{ℕ, suc, ◌+◌, ◌≤◌, ◌<◌}
-use mathlib.Core.Path.{◌≡◌, refl, sym, ap, ◌∙◌}
+use mathlib.Core.Path.{◌≡◌, refl, sym, ap, ◌∙◌, subst}
 use mathlib.Core.List.{List, [], ◌∷◌, ◌++◌}
 use mathlib.Core.Bool.{Bool, true, false}
 use native.Mathlib.Omega.{arith}
@@ -18,6 +18,7 @@ use Rattle.reach.specs.Rows.{RowOf, Behind}
 use Rattle.reach.specs.Reach.{Loops}
 use Rattle.reach.specs.Listed.{corner_rows, Numbered, Ids, Left, AllLeft, Taken, AheadOf, CycleRows, CyclesIn}
 use Rattle.reach.specs.declared.cycles.Ahead.{Ahead}
+use Rattle.std.specs.Prelude.{Option, Some, None}
 
 -- There are no more cycles than rules.
 insert_length : (x : ℕ) (ys : List ℕ) → length (insert x ys) ≡ suc (length ys)
@@ -125,10 +126,10 @@ write_none e =
 
 module _ {ids left₀ left : List ℕ} {n k : ℕ} {closed before after : List (List ℕ)}
     (w : Writing ids n closed left₀ before after left k) where
-  pub write_more : {r : Ahead} → AheadOf closed ids n left r → r.done ≡ false → k < n → n ≤ rule_limit
-      → Writing ids n closed left₀ before (set after k r.members) r.left (k + 1)
-  write_more {r} f y l few =
-      let row = r.members in
+  pub write_more : {r : Option Ahead} {a : Ahead} → AheadOf closed ids n left r → r ≡ Some a → k < n → n ≤ rule_limit
+      → Writing ids n closed left₀ before (set after k a.members) a.left (k + 1)
+  write_more {r} {a} f y l few =
+      let row = a.members in
       record {
         low = omega arith;
         behind = record {
@@ -142,7 +143,7 @@ module _ {ids left₀ left : List ℕ} {n k : ℕ} {closed before after : List (
 
   module _ {corners : List (List ℕ)} (j : AllLeft corners n closed) (u : Loops closed n left₀) where
     -- Where the first finds none, or as many are written as there are rules, these are all.
-    pub write_done : {r : Ahead} → AheadOf closed ids n left r → r.done ≡ true → CyclesIn corners ids n before after k
+    pub write_done : {r : Option Ahead} → AheadOf closed ids n left r → r ≡ None → CyclesIn corners ids n before after k
     write_done f y =
         record {
           low = w.low;
@@ -156,14 +157,16 @@ module _ {ids left₀ left : List ℕ} {n k : ℕ} {closed before after : List (
               part_all p (omega arith);
         }
 
-    pub write_full : n ≤ k → CyclesIn corners ids n before after k
-    write_full l =
-        record {
-          low = w.low;
-          behind = w.behind;
-          is = λ c g d rs e i.
-              let few = corners_few c g d rs i.numbered in
-              part_all (w.is (corner_rows c g d rs) (left_corner_cycles c g d rs) i (j.left c g d rs e left₀ u)) (omega arith);
-        }
+    pub write_full : n ≤ k → CyclesIn corners ids n before after n
+    write_full l = subst (CyclesIn corners ids n before after) same record {
+      low = w.low;
+      behind = w.behind;
+      is = λ c g d rs e i.
+          let few = corners_few c g d rs i.numbered in
+          part_all (w.is (corner_rows c g d rs) (left_corner_cycles c g d rs) i (j.left c g d rs e left₀ u)) (omega arith);
+    }
+      where
+        same : k ≡ n
+        same = let low = w.low in omega arith
 
 pub ruleset writing = (write_none, write_more, write_done, write_full)

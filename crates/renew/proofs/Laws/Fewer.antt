@@ -1,5 +1,5 @@
 -- What is known of rules, when one of them is gone, and when all are.
-use Prim.Native.Nat.{ℕ, suc, ◌-◌, ◌≤◌}
+use Prim.Native.Nat.{ℕ, suc, ◌-◌, ◌<◌, ◌≤◌}
 use mathlib.Core.Path.{◌≡◌, refl, sym, ap, ◌∙◌, subst}
 use mathlib.Core.List.{List, [], ◌∷◌, ◌++◌, map-id, map-append}
 use mathlib.Core.Bool.{Bool, true, false, not, true≢false}
@@ -17,7 +17,7 @@ use Rattle.analysis.proofs.Laws.Standing.{among, few, key_at}
 use Rattle.hub.proofs.Laws.Grounds.{row_bit, row_of, row_none}
 use Rattle.renew.specs.Less.{before, after, Less, RowsLess}
 use Rattle.renew.specs.Fewer.{staying, HasRow, HasRows, IsAt, PlaceLess, Unchanged, PlaceLessIf, Fewer, RulesLess}
-use Rattle.renew.specs.declared.places.Rest.{Rest}
+use Rattle.renew.specs.declared.renew.Renewed.{Renewed}
 use Rattle.renew.proofs.Laws.Words.{before_high}
 use Rattle.renew.proofs.Laws.Less.{before_next, before_after, after_inside, list_less}
 
@@ -83,7 +83,7 @@ module _ (front : List Rule) (r : Rule) (more : List Rule) where
         is = sym (ids_less (after (length front) i)) ∙ ap (λ j. get_or (ids_of all) j 0) (before_after other) ∙ a.is;
       }
 
-  fewer_one : {cs ks cs' ks' : List (List ℕ)} {m m' : Rest} {n : ℕ} {gone : List ℕ} → PlaceLess cs ks m cs' ks' m' n (length front)
+  fewer_one : {cs ks cs' ks' : List (List ℕ)} {m m' : Renewed} {n : ℕ} {gone : List ℕ} → PlaceLess cs ks m cs' ks' m' n (length front)
       → length all ≤ n → member r.id gone ≡ true → Fewer cs ks m cs' ks' m' all rest gone
   fewer_one {gone = gone} p l t =
       record {
@@ -96,7 +96,7 @@ module _ (front : List Rule) (r : Rule) (more : List Rule) where
             subst (λ i. IsAt rest i h) (sym p.hub) (place_less (λ e. true≢false (sym t ∙ ap (λ x. member x gone) (sym e) ∙ f)) a);
       }
 
-fewer_none : {cs ks : List (List ℕ)} {m : Rest} {rs : List Rule} {gone : List ℕ} → Fewer cs ks m cs ks m rs rs gone
+fewer_none : {cs ks : List (List ℕ)} {m : Renewed} {rs : List Rule} {gone : List ℕ} → Fewer cs ks m cs ks m rs rs gone
 fewer_none =
     record {
       calls = λ give h. h;
@@ -107,7 +107,7 @@ fewer_none =
       hub = λ h f a. a;
     }
 
-fewer_then : {cs ks cs' ks' cs'' ks'' : List (List ℕ)} {m m' m'' : Rest} {rs qs ps : List Rule} {gone : List ℕ}
+fewer_then : {cs ks cs' ks' cs'' ks'' : List (List ℕ)} {m m' m'' : Renewed} {rs qs ps : List Rule} {gone : List ℕ}
     → Fewer cs ks m cs' ks' m' rs qs gone → Fewer cs' ks' m' cs'' ks'' m'' qs ps gone → Fewer cs ks m cs'' ks'' m'' rs ps gone
 fewer_then x y =
     record {
@@ -119,7 +119,7 @@ fewer_then x y =
       hub = λ h f a. y.hub h f (x.hub h f a);
     }
 
-unchanged_fewer : {cs ks cs' ks' : List (List ℕ)} {m m' : Rest} {rs : List Rule} {gone : List ℕ} → Unchanged cs ks m cs' ks' m'
+unchanged_fewer : {cs ks cs' ks' : List (List ℕ)} {m m' : Renewed} {rs : List Rule} {gone : List ℕ} → Unchanged cs ks m cs' ks' m'
     → Fewer cs ks m cs' ks' m' rs rs gone
 unchanged_fewer u = rw (u.calls, u.corners, u.rest) fewer_none
 
@@ -131,8 +131,8 @@ keep_few test (x ∷ xs) =
     either (test x) (λ t. rw t (omega arith)) (λ f. rw f (omega arith))
 
 -- A place is taken out if it is to be.
-module _ {cs ks : List (List ℕ)} {m : Rest} {row : List ℕ} {n k : ℕ} {b : Bool} (e : b ≡ bit row k) where
-  pub if_taken : {cs' ks' : List (List ℕ)} {m' : Rest} → b ≡ true → PlaceLess cs ks m cs' ks' m' n k
+module _ {cs ks : List (List ℕ)} {m : Renewed} {row : List ℕ} {n k : ℕ} {b : Bool} (e : b ≡ bit row k) where
+  pub if_taken : {cs' ks' : List (List ℕ)} {m' : Renewed} → b ≡ true → PlaceLess cs ks m cs' ks' m' n k
       → PlaceLessIf cs ks m cs' ks' m' row n k
   if_taken t p =
       record {
@@ -154,14 +154,14 @@ module _ {cs ks : List (List ℕ)} {m : Rest} {row : List ℕ} {n k : ℕ} {b : 
 pub ruleset ifs = (if_taken, if_left)
 
 -- The rules from place k on are done.
-pub record Dropping (cs₀ ks₀ : List (List ℕ)) (m₀ : Rest) (cs ks : List (List ℕ)) (m : Rest) (row : List ℕ) (n k : ℕ) : Type 0 where
+pub record Dropping (cs₀ ks₀ : List (List ℕ)) (m₀ : Renewed) (cs ks : List (List ℕ)) (m : Renewed) (row : List ℕ) (n k : ℕ) : Type 0 where
   pub low : k ≤ n
   pub calls_long : length cs ≡ rule_limit
   pub corners_long : length ks ≡ rule_limit
   pub is : (rs : List Rule) (gone : List ℕ) → length rs ≡ n → HasRow rs gone row → (front behind : List Rule) → front ++ behind ≡ rs
       → length front ≡ k → Fewer cs₀ ks₀ m₀ cs ks m rs (front ++ staying gone behind) gone
 
-pub drop_none : {cs ks : List (List ℕ)} {m : Rest} {row : List ℕ} {n : ℕ} → length cs ≡ rule_limit → length ks ≡ rule_limit
+pub drop_none : {cs ks : List (List ℕ)} {m : Renewed} {row : List ℕ} {n : ℕ} → length cs ≡ rule_limit → length ks ≡ rule_limit
     → Dropping cs ks m cs ks m row n n
 unfolding keep
 drop_none {cs} {ks} {m} a b =
@@ -177,8 +177,8 @@ drop_none {cs} {ks} {m} a b =
     last rs gone front [] p l = subst (λ xs. Fewer cs ks m cs ks m rs xs gone) (sym p) fewer_none
     last rs gone front (b ∷ bs) p l = absurd (let s = length-append front (b ∷ bs) in let t = ap length p in omega arith)
 
-module _ {cs₀ ks₀ cs ks : List (List ℕ)} {m₀ m : Rest} {row : List ℕ} {n k : ℕ} (x : Dropping cs₀ ks₀ m₀ cs ks m row n k) where
-  pub drop_more : {cs' ks' : List (List ℕ)} {m' : Rest} → PlaceLessIf cs ks m cs' ks' m' row n (k - 1) → (k ≡ 0 → ⊥)
+module _ {cs₀ ks₀ cs ks : List (List ℕ)} {m₀ m : Renewed} {row : List ℕ} {n k : ℕ} (x : Dropping cs₀ ks₀ m₀ cs ks m row n k) where
+  pub drop_more : {cs' ks' : List (List ℕ)} {m' : Renewed} → PlaceLessIf cs ks m cs' ks' m' row n (k - 1) → 0 < k
       → Dropping cs₀ ks₀ m₀ cs' ks' m' row n (k - 1)
   unfolding keep
   drop_more {cs'} {ks'} {m'} p z =
@@ -210,10 +210,10 @@ module _ {cs₀ ks₀ cs ks : List (List ℕ)} {m₀ m : Rest} {row : List ℕ} 
           (fewer_one front b (staying gone bs) (subst (PlaceLess cs ks m cs' ks' m' n) (sym l) (p.taken (own ∙ t))) (omega arith) t)))
           (λ f. rw f (fewer_then before (unchanged_fewer (p.left (own ∙ f)))))
 
-  pub drop_all : k ≡ 0 → RulesLess cs₀ ks₀ m₀ cs ks m row n
+  pub drop_all : k ≤ 0 → RulesLess cs₀ ks₀ m₀ cs ks m row n
   drop_all z =
       record {
-        is = λ rs gone e h. x.is rs gone e h [] rs refl (sym z);
+        is = λ rs gone e h. x.is rs gone e h [] rs refl (omega arith);
         calls_long = x.calls_long;
         corners_long = x.corners_long;
       }

@@ -1,19 +1,16 @@
-use Rattle.std.proofs.Common.{rules}
+use Rattle.std.proofs.Common.{rules, refl}
 use Rattle.analysis.proofs.rounds.rounds.Goals as goal
-use Rattle.analysis.proofs.Laws.Rounded.{finding}
+use Rattle.analysis.proofs.Laws.Rounded.{finding, find_stands, find_more, find_last}
+use native.Mathlib.Omega.{arith}
 
--- src/rounds.rt:121:5
-pub loop-left-init : goal.loop-left-init
-loop-left-init c = search (rules, finding)
+pub loop-init : goal.loop-init
+loop-init c = search (rules, finding)
 
--- src/rounds.rt:130:13
 pub returns-then-r-count-clause-facts_found : goal.returns-then-r-count-clause-facts_found
-returns-then-r-count-clause-facts_found c = search (rules, finding)
+returns-then-r-count-clause-facts_found c = find_stands c.loop.invariant.0 refl c.survey_all-r.ensures (omega arith) (search rules)
 
--- src/rounds.rt:121:5
-pub loop-left-preserved : goal.loop-left-preserved
-loop-left-preserved c = search (rules, finding)
+pub loop-preserved : goal.loop-preserved
+loop-preserved c = (find_more c.loop.invariant.0 refl c.survey_all-r.ensures (omega arith) (search rules), search (rules, finding), search (rules, finding))
 
--- src/rounds.rt:101:1
 pub returns-clause-facts_found : goal.returns-clause-facts_found
-returns-clause-facts_found c = search (rules, finding)
+returns-clause-facts_found c = find_last c.loop.invariant.0 refl c.survey_all-r-2.ensures (omega arith)

@@ -1,12 +1,7 @@
-use Prim.Native.Nat.{◌-◌, ◌≤◌}
 use Rattle.grammar.specs.Words.{words}
-use Rattle.grammar.specs.Numbers.{rule_limit}
 use Rattle.analysis.specs.Survey.{view_of}
 use Rattle.analysis.specs.Rounds.{Recording}
 use Rattle.analysis.proofs.rounds.survey_all.Given as goal
 
 abbrev pub invariant-loop-i : goal.invariant-loop-i
-invariant-loop-i l = (l.i ≤ l.n) × (l.n ≤ rule_limit) × Recording (view_of l.names l.known) (words l.s) l.end l.places l.initial.calls l.initial.corners l.i l.calls l.corners l.r
-
-abbrev pub decreases-loop-i : goal.decreases-loop-i
-decreases-loop-i l = l.n - l.i
+invariant-loop-i l = Recording (view_of l.names l.known) (words l.s) l.end l.places l.initial.calls l.initial.corners l.i l.calls l.corners l.r

@@ -1,17 +1,12 @@
 use Rattle.std.proofs.Common.{rules}
 use Rattle.analysis.proofs.survey.body.Goals as goal
-use Rattle.grammar.specs.Laws.Fold.{folding}
-use Rattle.analysis.proofs.Laws.Walks.{body_room}
+use Rattle.analysis.proofs.Laws.Walks.{counted, body_room}
 
--- src/survey.rt:80:13
-pub outermost-q-requires-clause-found_alternative :
-    goal.outermost-q-requires-clause-found_alternative
-outermost-q-requires-clause-found_alternative c = search (rules, folding, body_room)
+pub outermost-p-requires-clause-found_alternative : goal.outermost-p-requires-clause-found_alternative
+outermost-p-requires-clause-found_alternative c = search (rules, counted, body_room)
 
--- src/survey.rt:79:5
-pub loop-i-preserved : goal.loop-i-preserved
-loop-i-preserved c = search (rules, folding, body_room)
+pub loop-preserved : goal.loop-preserved
+loop-preserved c = search (rules, counted)
 
--- src/survey.rt:57:1
 pub returns : goal.returns
-returns c = search (rules, folding)
+returns c = search (rules, counted)

@@ -1,72 +1,71 @@
 use Rattle.std.proofs.Common.{rules}
 use Rattle.analysis.proofs.walk.+tree.Goals as goal
 use Rattle.grammar.specs.Laws.Found.{rooms, inner}
-use Rattle.grammar.specs.Laws.Fold.{folding}
-use Rattle.analysis.proofs.Laws.Walks.{surveys, block_lower}
+use Rattle.analysis.proofs.Laws.Walks.{surveys, counted, block_lower}
 
 -- src/walk.rt:175:9
 pub alternative-alternative_head-head-requires-clause-room :
     goal.alternative-alternative_head-head-requires-clause-room
-alternative-alternative_head-head-requires-clause-room t c = search (rules, inner, rooms, surveys, folding, block_lower)
+alternative-alternative_head-head-requires-clause-room t c = search (rules, inner, rooms, surveys, counted, block_lower)
 
 -- src/walk.rt:177:9
 pub alternative-elements-e-requires : goal.alternative-elements-e-requires
-alternative-elements-e-requires t c = search (rules, inner, rooms, surveys, folding, block_lower)
+alternative-elements-e-requires t c = search (rules, inner, rooms, surveys, counted, block_lower)
 
 -- src/walk.rt:156:1
 pub alternative-returns : goal.alternative-returns
-alternative-returns t c = search (rules, inner, rooms, surveys, folding)
+alternative-returns t c = search (rules, inner, rooms, surveys, counted)
 
 -- src/walk.rt:213:13
-pub alternatives-alternative-q-requires : goal.alternatives-alternative-q-requires
-alternatives-alternative-q-requires t c = search (rules, inner, rooms, surveys, folding, block_lower)
+pub alternatives-alternative-p-requires : goal.alternatives-alternative-p-requires
+alternatives-alternative-p-requires t c = search (rules, inner, rooms, surveys, counted, block_lower)
 
 -- src/walk.rt:212:5
-pub alternatives-loop-i-preserved : goal.alternatives-loop-i-preserved
-alternatives-loop-i-preserved t c = search (rules, inner, rooms, surveys, folding, block_lower)
+pub alternatives-loop-preserved : goal.alternatives-loop-preserved
+alternatives-loop-preserved t c = search (rules, inner, rooms, surveys, counted, block_lower)
 
 -- src/walk.rt:188:1
 pub alternatives-returns : goal.alternatives-returns
-alternatives-returns t c = search (rules, inner, rooms, surveys, folding)
+alternatives-returns t c = search (rules, inner, rooms, surveys, counted)
 
 -- src/walk.rt:44:9
 pub element-element_head-head-requires-clause-room :
     goal.element-element_head-head-requires-clause-room
-element-element_head-head-requires-clause-room t c = search (rules, inner, rooms, surveys, folding, block_lower)
+element-element_head-head-requires-clause-room t c = search (rules, inner, rooms, surveys, counted, block_lower)
 
 -- src/walk.rt:49:9
 pub element-returns-then-head-eq-TOKEN : goal.element-returns-then-head-eq-TOKEN
-element-returns-then-head-eq-TOKEN t c = search (rules, inner, rooms, surveys, folding)
+element-returns-then-head-eq-TOKEN t c = search (rules, inner, rooms, surveys, counted)
 
 -- src/walk.rt:142:13
-pub elements-element-q-requires : goal.elements-element-q-requires
-elements-element-q-requires t c = search (rules, inner, rooms, surveys, folding, block_lower)
+pub elements-element-p-requires : goal.elements-element-p-requires
+elements-element-p-requires t c = search (rules, inner, rooms, surveys, counted, block_lower)
 
 -- src/walk.rt:141:5
-pub elements-loop-i-preserved : goal.elements-loop-i-preserved
-elements-loop-i-preserved t c = search (rules, inner, rooms, surveys, folding, block_lower)
+pub elements-loop-preserved : goal.elements-loop-preserved
+elements-loop-preserved t c = search (rules, inner, rooms, surveys, counted, block_lower)
 
 -- src/walk.rt:117:1
 pub elements-returns : goal.elements-returns
-elements-returns t c = search (rules, inner, rooms, surveys, folding)
+elements-returns t c = search (rules, inner, rooms, surveys, counted)
 
 -- src/walk.rt:78:9
 pub other_element-element_head-head-requires-clause-room :
     goal.other_element-element_head-head-requires-clause-room
-other_element-element_head-head-requires-clause-room t c = search (rules, inner, rooms, surveys, folding, block_lower)
+other_element-element_head-head-requires-clause-room t c = search (rules, inner, rooms, surveys, counted, block_lower)
 
 -- src/walk.rt:87:13
 pub other_element-overflow_sub-depth : goal.other_element-overflow_sub-depth
-other_element-overflow_sub-depth t c = search (rules, inner, rooms, surveys, folding)
+other_element-overflow_sub-depth t c = search (rules, inner, rooms, surveys, counted)
 
 -- src/walk.rt:84:13
 pub other_element-alternatives-b-requires : goal.other_element-alternatives-b-requires
-other_element-alternatives-b-requires t c = search (rules, inner, rooms, surveys, folding, block_lower)
+other_element-alternatives-b-requires t c = search (rules, inner, rooms, surveys, counted, block_lower)
 
 -- src/walk.rt:98:9
 pub other_element-returns-then-kind-eq-BLOCK : goal.other_element-returns-then-kind-eq-BLOCK
-other_element-returns-then-kind-eq-BLOCK t c = search (rules, inner, rooms, surveys, folding)
+other_element-returns-then-kind-eq-BLOCK t c = search (rules, inner, rooms, surveys, counted)
 
 -- src/walk.rt:59:1
 pub other_element-returns : goal.other_element-returns
-other_element-returns t c = search (rules, inner, rooms, surveys, folding)
+other_element-returns t c = search (rules, inner, rooms, surveys, counted)

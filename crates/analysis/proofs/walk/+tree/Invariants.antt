@@ -1,5 +1,5 @@
 use mathlib.Core.Path.{◌≡◌}
-use Prim.Native.Nat.{◌+◌, ◌*◌}
+use Prim.Native.Nat.{◌+◌, ◌-◌, ◌*◌}
 use lib.ListN.{length}
 use Rattle.grammar.specs.Words.{words}
 use Rattle.grammar.specs.Laws.Fold.{ElementsFolding, AlternativesFolding}
@@ -21,14 +21,8 @@ decreases-elements l = l.depth * 5 + 2
 abbrev pub decreases-other_element : goal.decreases-other_element
 decreases-other_element l = l.depth * 5
 
-abbrev pub invariant-alternatives-loop-i : goal.invariant-alternatives-loop-i
-invariant-alternatives-loop-i l = (length l.t ≡ length l.initial.t) × AlternativesFolding (surveying (view_of l.names l.known)) (words l.s) l.end l.depth l.n l.at (seen_of l.initial.t l.seeks l.null) l.i l.here (seen_of l.t l.sought l.empty)
+abbrev pub invariant-alternatives-loop : goal.invariant-alternatives-loop
+invariant-alternatives-loop l = (length l.t ≡ length l.initial.t) × AlternativesFolding (surveying (view_of l.names l.known)) (words l.s) l.end l.depth l.n l.at (seen_of l.initial.t l.seeks l.null) (l.n - l.counter) l.p.at (seen_of l.t l.p.seeks l.p.null)
 
-abbrev pub decreases-alternatives-loop-i : goal.decreases-alternatives-loop-i
-decreases-alternatives-loop-i l = l.i
-
-abbrev pub invariant-elements-loop-i : goal.invariant-elements-loop-i
-invariant-elements-loop-i l = (length l.t ≡ length l.initial.t) × ElementsFolding (surveying (view_of l.names l.known)) (words l.s) l.end l.depth l.n l.at (seen_of l.initial.t l.seeks l.null) l.i l.here (seen_of l.t l.sought l.empty)
-
-abbrev pub decreases-elements-loop-i : goal.decreases-elements-loop-i
-decreases-elements-loop-i l = l.i
+abbrev pub invariant-elements-loop : goal.invariant-elements-loop
+invariant-elements-loop l = (length l.t ≡ length l.initial.t) × ElementsFolding (surveying (view_of l.names l.known)) (words l.s) l.end l.depth l.n l.at (seen_of l.initial.t l.seeks l.null) (l.n - l.counter) l.p.at (seen_of l.t l.p.seeks l.p.null)

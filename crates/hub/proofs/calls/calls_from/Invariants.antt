@@ -1,9 +1,5 @@
-use Prim.Native.Nat.{◌-◌, ◌≤◌}
 use Rattle.hub.specs.Calls.{CallsFrom}
 use Rattle.hub.proofs.calls.calls_from.Given as goal
 
 abbrev pub invariant-loop-i : goal.invariant-loop-i
-invariant-loop-i l = (l.i ≤ l.n) × CallsFrom l.calls l.out l.initial.r l.i l.r
-
-abbrev pub decreases-loop-i : goal.decreases-loop-i
-decreases-loop-i l = l.n - l.i
+invariant-loop-i l = CallsFrom l.calls l.out l.initial.r l.i l.r

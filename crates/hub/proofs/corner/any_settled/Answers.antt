@@ -26,8 +26,8 @@ pub alternative_end-p-requires-clause-found_alternative :
 alternative_end-p-requires-clause-found_alternative c = search (rules, trying)
 
 -- src/corner.rt:83:5
-pub loop-i-preserved : goal.loop-i-preserved
-loop-i-preserved c = search (rules, trying)
+pub loop-preserved : goal.loop-preserved
+loop-preserved c = search (rules, trying)
 
 -- src/corner.rt:76:1
 pub returns : goal.returns

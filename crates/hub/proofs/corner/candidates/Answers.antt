@@ -1,16 +1,14 @@
-use Rattle.std.proofs.Common.{rules}
+use Rattle.std.proofs.Common.{rules, refl}
 use Rattle.hub.proofs.corner.candidates.Goals as goal
-use Rattle.analysis.proofs.Laws.Standing.{standing}
-use Rattle.hub.proofs.Laws.Able.{collecting}
+use Rattle.analysis.proofs.Laws.Standing.{place_found, place_room}
+use Rattle.hub.proofs.Laws.Able.{candidates_of}
 
--- src/corner.rt:120:5
-pub loop-i-init : goal.loop-i-init
-loop-i-init c = search (rules, collecting, standing)
+pub collect-requires-clause-test : goal.collect-requires-clause-test
+collect-requires-clause-test c =
+    λ i l.
+    let found = place_found c.requires.standing.rows l c.requires.room.1 refl in
+    let room = place_room c.requires.standing.rows l c.requires.room.1 refl in
+    search rules
 
--- src/corner.rt:121:30
-pub is_candidate-requires-clause-room : goal.is_candidate-requires-clause-room
-is_candidate-requires-clause-room c = search (rules, collecting, standing)
-
--- src/corner.rt:121:30
-pub is_candidate-requires-clause-found_rule : goal.is_candidate-requires-clause-found_rule
-is_candidate-requires-clause-found_rule c = search (rules, collecting, standing)
+pub returns : goal.returns
+returns c = candidates_of c.collect.ensures (search rules) (λ k b l p. search rules)

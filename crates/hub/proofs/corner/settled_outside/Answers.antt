@@ -24,8 +24,8 @@ pub leaf_end-p-requires-clause-found_element : goal.leaf_end-p-requires-clause-f
 leaf_end-p-requires-clause-found_element c = search (rules, seeking)
 
 -- src/corner.rt:59:5
-pub loop-i-preserved : goal.loop-i-preserved
-loop-i-preserved c = search (rules, seeking)
+pub loop-preserved : goal.loop-preserved
+loop-preserved c = search (rules, seeking)
 
 -- src/corner.rt:44:1
 pub returns : goal.returns

@@ -1,11 +1,6 @@
 use Rattle.std.proofs.Common.{rules}
 use Rattle.reach.proofs.reach.loops.Goals as goal
-use Rattle.reach.proofs.Laws.Filled.{filling}
+use Rattle.reach.proofs.Laws.Filled.{collected_loops}
 
--- src/reach.rt:64:5
-pub loop-i-init : goal.loop-i-init
-loop-i-init c = search (rules, filling)
-
--- src/reach.rt:64:5
-pub loop-i-preserved : goal.loop-i-preserved
-loop-i-preserved c = search (rules, filling)
+pub returns : goal.returns
+returns c = collected_loops c.collect.ensures (λ k b l p. search rules)

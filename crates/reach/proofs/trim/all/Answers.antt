@@ -1,7 +1,6 @@
 use Rattle.std.proofs.Common.{rules}
 use Rattle.reach.proofs.trim.all.Goals as goal
-use Rattle.reach.proofs.Laws.Filled.{filling}
+use Rattle.reach.proofs.Laws.Filled.{collected_all}
 
--- src/trim.rt:26:5
-pub loop-i-init : goal.loop-i-init
-loop-i-init c = search (rules, filling)
+pub returns : goal.returns
+returns c = collected_all c.collect.ensures (λ k b l p. search rules)

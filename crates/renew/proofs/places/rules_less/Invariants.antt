@@ -3,6 +3,3 @@ use Rattle.renew.proofs.places.rules_less.Given as goal
 
 abbrev pub invariant-loop-k : goal.invariant-loop-k
 invariant-loop-k l = Dropping l.initial.calls l.initial.corners l.initial.t l.calls l.corners l.t l.gone l.n l.k
-
-abbrev pub decreases-loop-k : goal.decreases-loop-k
-decreases-loop-k l = l.k
