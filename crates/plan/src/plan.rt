@@ -20,7 +20,6 @@ use hub::hub::choose_hub;
 use hub::inlinable::all_inlinable;
 use hub::removal::removable;
 use planned::list::Sizes;
-use reach::cycles::Next;
 use reach::rows::Row;
 use records::rules::Rules;
 use rewritable::judge::judge;
@@ -175,12 +174,10 @@ pub fn plan_cycle(
         work.new result }
 {
     let nullable = marks.nullable;
-    match choose_hub(s, end, rules, nullable, calls, members, kept) {
-        Next::Done => Err(Unplanned::Declined(Clause::NoHub)),
-        Next::Rule(hub) => {
-            with_hub(
-                s, end, rules, past, calls, marks, kept, members, hub, limits, work,
-            )
-        }
-    }
+    let Some(hub) = choose_hub(s, end, rules, nullable, calls, members, kept) else {
+        return Err(Unplanned::Declined(Clause::NoHub));
+    };
+    with_hub(
+        s, end, rules, past, calls, marks, kept, members, hub, limits, work,
+    )
 }

@@ -88,10 +88,9 @@ fn try_cycles(
     let mut clauses = none.clauses;
     let mut left = loops(closed, n);
     for k in 0..n {
-        let ahead = next_cycle(closed, &ids, n, left);
-        if ahead.done {
+        let Some(ahead) = next_cycle(closed, &ids, n, left) else {
             return ended(Search::NoPlan, k, clauses);
-        }
+        };
         let members = ahead.members;
         match plan_cycle(
             s, end, rules, past, calls, marks, kept, members, limits, work,

@@ -9,7 +9,7 @@ ghost use Rattle.analysis.specs.Names.{Told};
 ghost use Rattle.planned.specs.List.{Located, ListedIn};
 ghost use Rattle.steps.specs.Corner.{bare_at, quantifier_at, met_member, CallMet, ItemMet, CornerAt};
 
-use analysis::names::{Target, scan};
+use analysis::names::scan;
 use planned::list::{Item, Listed};
 use planned::read::item;
 use reach::rows::{Row, has};
@@ -91,15 +91,10 @@ fn meet_call(names: &[u32], c: Cycle, name: u32, bare: bool, quantifier: u32) ->
     requires { (c.n ≤ rule_limit) × Told names.now c.n }
     ensures { CallMet names.now c name bare quantifier result }
 {
+    let members = c.members;
     match scan(names, c.n, name) {
-        Target::Unknown => Met::Settled,
-        Target::Rule(t) => {
-            let members = c.members;
-            if has(members, t) {
-                return meet_member(bare, quantifier, t, c.hub);
-            }
-            Met::Settled
-        }
+        Some(t) if has(members, t) => meet_member(bare, quantifier, t, c.hub),
+        _ => Met::Settled,
     }
 }
 

@@ -3,7 +3,7 @@ use Prim.Native.Nat.{ℕ, zero, suc, ◌+◌, ◌<◌, ◌≤◌}
 use mathlib.Core.Path.{◌≡◌, refl, sym, ap, ◌∙◌, subst}
 use mathlib.Core.List.Memᴰ
 use mathlib.Core.List.{List, [], ◌∷◌, Memᴰ}
-use mathlib.Core.Bool.{Bool, true, false}
+use mathlib.Core.Bool.{Bool}
 use native.Mathlib.Omega.{arith}
 use native.Mathlib.Numerals.{add-one}
 use lib.ListN.{length, get_or, take, drop, replicate, set, length-set, length-drop, length-replicate}
@@ -27,7 +27,7 @@ use Rattle.steps.specs.Decide.{clause_of, DeclinedByNumber}
 use Rattle.turns.specs.declared.state.Limits.{Limits}
 use Rattle.plan.specs.declared.plan.Plan.{Plan}
 use Rattle.reference.specs.Substitute.{clause_number}
-use Rattle.std.specs.Prelude.{Result, Ok, Err}
+use Rattle.std.specs.Prelude.{Option, Some, None, Result, Ok, Err}
 use Rattle.steps.specs.declared.decide.Clause.{Clause}
 use Rattle.turns.specs.declared.turn.Unplanned.{Unplanned}
 use Rattle.turns.specs.declared.turn.Unplanned.TheVariants.{Declined, Overfull}
@@ -119,12 +119,12 @@ module _ {ws : List ℕ} {end : ℕ} {rules : Rules} {past : Bool} {calls : List
         let z : n ≡ k = let h = g.low in omega arith in
         no_more bs (λ x. let f = cycles_few x in let m = g.size in omega arith) (rw z at e)
 
-    module _ {r : Ahead} (a : AheadOf closed rules.ids n left r) where
+    module _ {o : Option Ahead} (a : AheadOf closed rules.ids n left o) where
       ids : (x : JoinedKnown ws end rules past calls marks kept closed) → Ids (graph x) n rules.ids
       ids x = rw g.size (graph_ids x)
 
       -- None is left.
-      pub try_done : {f : Found} (bs : List ℕ) → r.done ≡ true → Ended NoPlan k clauses f
+      pub try_done : {f : Found} (bs : List ℕ) → o ≡ None → Ended NoPlan k clauses f
           → TriedOf ws end rules past calls marks kept closed limits bs f
       try_done bs d e =
           no_more bs
@@ -135,7 +135,7 @@ module _ {ws : List ℕ} {end : ℕ} {rules : Rules} {past : Bool} {calls : List
           omega arith)
           e
 
-      module _ (d : r.done ≡ false) where
+      module _ {r : Ahead} (d : o ≡ Some r) where
         module _ (x : JoinedKnown ws end rules past calls marks kept closed) where
           taken : Taken (graph x) rules.ids n (all x) closed (drop k (all x)) r.members r.left
           taken = rw d at (a.takes (graph x) (all x) (drop k (all x)) (ids x) (g.ahead x))

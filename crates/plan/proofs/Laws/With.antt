@@ -12,8 +12,6 @@ use Rattle.grammar.specs.Laws.Opened.{rule_words_lem}
 use Rattle.reference.specs.Substitute.{no_hub, hub_with_arguments, satellite_not_inlinable, Decided, found, ◌and_then◌}
 use Rattle.reference.specs.Plan.{CyclePlan, choose_hub, satellite_is_inlinable, satellites, with_hub, plan_cycle}
 use Rattle.records.specs.declared.rules.Rules.{Rules}
-use Rattle.reach.specs.declared.cycles.Next.{Next}
-use Rattle.reach.specs.declared.cycles.Next.TheVariants.{Done, Rule}
 use Rattle.analysis.specs.Facts.{Among, Standing}
 use Rattle.analysis.specs.Survey.{reading}
 use Rattle.analysis.specs.declared.rounds.Marks.{Marks}
@@ -23,7 +21,7 @@ use Rattle.hub.specs.Inlinable.{AllInlinable}
 use Rattle.hub.proofs.Laws.Grounds.{at_place, with_id}
 use Rattle.turns.specs.Midway.{limits_of}
 use Rattle.turns.specs.declared.state.Limits.{Limits}
-use Rattle.std.specs.Prelude.{Result, Err}
+use Rattle.std.specs.Prelude.{Option, Some, None, Result, Err}
 use Rattle.steps.specs.declared.decide.Clause.TheVariants.{NoHub, HubWithArguments, SatelliteNotInlinable}
 use Rattle.turns.specs.declared.turn.Unplanned.{Unplanned}
 use Rattle.turns.specs.declared.turn.Unplanned.TheVariants.{Declined}
@@ -90,15 +88,15 @@ module _ {ws : List ℕ} {end : ℕ} {rules : Rules} {past : Bool} {calls : List
             }
 
   -- The hub.
-  module _ {next : Next} (h : Chosen ws end rules marks.nullable calls members kept next) where
-    chosen_as : {t : Next} → next ≡ t → (x : CycleKnown ws end rules past calls marks kept members)
+  module _ {next : Option ℕ} (h : Chosen ws end rules marks.nullable calls members kept next) where
+    chosen_as : {t : Option ℕ} → next ≡ t → (x : CycleKnown ws end rules past calls marks kept members)
         → HubIs rules.ids rules.n members t (choose_hub (known_grammar x) x.cycle inner_depth (known_rules x) x.preserved)
     chosen_as e x =
         subst
         (λ t. HubIs rules.ids rules.n members t (choose_hub (known_grammar x) x.cycle inner_depth (known_rules x) x.preserved))
         e (h.is past x.corners marks x.known refl x.cycle x.preserved x.is_cycle x.keeps)
 
-    pub plan_none : {limits : Limits} {bs : List ℕ} → next ≡ Done
+    pub plan_none : {limits : Limits} {bs : List ℕ} → next ≡ None
         → PlanOf ws end rules past calls marks kept members limits bs (Err (Declined NoHub))
     unfolding plan_cycle
     plan_none e =
@@ -107,7 +105,7 @@ module _ {ws : List ℕ} {end : ℕ} {rules : Rules} {past : Bool} {calls : List
               record { is = rw (plan_cycle, chosen_as e x) refl };
         }
 
-    module _ {hub : ℕ} (e : next ≡ Rule hub) where
+    module _ {hub : ℕ} (e : next ≡ Some hub) where
       pub hub_inside : CycleKnown ws end rules past calls marks kept members → hub < rules.n
       hub_inside x = (chosen_as e x).0
 

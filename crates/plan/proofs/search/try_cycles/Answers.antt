@@ -8,8 +8,8 @@ use Rattle.plan.proofs.Laws.Search.{trying, cycle_known, try_full, try_done, try
 pub loop-k-init : goal.loop-k-init
 loop-k-init c = search (rules, trying)
 
-pub returns-then-ahead : goal.returns-then-ahead
-returns-then-ahead c = search (rules, try_done)
+pub returns-in_default : goal.returns-in_default
+returns-in_default c = search (rules, try_done)
 
 pub plan_cycle-requires-clause-cycle_known : goal.plan_cycle-requires-clause-cycle_known
 plan_cycle-requires-clause-cycle_known c = search (rules, trying, cycle_known)
@@ -26,7 +26,7 @@ returns-in-Ok c = search (rules, trying)
 pub returns-in-Err-Overfull : goal.returns-in-Err-Overfull
 returns-in-Err-Overfull c =
     let w : c.plan_cycle.result ≡ Err Overfull = c.in-Err-Overfull.is ∙ ap Err c.in-Err-Overfull.field-0-is in
-    try_overfull c.loop-k.invariant.1 c.next_cycle-ahead.ensures c.if-ahead.false c.plan_cycle.ensures w c.ended-in-Err-Overfull.ensures
+    try_overfull c.loop-k.invariant.1 c.next_cycle.ensures c.in-Some.is c.plan_cycle.ensures w c.ended-in-Err-Overfull.ensures
 
 pub returns : goal.returns
 returns c = search (rules, try_full)
