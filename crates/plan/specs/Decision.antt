@@ -1,8 +1,8 @@
 -- What is decided of a cycle, against the definition (SPECIFICATION 7 to 10).
-use Rattle.std.specs.Prelude.{ℕ, ◌%◌, ◌<◌, ◌≡◌, List, [], ◌∷◌, Bool, not, get_or, eqb}
+use Rattle.std.specs.Prelude.{ℕ, ◌%◌, ◌<◌, ◌≡◌, List, [], ◌∷◌, Bool, not, get_or, eqb, Result, Ok, Err}
 use Rattle.grammar.specs.Tree.{Rule, body_depth, inner_depth}
 use Rattle.grammar.specs.Found.{RuleSpans}
-use Rattle.reference.specs.Substitute.{Decided, decided, overfull}
+use Rattle.reference.specs.Substitute.{Decided, decided, clause_number}
 use Rattle.reference.specs.Plan.{CyclePlan, plan_cycle, with_rule, substituting, last_tests}
 use Rattle.records.specs.declared.rules.Rules.{Rules}
 use Rattle.reach.specs.Rows.{RowOf}
@@ -12,21 +12,22 @@ use Rattle.analysis.specs.declared.rounds.Marks.{Marks}
 use Rattle.planned.specs.Layout.{settled}
 use Rattle.planned.specs.List.{Laid, AllIn}
 use Rattle.turns.specs.Midway.{limits_of}
-use Rattle.steps.specs.Decide.{DeclinedBy}
+use Rattle.steps.specs.Decide.{clause_of}
+use Rattle.turns.specs.Turn.{UnplannedBy}
 use Rattle.turns.specs.declared.state.Limits.{Limits}
 use Rattle.substitution.specs.declared.turning.Done.{Done}
 use Rattle.plan.specs.declared.plan.Plan.{Plan}
-use Rattle.plan.specs.declared.plan.Decision.{Decision}
-use Rattle.plan.specs.declared.plan.Decision.TheVariants.{Planned, Declined, Overfull}
+use Rattle.turns.specs.declared.turn.Unplanned.{Unplanned}
+use Rattle.turns.specs.declared.turn.Unplanned.TheVariants.{Declined, Overfull}
 use Rattle.plan.specs.Known.{CycleKnown, HubKnown, known_rules, known_grammar}
 
 -- A decision as numbers: which it is, and its values.
-abbrev pub numbers : Decision → List ℕ
-numbers (Planned p) =
+abbrev pub numbers : Result Plan Unplanned → List ℕ
+numbers (Ok p) =
     0 ∷ p.hub ∷ p.steps ∷ p.low ∷ p.high
     ∷ p.l.outa ∷ p.l.oute ∷ p.l.outo ∷ p.l.topa ∷ p.l.tope ∷ p.l.topo ∷ []
-numbers (Declined n) = 1 ∷ n ∷ []
-numbers Overfull = 2 ∷ []
+numbers (Err (Declined c)) = 1 ∷ clause_number (clause_of c) ∷ []
+numbers (Err Overfull) = 2 ∷ []
 
 module _ (ws : List ℕ) (end : ℕ) (ids : List ℕ) (n : ℕ) (bs : List ℕ) where
   -- A plan of the definition: its hub by place, its alternatives in the work area, its removable rules as a row.
@@ -44,10 +45,9 @@ module _ (ws : List ℕ) (end : ℕ) (ids : List ℕ) (n : ℕ) (bs : List ℕ) 
     pub is : m ≡ decided plan
     pub same : PlanAs plan p
 
-  abbrev pub DecidedAs : Decided (CyclePlan inner_depth) → Decision → Type 0
-  DecidedAs m (Planned p) = PlannedBy m p
-  DecidedAs m (Declined c) = DeclinedBy m c
-  DecidedAs m Overfull = m ≡ overfull
+  abbrev pub DecidedAs : Decided (CyclePlan inner_depth) → Result Plan Unplanned → Type 0
+  DecidedAs m (Ok p) = PlannedBy m p
+  DecidedAs m (Err e) = UnplannedBy m e
 
 -- Whether the rule at a place takes arguments.
 pub record TakesArguments (ws : List ℕ) (end at : ℕ) (r : Bool) : Type 0 where
@@ -55,27 +55,27 @@ pub record TakesArguments (ws : List ℕ) (end at : ℕ) (r : Bool) : Type 0 whe
 
 module _ (ws : List ℕ) (end : ℕ) (rules : Rules) (past : Bool) (calls : List (List ℕ)) (marks : Marks) (kept members : List ℕ) where
   -- The decision is the definition's, for all that is known.
-  pub record PlanOf (limits : Limits) (bs : List ℕ) (r : Decision) : Type 0 where
+  pub record PlanOf (limits : Limits) (bs : List ℕ) (r : Result Plan Unplanned) : Type 0 where
     pub is : (x : CycleKnown ws end rules past calls marks kept members)
         → DecidedAs ws end rules.ids rules.n bs
         (plan_cycle (limits_of limits) (reading past) (known_grammar x) inner_depth (known_rules x) x.preserved x.cycle) r
 
   -- From the hub on.
-  pub record PlanWith (limits : Limits) (hub : ℕ) (bs : List ℕ) (r : Decision) : Type 0 where
+  pub record PlanWith (limits : Limits) (hub : ℕ) (bs : List ℕ) (r : Result Plan Unplanned) : Type 0 where
     pub is : (x : CycleKnown ws end rules past calls marks kept members) (a : Among (known_rules x) hub)
         → DecidedAs ws end rules.ids rules.n bs
         (with_rule (limits_of limits) (reading past) (known_grammar x) inner_depth (known_rules x) x.preserved x.cycle
         (get_or rules.ids hub 0) a.rule) r
 
   -- From the substitution on.
-  pub record PlanMade (limits : Limits) (hub : ℕ) (bs : List ℕ) (r : Decision) : Type 0 where
+  pub record PlanMade (limits : Limits) (hub : ℕ) (bs : List ℕ) (r : Result Plan Unplanned) : Type 0 where
     pub is : (h : HubKnown ws end rules past calls marks kept members hub) (a : Among (known_rules h.known) hub)
         → DecidedAs ws end rules.ids rules.n bs
         (substituting (limits_of limits) (reading past) (known_grammar h.known) inner_depth (known_rules h.known) h.known.preserved
         h.known.cycle (get_or rules.ids hub 0) a.rule) r
 
   -- Behind the substitution, whatever the limits were.
-  pub record PlanLast (hub : ℕ) (done : Done) (bs : List ℕ) (r : Decision) : Type 0 where
+  pub record PlanLast (hub : ℕ) (done : Done) (bs : List ℕ) (r : Result Plan Unplanned) : Type 0 where
     pub is : (limits : Limits) (x : CycleKnown ws end rules past calls marks kept members)
         → DecidedAs ws end rules.ids rules.n bs
         (last_tests (limits_of limits) (reading past) (known_grammar x) inner_depth (known_rules x) x.preserved x.cycle

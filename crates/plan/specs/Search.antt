@@ -14,7 +14,7 @@ use Rattle.analysis.specs.Survey.{reading}
 use Rattle.analysis.specs.declared.rounds.Marks.{Marks}
 use Rattle.hub.specs.Grounds.{Known, rules_of, grammar_at, IsCycle}
 use Rattle.turns.specs.Midway.{limits_of}
-use Rattle.steps.specs.Decide.{DeclinedBy}
+use Rattle.steps.specs.Decide.{DeclinedByNumber}
 use Rattle.turns.specs.declared.state.Limits.{Limits}
 use Rattle.plan.specs.declared.search.FoundPlan.{FoundPlan}
 use Rattle.plan.specs.declared.search.Search.{Search}
@@ -91,7 +91,7 @@ module _ {ws : List ℕ} {end : ℕ} {rules : Rules} {past : Bool} {calls corner
       -- The answer is the definition's; the cycles in front of it were declined by their clauses, with zeros behind them.
       pub record FoundAs (r : Found) : Type 0 where
         pub answer : AnswerIs r.declined r.answer
-        pub declines : (k : ℕ) → k < r.declined → DeclinedBy (decision_on (get_or cycles_of k [])) (get_or r.clauses k 0)
+        pub declines : (k : ℕ) → k < r.declined → DeclinedByNumber (decision_on (get_or cycles_of k [])) (get_or r.clauses k 0)
         pub behind : (k : ℕ) → r.declined ≤ k → get_or r.clauses k 0 ≡ 0
         pub few : r.declined ≤ rules.n
 

@@ -20,14 +20,14 @@ use hub::hub::choose_hub;
 use hub::inlinable::all_inlinable;
 use hub::removal::removable;
 use planned::list::Sizes;
-use reach::cycles::Next;
 use reach::rows::Row;
 use records::rules::Rules;
 use rewritable::judge::judge;
 use steps::corner::Cycle;
 use steps::decide::Clause;
-use substitution::turning::{Done, Made, substitute};
+use substitution::turning::{Done, substitute};
 use turns::state::Limits;
+use turns::turn::Unplanned;
 use words::words::word;
 
 // What takes a cycle's place: the hub's place among the rules, its new alternatives in the work area, the steps that these took, and
@@ -39,14 +39,6 @@ pub struct Plan {
     pub steps: usize,
     pub low: u64,
     pub high: u64,
-}
-
-// A plan; or a decline by its clause; or refusal 7.
-#[derive(Clone, Copy)]
-pub enum Decision {
-    Planned(Plan),
-    Declined(u32),
-    Overfull,
 }
 
 // Behind the substitution: a step was made, what it left can be rewritten; then the rules that may go.
@@ -62,14 +54,14 @@ fn finish(
     hub: usize,
     work: &[u8],
     done: Done,
-) -> Decision
+) -> Result<Plan, Unplanned>
     requires room { Room s.now end × Standing (words s.now) end rules × (length calls.now ≡ rule_limit) × (hub < rules.n) }
     requires laid { Laid work.now done.l × AllIn (words s.now) end inner_depth work.now done.l }
     ensures { PlanLast (words s.now) end rules past calls.now marks kept members hub done
         work.now result }
 {
     if done.steps == 0 {
-        return Decision::Declined(Clause::NO_STEPS);
+        return Err(Unplanned::Declined(Clause::NoSteps));
     }
     let n = rules.n as usize;
     let l = done.l;
@@ -77,11 +69,11 @@ fn finish(
     let known = Known { n, nullable, past };
     let judged = judge(s, end, rules, known, members, hub, work, l);
     if !judged.fit {
-        return Decision::Declined(Clause::NOT_DIRECTLY_REWRITABLE);
+        return Err(Unplanned::Declined(Clause::NotDirectlyRewritable));
     }
     let planned = judged.calls;
     let row = removable(calls, n, members, kept, planned, hub);
-    Decision::Planned(Plan {
+    Ok(Plan {
         hub,
         l,
         steps: done.steps,
@@ -103,7 +95,7 @@ fn make(
     hub: usize,
     limits: Limits,
     work: &mut [u8],
-) -> Decision
+) -> Result<Plan, Unplanned>
     requires room { Room s.now end × (end ≤ most_words) × (work_bytes ≤ length work.old) × LimitsFit limits }
     requires calls_len { (length calls.now ≡ rule_limit) × HubKnown (words s.now) end rules past calls.now marks kept members hub }
     ensures { PlanMade (words s.now) end rules past calls.now marks kept members limits hub
@@ -112,16 +104,12 @@ fn make(
     let n = rules.n as usize;
     let most = budget(s, end, rules, members, limits.floor);
     let c = Cycle { n, members, hub };
-    match substitute(s, end, rules, c, limits, most, work) {
-        Made::Planned(done) => {
-            finish(
-                s, end, rules, past, calls, marks, kept, members, hub, work, done,
-            )
-        }
-        Made::Idle => Decision::Declined(Clause::NO_STEPS),
-        Made::Declined(clause) => Decision::Declined(clause),
-        Made::Overfull => Decision::Overfull,
-    }
+    let Some(done) = substitute(s, end, rules, c, limits, most, work)? else {
+        return Err(Unplanned::Declined(Clause::NoSteps));
+    };
+    finish(
+        s, end, rules, past, calls, marks, kept, members, hub, work, done,
+    )
 }
 
 // Whether the rule at `at` takes arguments: its flags are odd.
@@ -146,7 +134,7 @@ fn with_hub(
     hub: usize,
     limits: Limits,
     work: &mut [u8],
-) -> Decision
+) -> Result<Plan, Unplanned>
     requires room { Room s.now end × (end ≤ most_words) × (work_bytes ≤ length work.old) × LimitsFit limits }
     requires calls_len { (length calls.now ≡ rule_limit) × (hub < rules.n) }
     requires cycle_known { CycleKnown (words s.now) end rules past calls.now marks kept members }
@@ -155,11 +143,11 @@ fn with_hub(
 {
     let places = rules.places;
     if takes_arguments(s, end, index(places[hub])) {
-        return Decision::Declined(Clause::HUB_WITH_ARGUMENTS);
+        return Err(Unplanned::Declined(Clause::HubWithArguments));
     }
     let stops = marks.stops;
     if !all_inlinable(stops, members, hub) {
-        return Decision::Declined(Clause::SATELLITE_NOT_INLINABLE);
+        return Err(Unplanned::Declined(Clause::SatelliteNotInlinable));
     }
     make(
         s, end, rules, past, calls, marks, kept, members, hub, limits, work,
@@ -178,7 +166,7 @@ pub fn plan_cycle(
     members: [u64; Row::WORDS],
     limits: Limits,
     work: &mut [u8],
-) -> Decision
+) -> Result<Plan, Unplanned>
     requires room { Room s.now end × (end ≤ most_words) × (work_bytes ≤ length work.old) × LimitsFit limits }
     requires calls_len { length calls.now ≡ rule_limit }
     requires cycle_known { CycleKnown (words s.now) end rules past calls.now marks kept members }
@@ -186,12 +174,10 @@ pub fn plan_cycle(
         work.new result }
 {
     let nullable = marks.nullable;
-    match choose_hub(s, end, rules, nullable, calls, members, kept) {
-        Next::Done => Decision::Declined(Clause::NO_HUB),
-        Next::Rule(hub) => {
-            with_hub(
-                s, end, rules, past, calls, marks, kept, members, hub, limits, work,
-            )
-        }
-    }
+    let Some(hub) = choose_hub(s, end, rules, nullable, calls, members, kept) else {
+        return Err(Unplanned::Declined(Clause::NoHub));
+    };
+    with_hub(
+        s, end, rules, past, calls, marks, kept, members, hub, limits, work,
+    )
 }

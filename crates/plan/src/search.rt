@@ -7,13 +7,14 @@ ghost use Rattle.words.specs.Room.{Room};
 ghost use Rattle.turns.specs.Midway.{LimitsFit};
 ghost use Rattle.plan.specs.Search.{IsNone, Ended, RulesKnown, FoundOf, JoinedKnown, TriedOf};
 
-use crate::plan::{Decision, Plan, plan_cycle};
+use crate::plan::{Plan, plan_cycle};
 use analysis::rounds::Marks;
 use reach::cycles::{joined, next_cycle};
 use reach::reach::loops;
 use reach::rows::Row;
 use records::rules::Rules;
 use turns::state::Limits;
+use turns::turn::Unplanned;
 
 // A plan, and the members of its cycle as the two words of a row.
 #[derive(Clone, Copy)]
@@ -86,22 +87,15 @@ fn try_cycles(
     let none = Found::none();
     let mut clauses = none.clauses;
     let mut left = loops(closed, n);
-    let mut k = 0;
-    while k < n {
-        let ahead = next_cycle(closed, &ids, n, left);
-        if ahead.done {
-            break;
-        }
+    for k in 0..n {
+        let Some(ahead) = next_cycle(closed, &ids, n, left) else {
+            return ended(Search::NoPlan, k, clauses);
+        };
         let members = ahead.members;
         match plan_cycle(
             s, end, rules, past, calls, marks, kept, members, limits, work,
         ) {
-            Decision::Declined(clause) => {
-                clauses[k] = clause;
-                left = ahead.left;
-                k += 1;
-            }
-            Decision::Planned(plan) => {
+            Ok(plan) => {
                 let answer = Search::Planned(FoundPlan {
                     plan,
                     low: members[0],
@@ -109,10 +103,14 @@ fn try_cycles(
                 });
                 return ended(answer, k, clauses);
             }
-            Decision::Overfull => return ended(Search::TooLarge, k, clauses),
+            Err(Unplanned::Declined(clause)) => {
+                clauses[k] = u32::from(clause);
+                left = ahead.left;
+            }
+            Err(Unplanned::Overfull) => return ended(Search::TooLarge, k, clauses),
         }
     }
-    ended(Search::NoPlan, k, clauses)
+    ended(Search::NoPlan, n, clauses)
 }
 
 // The cycles of the rules, by their left corners.

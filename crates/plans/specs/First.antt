@@ -12,7 +12,7 @@ use Rattle.reach.specs.Rows.{RowOf}
 use Rattle.analysis.specs.Survey.{reading}
 use Rattle.analysis.specs.Facts.{Standing}
 use Rattle.hub.specs.Preserved.{between}
-use Rattle.steps.specs.Decide.{DeclinedBy}
+use Rattle.steps.specs.Decide.{DeclinedByNumber}
 use Rattle.plan.specs.declared.search.FoundPlan.{FoundPlan}
 use Rattle.plan.specs.declared.search.Search.{Search}
 use Rattle.plan.specs.declared.search.Search.TheVariants.{NoPlan, Planned, TooLarge}
@@ -56,7 +56,7 @@ module _ (limits : Limits) (ws : List ℕ) (end : ℕ) (ids : List ℕ) (n : ℕ
   -- The cycles in front of the answer's were declined by their clauses, with zeros behind them.
   pub record FirstAs (r : Found) : Type 0 where
     pub answer : SearchAs r.declined r.answer
-    pub declines : (k : ℕ) → k < r.declined → DeclinedBy (decision_at k) (get_or r.clauses k 0)
+    pub declines : (k : ℕ) → k < r.declined → DeclinedByNumber (decision_at k) (get_or r.clauses k 0)
     pub behind : (k : ℕ) → r.declined ≤ k → get_or r.clauses k 0 ≡ 0
 
 -- So it is for rules that stand in a sheet, with the preserved ids behind them.

@@ -1,20 +1,20 @@
 -- The decision for the nth cycle against the definition (SPECIFICATION 5 to 10), and its numbers.
-use Rattle.std.specs.Prelude.{ℕ, ◌<◌, ◌≤◌, ◌-◌, min, ◌≡◌, List, [], ◌∷◌, Bool, true, false, length, get_or, replicate, eqb}
+use Rattle.std.specs.Prelude.{ℕ, ◌<◌, ◌≤◌, ◌-◌, min, ◌≡◌, List, [], ◌∷◌, Bool, true, false, length, get_or, replicate, eqb, Option, Some, None, Result, Ok, Err}
 use Rattle.grammar.specs.Numbers.{word_end}
 use Rattle.grammar.specs.Tree.{Rule, body_depth, inner_depth}
 use Rattle.grammar.specs.Corners.{Corners}
 use Rattle.reference.specs.Analysis.{grammar_of, left_corner_cycles}
-use Rattle.reference.specs.Substitute.{standard}
+use Rattle.reference.specs.Substitute.{standard, clause_number}
 use Rattle.reference.specs.Plan.{plan_cycle}
 use Rattle.records.specs.declared.rules.Rules.{Rules}
 use Rattle.analysis.specs.Survey.{reading}
 use Rattle.analysis.specs.Facts.{Standing}
 use Rattle.hub.specs.Preserved.{between}
-use Rattle.plan.specs.declared.plan.Decision.{Decision}
-use Rattle.plan.specs.declared.plan.Decision.TheVariants.{Planned, Declined, Overfull}
+use Rattle.steps.specs.Decide.{clause_of}
+use Rattle.turns.specs.declared.turn.Unplanned.{Unplanned}
+use Rattle.turns.specs.declared.turn.Unplanned.TheVariants.{Declined, Overfull}
+use Rattle.plan.specs.declared.plan.Plan.{Plan}
 use Rattle.plan.specs.Decision.{DecidedAs}
-use Rattle.plans.specs.declared.nth.Choice.{Choice}
-use Rattle.plans.specs.declared.nth.Choice.TheVariants.{None, Some}
 use Rattle.plans.specs.declared.nth.Nth.{Nth}
 
 -- The definition's cycles of rules, by least id.
@@ -23,12 +23,12 @@ cycles_of c rs = left_corner_cycles c (grammar_of body_depth rs) body_depth rs
 
 module _ (ws : List ℕ) (end : ℕ) (ids : List ℕ) (n : ℕ) (bs : List ℕ) (c : Corners) (rs : List Rule) (preserved : List ℕ) (nth : ℕ) where
   -- There is an nth cycle, and this is the definition's decision for it; the list of a plan stands in the work area.
-  pub record NthDecided (d : Decision) : Type 0 where
+  pub record NthDecided (d : Result Plan Unplanned) : Type 0 where
     pub low : nth < length (cycles_of c rs)
     pub is : DecidedAs ws end ids n bs
         (plan_cycle standard c (grammar_of body_depth rs) inner_depth rs preserved (get_or (cycles_of c rs) nth [])) d
 
-  abbrev pub ChoiceAs : Choice → Type 0
+  abbrev pub ChoiceAs : Option (Result Plan Unplanned) → Type 0
   ChoiceAs None = length (cycles_of c rs) ≤ nth
   ChoiceAs (Some d) = NthDecided d
 
@@ -47,22 +47,21 @@ capped n = min n (word_end - 1)
 
 -- In numbers: no refusal, so many cycles, which decision it is; of a plan the hub's place, steps and alternatives, of a decline
 -- its clause.
-abbrev pub decision_numbers : ℕ → Decision → List ℕ
-decision_numbers k (Planned p) = 0 ∷ k ∷ 0 ∷ capped p.hub ∷ 0 ∷ capped p.steps ∷ capped p.l.outa ∷ 0 ∷ []
-decision_numbers k (Declined n) = 0 ∷ k ∷ 1 ∷ 0 ∷ n ∷ 0 ∷ 0 ∷ 0 ∷ []
-decision_numbers k Overfull = 0 ∷ k ∷ 2 ∷ 0 ∷ 0 ∷ 0 ∷ 0 ∷ 0 ∷ []
+abbrev pub decision_numbers : ℕ → Result Plan Unplanned → List ℕ
+decision_numbers k (Ok p) = 0 ∷ k ∷ 0 ∷ capped p.hub ∷ 0 ∷ capped p.steps ∷ capped p.l.outa ∷ 0 ∷ []
+decision_numbers k (Err (Declined c)) = 0 ∷ k ∷ 1 ∷ 0 ∷ clause_number (clause_of c) ∷ 0 ∷ 0 ∷ 0 ∷ []
+decision_numbers k (Err Overfull) = 0 ∷ k ∷ 2 ∷ 0 ∷ 0 ∷ 0 ∷ 0 ∷ 0 ∷ []
 
 -- The rules that may go.
-abbrev pub decision_row : Decision → List ℕ
-decision_row (Planned p) = p.low ∷ p.high ∷ []
-decision_row (Declined n) = 0 ∷ 0 ∷ []
-decision_row Overfull = 0 ∷ 0 ∷ []
+abbrev pub decision_row : Result Plan Unplanned → List ℕ
+decision_row (Ok p) = p.low ∷ p.high ∷ []
+decision_row (Err e) = 0 ∷ 0 ∷ []
 
-abbrev pub choice_numbers : ℕ → Choice → List ℕ
+abbrev pub choice_numbers : ℕ → Option (Result Plan Unplanned) → List ℕ
 choice_numbers k None = 0 ∷ k ∷ 3 ∷ 0 ∷ 0 ∷ 0 ∷ 0 ∷ 0 ∷ []
 choice_numbers k (Some d) = decision_numbers k d
 
-abbrev pub choice_row : Choice → List ℕ
+abbrev pub choice_row : Option (Result Plan Unplanned) → List ℕ
 choice_row None = 0 ∷ 0 ∷ []
 choice_row (Some d) = decision_row d
 

@@ -16,7 +16,7 @@ use records::rules::Rules;
 use turns::state::Limits;
 
 // Numbers, the row of a cycle's members, and that of the rules that may go.
-#[derive(Clone, Copy)]
+#[derive(Clone, Copy, Debug, PartialEq, Eq)]
 pub struct FirstTold {
     pub numbers: [u32; 8],
     pub cycle: [u64; Row::WORDS],

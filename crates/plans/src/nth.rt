@@ -8,29 +8,23 @@ ghost use Rattle.plan.specs.Ground.{KeptAt};
 ghost use Rattle.plans.specs.Nth.{NthOf, nth_numbers, nth_row, capped, decision_numbers, decision_row, left_by};
 
 use plan::ground::find_out;
-use plan::plan::{Decision, Plan, plan_cycle};
+use plan::plan::{Plan, plan_cycle};
 use reach::cycles::list_cycles;
 use reach::rows::Row;
 use records::rules::Rules;
 use turns::state::Limits;
+use turns::turn::Unplanned;
 use words::words::clear;
 
-// The decision for a cycle, or none where there is no such cycle.
-#[derive(Clone, Copy)]
-pub enum Choice {
-    None,
-    Some(Decision),
-}
-
-// How many cycles there are, and the decision.
+// How many cycles there are, and the decision; none where there is no such cycle.
 #[derive(Clone, Copy)]
 pub struct Nth {
     pub cycles: u32,
-    pub choice: Choice,
+    pub choice: Option<Result<Plan, Unplanned>>,
 }
 
 // Numbers, and a row.
-#[derive(Clone, Copy)]
+#[derive(Clone, Copy, Debug, PartialEq, Eq)]
 pub struct Told {
     pub numbers: [u32; 8],
     pub row: [u64; Row::WORDS],
@@ -70,7 +64,7 @@ pub fn decide_nth(
     if n <= nth {
         return Nth {
             cycles: n,
-            choice: Choice::None,
+            choice: None,
         };
     }
     let members = cycles[nth as usize];
@@ -80,7 +74,7 @@ pub fn decide_nth(
     );
     Nth {
         cycles: n,
-        choice: Choice::Some(decision),
+        choice: Some(decision),
     }
 }
 
@@ -95,11 +89,11 @@ pub fn capped(n: usize) -> u32
 }
 
 // A decision in numbers, where there are so many cycles.
-fn tell_decision(cycles: u32, d: Decision) -> Told
+fn tell_decision(cycles: u32, d: Result<Plan, Unplanned>) -> Told
     ensures { (result.numbers ≡ decision_numbers cycles d) × (result.row ≡ decision_row d) }
 {
     match d {
-        Decision::Planned(p) => {
+        Ok(p) => {
             let l = p.l;
             Told {
                 numbers: [
@@ -115,11 +109,11 @@ fn tell_decision(cycles: u32, d: Decision) -> Told
                 row: [p.low, p.high],
             }
         }
-        Decision::Declined(clause) => Told {
-            numbers: [0, cycles, 1, 0, clause, 0, 0, 0],
+        Err(Unplanned::Declined(clause)) => Told {
+            numbers: [0, cycles, 1, 0, u32::from(clause), 0, 0, 0],
             row: [0; Row::WORDS],
         },
-        Decision::Overfull => Told {
+        Err(Unplanned::Overfull) => Told {
             numbers: [0, cycles, 2, 0, 0, 0, 0, 0],
             row: [0; Row::WORDS],
         },
@@ -132,11 +126,11 @@ pub fn tell_nth(r: Nth) -> Told
     let cycles = r.cycles;
     let choice = r.choice;
     match choice {
-        Choice::None => Told {
+        None => Told {
             numbers: [0, cycles, 3, 0, 0, 0, 0, 0],
             row: [0; Row::WORDS],
         },
-        Choice::Some(d) => tell_decision(cycles, d),
+        Some(d) => tell_decision(cycles, d),
     }
 }
 

@@ -1,5 +1,5 @@
 -- What comes from the sheet into the list: the hub's alternatives, a satellite's in place of a call, their options.
-use Rattle.std.specs.Prelude.{ℕ, suc, ◌+◌, ◌≡◌, List, map, length}
+use Rattle.std.specs.Prelude.{ℕ, suc, ◌+◌, ◌≡◌, List, map, length, Option, Some, None}
 use Rattle.std.proofs.Math.Option.{none, some}
 use Rattle.grammar.specs.Tree.{OptionDecl, Block, AlternativeOf, RuleOf}
 use Rattle.grammar.specs.Lists.{total}
@@ -11,8 +11,6 @@ use Rattle.planned.specs.List.{Laid, Located, InHand, ListedIn}
 use Rattle.planned.specs.Moves.{Grown, SameEnds, Pushed}
 use Rattle.planned.specs.declared.list.Sizes.{Sizes}
 use Rattle.planned.specs.declared.list.Listed.{Listed}
-use Rattle.splices.specs.declared.options.Added.{Added}
-use Rattle.splices.specs.declared.options.Added.TheVariants.{Clash, More}
 
 -- The hub's alternative that stands at a place comes into the hand, as it is; every list is as it was.
 pub record Brought (ws : List ℕ) (end d at : ℕ) (before after : List ℕ) (h : Listed) : Type 0 where
@@ -48,6 +46,6 @@ pub record UnionOf (os more : List OptionDecl) (k : ℕ) : Type 0 where
   pub is : union_options os more ≡ some all
   pub count : length all ≡ length os + k
 
-pub record OptionsAdded (ws : List ℕ) (end d at : ℕ) (os : List OptionDecl) (r : Added) : Type 0 where
-  pub clash : r ≡ Clash → (a : AlternativeOf (Block d)) (q : ℕ) → AlternativeSpans ws end d at a q → union_options os a.options ≡ none
-  pub more : (k : ℕ) → r ≡ More k → (a : AlternativeOf (Block d)) (q : ℕ) → AlternativeSpans ws end d at a q → UnionOf os a.options k
+pub record OptionsAdded (ws : List ℕ) (end d at : ℕ) (os : List OptionDecl) (r : Option ℕ) : Type 0 where
+  pub clash : r ≡ None → (a : AlternativeOf (Block d)) (q : ℕ) → AlternativeSpans ws end d at a q → union_options os a.options ≡ none
+  pub more : (k : ℕ) → r ≡ Some k → (a : AlternativeOf (Block d)) (q : ℕ) → AlternativeSpans ws end d at a q → UnionOf os a.options k

@@ -16,13 +16,6 @@ use planned::halves::{half, move_halves, put_half};
 use planned::list::Listed;
 use words::words::word;
 
-// How many options are added; or two of one name have two values.
-#[derive(Clone, Copy)]
-pub enum Added {
-    Clash,
-    More(usize),
-}
-
 // An option against others: none has its name; or the first that has it has the same value, or another.
 // Stays: of its three cases an Option<bool> would name none, and `Some(false)` would be the one that refuses.
 #[derive(Clone, Copy, Debug, PartialEq, Eq)]
@@ -110,8 +103,15 @@ fn option_meets(
     }
 }
 
-// How many options the alternative at `at` adds to those in hand.
-pub fn options_added(s: &[u8], end: usize, depth: u32, work: &[u8], h: Listed, at: usize) -> Added
+// How many options the alternative at `at` adds to those in hand; none where two of one name have two values.
+pub fn options_added(
+    s: &[u8],
+    end: usize,
+    depth: u32,
+    work: &[u8],
+    h: Listed,
+    at: usize,
+) -> Option<usize>
     requires room { Room s.now end × Located work.now h × ListedIn (words s.now) end depth work.now h }
     requires found_alternative { FoundAlternative (words s.now) end depth at }
     ensures { OptionsAdded (words s.now) end depth at
@@ -119,20 +119,14 @@ pub fn options_added(s: &[u8], end: usize, depth: u32, work: &[u8], h: Listed, a
 {
     let n = option_count(s, end, depth, at);
     let mut added: usize = 0;
-    let mut j: usize = 0;
-    while j < n {
+    for j in 0..n {
         match option_meets(s, end, depth, work, h, at, j) {
-            Meets::New => {
-                added += 1;
-            }
+            Meets::New => added += 1,
             Meets::Same => {}
-            Meets::Other => {
-                return Added::Clash;
-            }
+            Meets::Other => return None,
         }
-        j += 1;
     }
-    Added::More(added)
+    Some(added)
 }
 
 // Option j of the alternative at `at` is listed at half `to`, if it is new; returned is where the next one comes.

@@ -1,5 +1,5 @@
 -- One step decided whole: a split, or the splice of a satellite, in place of an element of the alternative in hand.
-use Rattle.std.specs.Prelude.{ℕ, suc, ◌*◌, ◌-◌, ◌≡◌, List, ◌∷◌, map, Bool, true, false, not, length, drop}
+use Rattle.std.specs.Prelude.{ℕ, suc, ◌*◌, ◌-◌, ◌≡◌, List, ◌∷◌, map, Bool, true, false, not, length, drop, Result, Ok, Err}
 use Rattle.grammar.specs.Tree.{ElementHead, Call, call, Element, leaf, Block, RuleOf}
 use Rattle.grammar.specs.Lists.{total, AllOf}
 use Rattle.grammar.specs.Found.{RuleSpans}
@@ -11,8 +11,7 @@ use Rattle.planned.specs.Moves.{Pushed, Grown}
 use Rattle.planned.specs.declared.list.Sizes.{Sizes}
 use Rattle.planned.specs.declared.list.Listed.{Listed}
 use Rattle.steps.specs.Decide.{DeclinedBy, Around, Searchable, Unreferring, SmallSize}
-use Rattle.steps.specs.declared.decide.Decision.{Decision}
-use Rattle.steps.specs.declared.decide.Decision.TheVariants.{Goes, Declined}
+use Rattle.steps.specs.declared.decide.Clause.{Clause}
 use Rattle.splices.specs.declared.splice.Size.{Size}
 use Rattle.steps.specs.declared.step.Prepared.{Prepared}
 
@@ -44,9 +43,9 @@ pub record GoesTo (d : ℕ) (m : Decided (List (Planned d))) (z : Size) : Type 0
   pub elements : z.e ≡ total (map (λ q. length q.elements) ps)
   pub options : z.o ≡ total (map (λ q. length q.options) ps)
 
-abbrev pub DecisionOf : (d : ℕ) → Decided (List (Planned d)) → Decision → Type 0
-DecisionOf d m (Declined n) = DeclinedBy m n
-DecisionOf d m (Goes z) = GoesTo d m z
+abbrev pub DecisionOf : (d : ℕ) → Decided (List (Planned d)) → Result Size Clause → Type 0
+DecisionOf d m (Err c) = DeclinedBy m c
+DecisionOf d m (Ok z) = GoesTo d m z
 
 -- What stands around the element is known.
 pub record PreparedFor (ws : List ℕ) (end d : ℕ) (es : List (Element (Block d))) (index name : ℕ) (before after : List ℕ)
@@ -63,13 +62,13 @@ pub record SplitSize (h : Listed) (z : Size) : Type 0 where
   pub options : z.o ≡ 2 * h.no
 
 -- The step is decided; the list is as it was.
-pub record DecidedAt (ws : List ℕ) (end d at : ℕ) (before after : List ℕ) (h : Listed) (index : ℕ) (optional : Bool) (r : Decision)
-    : Type 0 where
+pub record DecidedAt (ws : List ℕ) (end d at : ℕ) (before after : List ℕ) (h : Listed) (index : ℕ) (optional : Bool)
+    (r : Result Size Clause) : Type 0 where
   pub list : SameList before after
   pub is : (t : RuleOf (Block (suc d))) (q : ℕ) → RuleSpans ws end (suc d) at t q
       → DecisionOf d (step_by d (meaning ws end d before h) index t optional) r
-  pub small : (z : Size) → r ≡ Goes z → SmallSize z
-  pub split : optional ≡ true → (z : Size) → r ≡ Goes z → SplitSize h z
+  pub small : (z : Size) → r ≡ Ok z → SmallSize z
+  pub split : optional ≡ true → (z : Size) → r ≡ Ok z → SplitSize h z
 
 -- A step that goes: what it pushes, for the rule at a place.
 pub record Goable (ws : List ℕ) (end d at : ℕ) (bs : List ℕ) (h : Listed) (index : ℕ) (optional : Bool) (z : Size) : Type 0 where

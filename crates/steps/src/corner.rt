@@ -9,7 +9,7 @@ ghost use Rattle.analysis.specs.Names.{Told};
 ghost use Rattle.planned.specs.List.{Located, ListedIn};
 ghost use Rattle.steps.specs.Corner.{bare_at, quantifier_at, met_member, CallMet, ItemMet, CornerAt};
 
-use analysis::names::{Target, scan};
+use analysis::names::scan;
 use planned::list::{Item, Listed};
 use planned::read::item;
 use reach::rows::{Row, has};
@@ -18,7 +18,7 @@ use words::walk::element_head;
 use words::words::word;
 
 // A cycle among n rules, and its hub: places of rules.
-#[derive(Clone, Copy)]
+#[derive(Clone, Copy, Debug, PartialEq, Eq)]
 pub struct Cycle {
     pub n: usize,
     pub members: [u64; Row::WORDS],
@@ -26,7 +26,7 @@ pub struct Cycle {
 }
 
 // What is met at one element: nothing that counts; or what decides, of a member its place.
-#[derive(Clone, Copy)]
+#[derive(Clone, Copy, Debug, PartialEq, Eq)]
 pub enum Met {
     Silent,
     Settled,
@@ -36,13 +36,13 @@ pub enum Met {
 }
 
 // Where a member is met: the element's index, and the member's place.
-#[derive(Clone, Copy)]
+#[derive(Clone, Copy, Debug, PartialEq, Eq)]
 pub struct Place {
     pub index: usize,
     pub target: usize,
 }
 
-#[derive(Clone, Copy)]
+#[derive(Clone, Copy, Debug, PartialEq, Eq)]
 pub enum Corner {
     Settled,
     Blocked,
@@ -91,15 +91,10 @@ fn meet_call(names: &[u32], c: Cycle, name: u32, bare: bool, quantifier: u32) ->
     requires { (c.n ≤ rule_limit) × Told names.now c.n }
     ensures { CallMet names.now c name bare quantifier result }
 {
+    let members = c.members;
     match scan(names, c.n, name) {
-        Target::Unknown => Met::Settled,
-        Target::Rule(t) => {
-            let members = c.members;
-            if has(members, t) {
-                return meet_member(bare, quantifier, t, c.hub);
-            }
-            Met::Settled
-        }
+        Some(t) if has(members, t) => meet_member(bare, quantifier, t, c.hub),
+        _ => Met::Settled,
     }
 }
 
@@ -141,10 +136,9 @@ pub fn find_corner(s: &[u8], end: usize, names: &[u32], c: Cycle, work: &[u8], x
     ensures { CornerAt names.now c (words s.now) end inner_depth work.now x result }
 {
     let n = x.ne;
-    let mut i: usize = 0;
-    while i < n {
+    for i in 0..n {
         match meet_item(s, end, names, c, item(work, x, i)) {
-            Met::Silent => i += 1,
+            Met::Silent => {}
             Met::Settled => return Corner::Settled,
             Met::Blocked => return Corner::Blocked,
             Met::Optional(t) => return Corner::Optional(Place {

@@ -9,14 +9,14 @@ ghost use Rattle.planned.specs.Layout.{meaning};
 ghost use Rattle.planned.specs.List.{Located, InHand, ListedIn};
 ghost use Rattle.steps.specs.Step.{RuleNamed, RuleUnreferring, PreparedFor, DecidedAt};
 
-use crate::decide::{Clause, Decision, splice_size};
+use crate::decide::{Clause, splice_size};
 use collisions::mark::mark_around;
 use collisions::quiet::is_quiet;
 use planned::list::Listed;
 use splices::splice::Size;
 
 // What is known of the elements around one: that nothing in them can collide, or that a reference in them would dangle.
-#[derive(Clone, Copy)]
+#[derive(Clone, Copy, Debug, PartialEq, Eq)]
 pub struct Prepared {
     pub quiet: bool,
     pub dangling: bool,
@@ -43,7 +43,8 @@ fn prepare(s: &[u8], end: usize, work: &mut [u8], h: Listed, index: usize, name:
     }
 }
 
-// What takes the place of the element at an index of the alternative in hand, a call of the rule at `at`.
+// What takes the place of the element at an index of the alternative in hand, a call of the rule at `at`: how much would be pushed, or
+// the clause of a decline.
 pub fn decide(
     s: &[u8],
     end: usize,
@@ -53,7 +54,7 @@ pub fn decide(
     name: u32,
     at: usize,
     optional: bool,
-) -> Decision
+) -> Result<Size, Clause>
     requires room { Room s.now end × (end ≤ most_words) × Located work.old h × InHand h × (index < h.ne) }
     requires listed_in { ListedIn (words s.now) end inner_depth work.old h }
     requires found_rule { FoundRule (words s.now) end at × (at + 4 ≤ end) × RuleNamed (words s.now) end inner_depth at name }
@@ -62,10 +63,10 @@ pub fn decide(
 {
     let p = prepare(s, end, work, h, index, name);
     if p.dangling {
-        return Decision::Declined(Clause::DANGLING_REFERENCE);
+        return Err(Clause::DanglingReference);
     }
     if optional {
-        return Decision::Goes(Size {
+        return Ok(Size {
             a: 2,
             e: 2 * h.ne - 1,
             o: 2 * h.no,

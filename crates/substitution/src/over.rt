@@ -8,38 +8,21 @@ ghost use Rattle.grammar.specs.Found.{FoundAlternative};
 ghost use Rattle.words.specs.Room.{Room};
 ghost use Rattle.planned.specs.List.{Located, InHand, ListedIn};
 ghost use Rattle.turns.specs.Ground.{Ground};
-ghost use Rattle.substitution.specs.Over.{BlockedLook, Reached, StepLooked, HandLooked, LookedAt, Unstored};
+ghost use Rattle.substitution.specs.Over.{Reached, StepLooked, HandLooked, LookedAt, Unstored};
 
-use crate::turning::Made;
+use crate::turning::Done;
 use analysis::names::index;
 use ends::ends::alternative_end;
 use planned::list::Listed;
 use splices::bring::hub_in_hand;
 use steps::corner::{Corner, Cycle, Place, find_corner};
-use steps::decide::{Clause, Decision};
+use steps::decide::Clause;
 use steps::step::decide;
+use turns::turn::{Unplanned, stuck};
 use words::numbers::Block;
 use words::words::word;
 
-// What comes of an alternative: nothing; a decline by its clause; or a step that goes.
-#[derive(Clone, Copy)]
-pub enum Look {
-    Settled,
-    Declines(u32),
-    Goes,
-}
-
-// A corner is in the way.
-fn look_blocked(budget: usize) -> Look
-    ensures { BlockedLook inner_depth budget result }
-{
-    if budget == 0 {
-        return Look::Declines(Clause::BUDGET);
-    }
-    Look::Declines(Clause::BLOCKED_CORNER)
-}
-
-// A member is met in the alternative in hand.
+// A member is met in the alternative in hand: the step is declined, or goes, and leaves the list beyond the limits.
 fn look_step(
     s: &[u8],
     end: usize,
@@ -51,7 +34,7 @@ fn look_step(
     h: Listed,
     p: Place,
     optional: bool,
-) -> Look
+) -> Result<(), Unplanned>
     requires room { Room s.now end × (end ≤ most_words) × Located work.old h × InHand h × Reached c h.ne p optional }
     requires listed_in { ListedIn (words s.now) end inner_depth work.old h }
     requires ground { Ground (words s.now) end names.now places.now c }
@@ -59,15 +42,13 @@ fn look_step(
         work.old work.new h p optional result }
 {
     if budget == 0 {
-        return Look::Declines(Clause::BUDGET);
+        return Err(Unplanned::Declined(Clause::Budget));
     }
     let t = p.target;
     let name = names[t];
     let at = index(places[t]);
-    match decide(s, end, work, h, p.index, name, at, optional) {
-        Decision::Declined(clause) => Look::Declines(clause),
-        Decision::Goes(_) => Look::Goes,
-    }
+    decide(s, end, work, h, p.index, name, at, optional)?;
+    Err(Unplanned::Overfull)
 }
 
 // The alternative in hand.
@@ -80,7 +61,7 @@ fn look_hand(
     budget: usize,
     work: &mut [u8],
     h: Listed,
-) -> Look
+) -> Result<(), Unplanned>
     requires room { Room s.now end × (end ≤ most_words) × Located work.old h × InHand h }
     requires listed_in { ListedIn (words s.now) end inner_depth work.old h }
     requires ground { Ground (words s.now) end names.now places.now c }
@@ -88,8 +69,8 @@ fn look_hand(
         work.old work.new h result }
 {
     match find_corner(s, end, names, c, work, h) {
-        Corner::Settled => Look::Settled,
-        Corner::Blocked => look_blocked(budget),
+        Corner::Settled => Ok(()),
+        Corner::Blocked => Err(Unplanned::Declined(stuck(budget))),
         Corner::Optional(p) => look_step(s, end, names, places, c, budget, work, h, p, true),
         Corner::Satellite(p) => look_step(s, end, names, places, c, budget, work, h, p, false),
     }
@@ -105,7 +86,7 @@ fn look_at(
     budget: usize,
     work: &mut [u8],
     at: usize,
-) -> Look
+) -> Result<(), Unplanned>
     requires room { Room s.now end × (end ≤ most_words) × (work_bytes ≤ length work.old) }
     requires found_alternative { FoundAlternative (words s.now) end inner_depth at }
     requires ground { Ground (words s.now) end names.now places.now c }
@@ -126,26 +107,20 @@ fn look_all(
     budget: usize,
     work: &mut [u8],
     at: usize,
-) -> Made
+) -> Result<Option<Done>, Unplanned>
     requires room { Room s.now end × (end ≤ most_words) × (work_bytes ≤ length work.old) }
     requires at_value { (at ≡ get_or places.now c.hub 0) × (at + 4 ≤ end) }
     requires ground { Ground (words s.now) end names.now places.now c }
     ensures { Unstored (words s.now) end names.now places.now c budget
         work.new result }
 {
-    let mut i = word(s, at + 3);
+    let n = word(s, at + 3);
     let mut p = at + 4;
-    while i != 0 {
-        match look_at(s, end, names, places, c, budget, work, p) {
-            Look::Declines(clause) => return Made::Declined(clause),
-            Look::Goes => return Made::Overfull,
-            Look::Settled => {
-                p = alternative_end(s, end, Block::DEPTH, p);
-                i -= 1;
-            }
-        }
+    for _ in 0..n {
+        look_at(s, end, names, places, c, budget, work, p)?;
+        p = alternative_end(s, end, Block::DEPTH, p);
     }
-    Made::Idle
+    Ok(None)
 }
 
 // The hub of a cycle.
@@ -157,7 +132,7 @@ pub fn unstored(
     c: Cycle,
     budget: usize,
     work: &mut [u8],
-) -> Made
+) -> Result<Option<Done>, Unplanned>
     requires room { Room s.now end × (end ≤ most_words) × (work_bytes ≤ length work.old) }
     requires ground { Ground (words s.now) end names.now places.now c }
     ensures { Unstored (words s.now) end names.now places.now c budget

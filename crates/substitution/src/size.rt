@@ -32,13 +32,11 @@ pub fn hub_size(s: &[u8], end: usize, at: usize) -> Size
     ensures { RuleCounted (words s.now) end at result }
 {
     let mut z = Size { a: 0, e: 0, o: 0 };
-    let mut i = word(s, at + 3);
+    let n = word(s, at + 3);
     let mut p = at + 4;
-    while i != 0 {
-        let t = with_one(s, end, p, z);
-        z = t;
+    for _ in 0..n {
+        z = with_one(s, end, p, z);
         p = alternative_end(s, end, Block::DEPTH, p);
-        i -= 1;
     }
     z
 }

@@ -15,7 +15,7 @@ use records::rules::Rules;
 use splices::splice::Size;
 use steps::corner::Cycle;
 use turns::state::{Limits, State};
-use turns::turn::{Turn, is_within, take_turn};
+use turns::turn::{Unplanned, is_within, take_turn};
 use words::words::word;
 
 // The list that is left, and the steps that it took.
@@ -23,15 +23,6 @@ use words::words::word;
 pub struct Done {
     pub l: Sizes,
     pub steps: usize,
-}
-
-// A list without work left; or none was made, since nothing was in need of work; or a decline by its clause; or refusal 7.
-#[derive(Clone, Copy)]
-pub enum Made {
-    Planned(Done),
-    Idle,
-    Declined(u32),
-    Overfull,
 }
 
 // Whether an alternative is still to be looked at.
@@ -71,7 +62,7 @@ fn stored(
     budget: usize,
     first: State,
     work: &mut [u8],
-) -> Made
+) -> Result<Option<Done>, Unplanned>
     requires room { Room s.now end × (end ≤ most_words) × LimitsFit limits }
     requires shut { Shut (Ready (words s.now) end work.old first 0 0 0) }
     requires shut_2 { Shut (Ground (words s.now) end names.now places.now c) }
@@ -80,14 +71,11 @@ fn stored(
 {
     let mut st = first;
     while has_next(st) {
-        match take_turn(s, end, names, places, c, limits, work, st) {
-            Turn::On(next) => st = next,
-            Turn::Declined(clause) => return Made::Declined(clause),
-            Turn::Overfull => return Made::Overfull,
-        }
+        st = take_turn(s, end, names, places, c, limits, work, st)?;
     }
     let l = st.l;
-    Made::Planned(Done { l, steps: st.steps })
+    let steps = st.steps;
+    Ok(Some(Done { l, steps }))
 }
 
 // The hub's own list is stored if it is within the limits.
@@ -100,7 +88,7 @@ fn run(
     limits: Limits,
     budget: usize,
     work: &mut [u8],
-) -> Made
+) -> Result<Option<Done>, Unplanned>
     requires room { Room s.now end × (end ≤ most_words) × (work_bytes ≤ length work.old) × LimitsFit limits }
     requires shut { Shut (Ground (words s.now) end names.now places.now c) }
     ensures { MadeOf (words s.now) end names.now places.now c limits budget work.new result }
@@ -115,7 +103,8 @@ fn run(
     unstored(s, end, names, places, c, budget, work)
 }
 
-// The substitution in the alternatives of the hub, with so many steps allowed.
+// The substitution in the alternatives of the hub, with so many steps allowed: a list without work left; or none, since nothing was in
+// need of work and its own list is beyond the limits.
 pub fn substitute(
     s: &[u8],
     end: usize,
@@ -124,7 +113,7 @@ pub fn substitute(
     limits: Limits,
     budget: usize,
     work: &mut [u8],
-) -> Made
+) -> Result<Option<Done>, Unplanned>
     requires room { Room s.now end × (end ≤ most_words) × (work_bytes ≤ length work.old) × LimitsFit limits }
     requires ground { Ground (words s.now) end rules.names rules.places c }
     ensures { MadeOf (words s.now) end rules.names rules.places c limits budget work.new result }

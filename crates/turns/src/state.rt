@@ -14,7 +14,7 @@ use splices::splice::Size;
 use words::numbers::Block;
 
 // The least budget, and how large a planned list may be after a step.
-#[derive(Clone, Copy)]
+#[derive(Clone, Copy, Debug, PartialEq, Eq)]
 pub struct Limits {
     pub floor: usize,
     pub alternatives: usize,

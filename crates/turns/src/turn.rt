@@ -19,7 +19,7 @@ use planned::hand::{into_hand, push_split};
 use planned::list::{Listed, Sizes};
 use splices::splice::{Size, push_splice};
 use steps::corner::{Corner, Cycle, Place, find_corner};
-use steps::decide::{Clause, Decision};
+use steps::decide::Clause;
 use steps::step::decide;
 
 // The alternative that was taken comes into the hand.
@@ -78,12 +78,21 @@ fn push(
     push_splice(s, end, work, l, h, index, at, z)
 }
 
-// A turn: the substitution goes on, or is over by a clause, or by refusal 7.
-#[derive(Clone, Copy)]
-pub enum Turn {
-    On(State),
-    Declined(u32),
+// Why there is no plan: a decline by its clause; or refusal 7, a list beyond the limits.
+#[derive(Clone, Copy, Debug, PartialEq, Eq)]
+pub enum Unplanned {
+    Declined(Clause),
     Overfull,
+}
+
+impl From<Clause> for Unplanned {
+    ghost use Rattle.turns.specs.declared.turn.Unplanned.TheVariants.{Declined};
+
+    ghost from_gives = { λ clause unplanned. unplanned ≡ Declined clause };
+
+    fn from(clause: Clause) -> Unplanned {
+        Unplanned::Declined(clause)
+    }
 }
 
 // What was decided is done, if the list is within the limits then.
@@ -98,7 +107,7 @@ fn advance(
     at: usize,
     z: Size,
     optional: bool,
-) -> Turn
+) -> Result<State, Unplanned>
     requires room { Room s.now end × (end ≤ most_words) × LimitsFit limits × SmallSize z }
     requires fact { (st.budget ≡ 0 → ⊥) × (st.steps + st.budget < 2 ^ 64) }
     requires shut { Shut (With (words s.now) end work.old st h) × InHand h × (index < h.ne) }
@@ -113,7 +122,7 @@ fn advance(
     let more = size_after(all, h, z);
     if is_within(limits, more) {
         let r = push(s, end, work, l, h, index, at, z, optional);
-        return Turn::On(State {
+        return Ok(State {
             l: r,
             left: st.left,
             at: st.at,
@@ -122,7 +131,7 @@ fn advance(
             steps,
         });
     }
-    Turn::Overfull
+    Err(Unplanned::Overfull)
 }
 
 // The step on the alternative in hand is decided, then done.
@@ -137,16 +146,14 @@ fn step_in_hand(
     name: u32,
     at: usize,
     optional: bool,
-) -> Turn
+) -> Result<State, Unplanned>
     requires room { Room s.now end × (end ≤ most_words) × LimitsFit limits × (st.budget ≡ 0 → ⊥) × (index < h.ne) }
     requires shut { Shut (With (words s.now) end work.old st h) × InHand h × Located work.old h }
     requires called { Called (words s.now) end work.old h index name at optional }
     ensures { SteppedTo (words s.now) end work.old work.new st h index at optional limits result }
 {
-    match decide(s, end, work, h, index, name, at, optional) {
-        Decision::Declined(clause) => Turn::Declined(clause),
-        Decision::Goes(z) => advance(s, end, limits, work, st, h, index, at, z, optional),
-    }
+    let z = decide(s, end, work, h, index, name, at, optional)?;
+    advance(s, end, limits, work, st, h, index, at, z, optional)
 }
 
 // A step on the alternative that was taken; the one beyond the budget is not looked at.
@@ -160,7 +167,7 @@ fn step(
     name: u32,
     at: usize,
     optional: bool,
-) -> Turn
+) -> Result<State, Unplanned>
     requires room { Room s.now end × (end ≤ most_words) × LimitsFit limits × (index < t.x.ne) }
     requires shut { Shut (With (words s.now) end work.old t.st t.x) }
     requires in_hand { (t.hand ≡ true → InHand t.x) × (t.hand ≡ false → InList t.x) }
@@ -170,7 +177,7 @@ fn step(
 {
     let st = t.st;
     if st.budget == 0 {
-        return Turn::Declined(Clause::BUDGET);
+        return Err(Unplanned::Declined(Clause::Budget));
     }
     let h = hold(work, t);
     step_in_hand(s, end, limits, work, st, h, index, name, at, optional)
@@ -187,7 +194,7 @@ fn step_at(
     t: Taken,
     p: Place,
     optional: bool,
-) -> Turn
+) -> Result<State, Unplanned>
     requires room { Room s.now end × (end ≤ most_words) × LimitsFit limits }
     requires shut { Shut (With (words s.now) end work.old t.st t.x) }
     requires in_hand { (t.hand ≡ true → InHand t.x) × (t.hand ≡ false → InList t.x) }
@@ -201,14 +208,14 @@ fn step_at(
     step(s, end, limits, work, t, p.index, name, at, optional)
 }
 
-// A corner that is in the way.
-fn stuck(st: State) -> Turn
-    ensures { StuckAt st result }
+// The clause by which a corner that is in the way declines: the budget is asked first.
+pub fn stuck(budget: usize) -> Clause
+    ensures { StuckAt budget result }
 {
-    if st.budget == 0 {
-        return Turn::Declined(Clause::BUDGET);
+    if budget == 0 {
+        return Clause::Budget;
     }
-    Turn::Declined(Clause::BLOCKED_CORNER)
+    Clause::BlockedCorner
 }
 
 // What was taken is settled, or a step is made on it.
@@ -221,7 +228,7 @@ fn act(
     limits: Limits,
     work: &mut [u8],
     t: Taken,
-) -> Turn
+) -> Result<State, Unplanned>
     requires room { Room s.now end × (end ≤ most_words) × LimitsFit limits }
     requires shut { Shut (With (words s.now) end work.old t.st t.x) }
     requires in_hand { (t.hand ≡ true → InHand t.x) × (t.hand ≡ false → InList t.x) }
@@ -232,8 +239,8 @@ fn act(
     let x = t.x;
     let st = t.st;
     match find_corner(s, end, names, c, work, x) {
-        Corner::Settled => Turn::On(put_settled(work, st, x)),
-        Corner::Blocked => stuck(st),
+        Corner::Settled => Ok(put_settled(work, st, x)),
+        Corner::Blocked => Err(Unplanned::Declined(stuck(st.budget))),
         Corner::Optional(p) => step_at(s, end, names, places, limits, work, t, p, true),
         Corner::Satellite(p) => step_at(s, end, names, places, limits, work, t, p, false),
     }
@@ -249,7 +256,7 @@ pub fn take_turn(
     limits: Limits,
     work: &mut [u8],
     st: State,
-) -> Turn
+) -> Result<State, Unplanned>
     requires room { Room s.now end × (end ≤ most_words) × LimitsFit limits × HasNext st }
     requires shut { Shut (Ready (words s.now) end work.old st 0 0 0) }
     requires shut_2 { Shut (Ground (words s.now) end names.now places.now c) }

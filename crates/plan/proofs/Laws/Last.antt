@@ -7,7 +7,7 @@ use lib.ListN.{get_or}
 use borrow.Author.Tests.{eq-eqb, ne_eqb, not-true, not-false}
 use Rattle.grammar.specs.Tree.{body_depth, inner_depth}
 use Rattle.reference.specs.Analysis.{nullable_rules, grammar_of}
-use Rattle.reference.specs.Substitute.{Clause, no_steps, not_directly_rewritable, clause_number, Decided, declined, require}
+use Rattle.reference.specs.Substitute.{Clause, no_steps, not_directly_rewritable, Decided, declined, require}
 use Rattle.reference.specs.Plan.{plan_of}
 use Rattle.records.specs.declared.rules.Rules.{Rules}
 use Rattle.reach.specs.Rows.{RowOf}
@@ -22,7 +22,9 @@ use Rattle.planned.specs.List.{Laid, AllIn}
 use Rattle.rewritable.specs.Judge.{AreJudged, JudgedFound}
 use Rattle.rewritable.specs.declared.judge.Judged.{Judged}
 use Rattle.substitution.specs.declared.turning.Done.{Done}
-use Rattle.plan.specs.declared.plan.Decision.TheVariants.{Planned, Declined}
+use Rattle.std.specs.Prelude.{Ok, Err}
+use Rattle.steps.specs.declared.decide.Clause.TheVariants.{NoSteps, NotDirectlyRewritable}
+use Rattle.turns.specs.declared.turn.Unplanned.TheVariants.{Declined}
 use Rattle.plan.specs.Known.{CycleKnown, known_rules, known_grammar}
 use Rattle.plan.specs.Decision.{PlanLast}
 
@@ -43,12 +45,11 @@ nullable_row {ws} {end} {rules} {m = m} k =
 
 module _ {ws : List ℕ} {end : ℕ} {rules : Rules} {past : Bool} {calls : List (List ℕ)} {marks : Marks} {kept members : List ℕ}
     {hub : ℕ} {done : Done} {bs : List ℕ} where
-  pub last_idle : done.steps ≡ 0 → PlanLast ws end rules past calls marks kept members hub done bs (Declined 10)
-  unfolding clause_number
+  pub last_idle : done.steps ≡ 0 → PlanLast ws end rules past calls marks kept members hub done bs (Err (Declined NoSteps))
   last_idle e =
       record {
         is = λ limits x.
-            record { clause = no_steps; number = refl; is = unmet no_steps _ (ap not (eq-eqb done.steps 0 e)) };
+            record { is = unmet no_steps _ (ap not (eq-eqb done.steps 0 e)) };
       }
 
   module _ {n : ℕ} (count : n ≡ rules.n) (some : done.steps ≡ 0 → ⊥) {j : Judged}
@@ -59,14 +60,11 @@ module _ {ws : List ℕ} {end : ℕ} {rules : Rules} {past : Bool} {calls : List
     unfolding grammar_of
     known_judged x = judged.is x.known.standing _ x.cycle refl (nullable_row x.known) x.is_cycle.row
 
-    pub last_unfit : not j.fit ≡ true → PlanLast ws end rules past calls marks kept members hub done bs (Declined 11)
-    unfolding clause_number
+    pub last_unfit : not j.fit ≡ true → PlanLast ws end rules past calls marks kept members hub done bs (Err (Declined NotDirectlyRewritable))
     last_unfit f =
         record {
           is = λ limits x.
               record {
-                clause = not_directly_rewritable;
-                number = refl;
                 is = met no_steps _ (ap not (ne_eqb done.steps 0 some))
                     ∙ unmet not_directly_rewritable _ (sym (known_judged x).fit ∙ not-true j.fit f);
               };
@@ -75,7 +73,7 @@ module _ {ws : List ℕ} {end : ℕ} {rules : Rules} {past : Bool} {calls : List
     pub last_plan : not j.fit ≡ false → hub < rules.n → Laid bs done.l → AllIn ws end inner_depth bs done.l → {row : List ℕ}
         → Removable calls n j.calls hub members kept row
         → PlanLast ws end rules past calls marks kept members hub done bs
-        (Planned (record { hub = hub; l = done.l; steps = done.steps; low = get_or row 0 0; high = get_or row 1 0 }))
+        (Ok (record { hub = hub; l = done.l; steps = done.steps; low = get_or row 0 0; high = get_or row 1 0 }))
     last_plan u low laid listed {row} rows =
         record {
           is = λ limits x.

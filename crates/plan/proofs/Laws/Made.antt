@@ -10,7 +10,7 @@ use Rattle.grammar.specs.Tree.{inner_depth}
 use Rattle.grammar.specs.Lists.{member}
 use Rattle.grammar.specs.Laws.Parse.{both_true, either}
 use Rattle.graph.specs.Members.{keep_in}
-use Rattle.reference.specs.Substitute.{no_steps, clause_number, Decided, ◌and_then◌, Substituted, substitute, substitution_budget}
+use Rattle.reference.specs.Substitute.{Decided, ◌and_then◌, Substituted, substitute, substitution_budget}
 use Rattle.reference.specs.Plan.{CyclePlan, satellite_is_inlinable, as_they_are, last_tests}
 use Rattle.records.specs.declared.rules.Rules.{Rules}
 use Rattle.reach.specs.Rows.{bit}
@@ -22,23 +22,25 @@ use Rattle.hub.specs.Budget.{IsBudget}
 use Rattle.hub.proofs.Laws.Lists.{all_false}
 use Rattle.hub.proofs.Laws.Grounds.{row_bit, is_among, at_place, place_low, same_place}
 use Rattle.planned.specs.List.{Laid, AllIn}
-use Rattle.steps.specs.Decide.{DeclinedBy}
 use Rattle.turns.specs.Ground.{Ground}
 use Rattle.turns.specs.Midway.{limits_of}
 use Rattle.substitution.specs.Run.{MadeTo, MadeOf}
 use Rattle.turns.specs.declared.state.Limits.{Limits}
 use Rattle.substitution.specs.declared.turning.Done.{Done}
-use Rattle.substitution.specs.declared.turning.Made.{Made}
-use Rattle.substitution.specs.declared.turning.Made.TheVariants as M
-use Rattle.plan.specs.declared.plan.Decision.{Decision}
-use Rattle.plan.specs.declared.plan.Decision.TheVariants.{Declined, Overfull}
+use Rattle.std.specs.Prelude.{Option, Some, None, Result, Ok, Err}
+use Rattle.steps.specs.declared.decide.Clause.TheVariants.{NoSteps}
+use Rattle.turns.specs.Turn.{UnplannedBy}
+use Rattle.turns.specs.declared.turn.Unplanned.{Unplanned}
+use Rattle.turns.specs.declared.turn.Unplanned.TheVariants.{Declined, Overfull}
+use Rattle.plan.specs.declared.plan.Plan.{Plan}
 use Rattle.plan.specs.Known.{HubKnown, known_rules, known_grammar}
 use Rattle.plan.specs.Decision.{DecidedAs, PlanMade, PlanLast}
 use Rattle.plan.proofs.Laws.Last.{nullable_row}
 
--- What follows a decline.
-declined_then : {A B : Type 0} {m : Decided A} (f : A → Decided B) {n : ℕ} → DeclinedBy m n → DeclinedBy (m and_then f) n
-declined_then f d = record { clause = d.clause; number = d.number; is = rw d.is refl }
+-- What follows a decline, or refusal 7.
+unplanned_then : {A B : Type 0} (m : Decided A) (f : A → Decided B) (n : Unplanned) → UnplannedBy m n → UnplannedBy (m and_then f) n
+unplanned_then m f (Declined c) d = record { is = rw d.is refl }
+unplanned_then m f Overfull d = rw d refl
 
 module _ {ws : List ℕ} {end : ℕ} {rules : Rules} {past : Bool} {calls : List (List ℕ)} {marks : Marks} {kept members : List ℕ}
     {hub : ℕ} where
@@ -83,7 +85,7 @@ module _ {ws : List ℕ} {end : ℕ} {rules : Rules} {past : Bool} {calls : List
     pub hub_standing : Standing ws end rules
     hub_standing = x.known.known.standing
 
-  module _ {n most : ℕ} {limits : Limits} {bs : List ℕ} {made : Made} (count : n ≡ rules.n)
+  module _ {n most : ℕ} {limits : Limits} {bs : List ℕ} {made : Result (Option Done) Unplanned} (count : n ≡ rules.n)
       (b : IsBudget ws end rules members limits.floor most)
       (v : MadeOf ws end rules.names rules.places (record { n = n; members = members; hub = hub }) limits most bs made) where
     module _ (x : HubKnown ws end rules past calls marks kept members hub) (a : Among (known_rules x.known) hub) where
@@ -99,21 +101,21 @@ module _ {ws : List ℕ} {end : ℕ} {rules : Rules} {past : Bool} {calls : List
           last_tests (limits_of limits) (reading past) (known_grammar x.known) inner_depth (known_rules x.known) x.known.preserved
           x.known.cycle (get_or rules.ids hub 0)
 
-      made_to : {r : Made} → made ≡ r → MadeTo ws end bs whole r
+      made_to : {r : Result (Option Done) Unplanned} → made ≡ r → MadeTo ws end bs whole r
       unfolding whole ground_of
       made_to {r} e =
           let z = b.is x.known.known.standing (limits_of limits) refl x.known.cycle x.known.is_cycle in
           subst (MadeTo ws end bs whole) e (rw z at (v.is (ground_of x count) a))
 
     -- A list was made.
-    module _ {done : Done} (e : made ≡ M.Planned done) where
+    module _ {done : Done} (e : made ≡ Ok (Some done)) where
       pub made_laid : HubKnown ws end rules past calls marks kept members hub → Laid bs done.l
       made_laid x = (made_to x (at_place x.known.known.standing hub x.low) e).laid
 
       pub made_listed : HubKnown ws end rules past calls marks kept members hub → AllIn ws end inner_depth bs done.l
       made_listed x = (made_to x (at_place x.known.known.standing hub x.low) e).listed
 
-      pub made_planned : {r : Decision} → PlanLast ws end rules past calls marks kept members hub done bs r
+      pub made_planned : {r : Result Plan Unplanned} → PlanLast ws end rules past calls marks kept members hub done bs r
           → PlanMade ws end rules past calls marks kept members limits hub bs r
       unfolding whole last
       made_planned {r} p =
@@ -123,20 +125,12 @@ module _ {ws : List ℕ} {end : ℕ} {rules : Rules} {past : Bool} {calls : List
                 (p.is limits x.known);
           }
 
-    pub made_idle : made ≡ M.Idle → PlanMade ws end rules past calls marks kept members limits hub bs (Declined 10)
-    unfolding whole last clause_number
-    made_idle e =
-        record {
-          is = λ x a.
-              record { clause = no_steps; number = refl; is = ap (λ m. m and_then last x a) (made_to x a e).is };
-        }
-
-    pub made_declined : {c : ℕ} → made ≡ M.Declined c → PlanMade ws end rules past calls marks kept members limits hub bs (Declined c)
+    pub made_idle : made ≡ Ok None → PlanMade ws end rules past calls marks kept members limits hub bs (Err (Declined NoSteps))
     unfolding whole last
-    made_declined e = record { is = λ x a. declined_then (last x a) (made_to x a e) }
+    made_idle e = record { is = λ x a. record { is = ap (λ m. m and_then last x a) (made_to x a e).is } }
 
-    pub made_overfull : made ≡ M.Overfull → PlanMade ws end rules past calls marks kept members limits hub bs Overfull
+    pub made_unplanned : {n : Unplanned} → made ≡ Err n → PlanMade ws end rules past calls marks kept members limits hub bs (Err n)
     unfolding whole last
-    made_overfull e = record { is = λ x a. ap (λ m. m and_then last x a) (made_to x a e) }
+    made_unplanned {n} e = record { is = λ x a. unplanned_then (whole x a) (last x a) n (made_to x a e) }
 
-pub ruleset making = (ground_of, hub_low, hub_standing, made_laid, made_listed, made_planned, made_idle, made_declined, made_overfull)
+pub ruleset making = (ground_of, hub_low, hub_standing, made_laid, made_listed, made_planned, made_idle, made_unplanned)

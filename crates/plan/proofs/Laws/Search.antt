@@ -3,7 +3,7 @@ use Prim.Native.Nat.{ℕ, zero, suc, ◌+◌, ◌<◌, ◌≤◌}
 use mathlib.Core.Path.{◌≡◌, refl, sym, ap, ◌∙◌, subst}
 use mathlib.Core.List.Memᴰ
 use mathlib.Core.List.{List, [], ◌∷◌, Memᴰ}
-use mathlib.Core.Bool.{Bool, true, false}
+use mathlib.Core.Bool.{Bool}
 use native.Mathlib.Omega.{arith}
 use native.Mathlib.Numerals.{add-one}
 use lib.ListN.{length, get_or, take, drop, replicate, set, length-set, length-drop, length-replicate}
@@ -23,11 +23,14 @@ use Rattle.analysis.specs.Survey.{reading}
 use Rattle.analysis.specs.declared.rounds.Marks.{Marks}
 use Rattle.hub.specs.Grounds.{IsCycle}
 use Rattle.hub.proofs.Laws.Cycle.{listed_cycle}
-use Rattle.steps.specs.Decide.{DeclinedBy}
+use Rattle.steps.specs.Decide.{clause_of, DeclinedByNumber}
 use Rattle.turns.specs.declared.state.Limits.{Limits}
 use Rattle.plan.specs.declared.plan.Plan.{Plan}
-use Rattle.plan.specs.declared.plan.Decision.{Decision}
-use Rattle.plan.specs.declared.plan.Decision.TheVariants as D
+use Rattle.reference.specs.Substitute.{clause_number}
+use Rattle.std.specs.Prelude.{Option, Some, None, Result, Ok, Err}
+use Rattle.steps.specs.declared.decide.Clause.{Clause}
+use Rattle.turns.specs.declared.turn.Unplanned.{Unplanned}
+use Rattle.turns.specs.declared.turn.Unplanned.TheVariants.{Declined, Overfull}
 use Rattle.plan.specs.declared.search.Search.{Search}
 use Rattle.plan.specs.declared.search.Search.TheVariants.{NoPlan, Planned, TooLarge}
 use Rattle.plan.specs.declared.search.Found.{Found}
@@ -56,7 +59,7 @@ module _ (ws : List ℕ) (end : ℕ) (rules : Rules) (past : Bool) (calls : List
     pub same : (x : JoinedKnown ws end rules past calls marks kept closed)
         → whole_search x.known limits ≡ search_through x.known limits (drop k (cycles_of x.known))
     pub declines : (x : JoinedKnown ws end rules past calls marks kept closed) (j : ℕ) → j < k
-        → DeclinedBy (decision_on x.known limits (get_or (cycles_of x.known) j [])) (get_or clauses j 0)
+        → DeclinedByNumber (decision_on x.known limits (get_or (cycles_of x.known) j [])) (get_or clauses j 0)
     pub behind : (j : ℕ) → k ≤ j → get_or clauses j 0 ≡ 0
 
 module _ {ws : List ℕ} {end : ℕ} {rules : Rules} {past : Bool} {calls : List (List ℕ)} {marks : Marks} {kept : List ℕ}
@@ -110,16 +113,18 @@ module _ {ws : List ℕ} {end : ℕ} {rules : Rules} {past : Bool} {calls : List
         }
 
     -- As many were declined as there are rules.
-    pub try_full : {f : Found} (bs : List ℕ) → n ≤ k → Ended NoPlan k clauses f
+    pub try_full : {f : Found} (bs : List ℕ) → n ≤ k → Ended NoPlan n clauses f
         → TriedOf ws end rules past calls marks kept closed limits bs f
-    try_full bs l e = no_more bs (λ x. let f = cycles_few x in let m = g.size in omega arith) e
+    try_full bs l e =
+        let z : n ≡ k = let h = g.low in omega arith in
+        no_more bs (λ x. let f = cycles_few x in let m = g.size in omega arith) (rw z at e)
 
-    module _ {r : Ahead} (a : AheadOf closed rules.ids n left r) where
+    module _ {o : Option Ahead} (a : AheadOf closed rules.ids n left o) where
       ids : (x : JoinedKnown ws end rules past calls marks kept closed) → Ids (graph x) n rules.ids
       ids x = rw g.size (graph_ids x)
 
       -- None is left.
-      pub try_done : {f : Found} (bs : List ℕ) → r.done ≡ true → Ended NoPlan k clauses f
+      pub try_done : {f : Found} (bs : List ℕ) → o ≡ None → Ended NoPlan k clauses f
           → TriedOf ws end rules past calls marks kept closed limits bs f
       try_done bs d e =
           no_more bs
@@ -130,7 +135,7 @@ module _ {ws : List ℕ} {end : ℕ} {rules : Rules} {past : Bool} {calls : List
           omega arith)
           e
 
-      module _ (d : r.done ≡ false) where
+      module _ {r : Ahead} (d : o ≡ Some r) where
         module _ (x : JoinedKnown ws end rules past calls marks kept closed) where
           taken : Taken (graph x) rules.ids n (all x) closed (drop k (all x)) r.members r.left
           taken = rw d at (a.takes (graph x) (all x) (drop k (all x)) (ids x) (g.ahead x))
@@ -175,18 +180,18 @@ module _ {ws : List ℕ} {end : ℕ} {rules : Rules} {past : Bool} {calls : List
                 keeps = x.known.keeps;
               }
 
-        module _ {bs : List ℕ} {t : Decision} (p : PlanOf ws end rules past calls marks kept r.members limits bs t) where
-          here : (x : JoinedKnown ws end rules past calls marks kept closed) {u : Decision} → t ≡ u
+        module _ {bs : List ℕ} {t : Result Plan Unplanned} (p : PlanOf ws end rules past calls marks kept r.members limits bs t) where
+          here : (x : JoinedKnown ws end rules past calls marks kept closed) {u : Result Plan Unplanned} → t ≡ u
               → DecidedAs ws end rules.ids rules.n bs (decision_on x.known limits (get_or (all x) k [])) u
           unfolding cycle_known
           here x z =
               subst (DecidedAs ws end rules.ids rules.n bs (decision_on x.known limits (get_or (all x) k []))) z
               (p.is (cycle_known x))
 
-          pub try_next : {c : ℕ} → k < n → t ≡ D.Declined c
+          pub try_next : {b : Clause} {c : ℕ} → k < n → t ≡ Err (Declined b) → c ≡ clause_number (clause_of b)
               → Trying ws end rules past calls marks kept closed limits n (k + 1) r.left (set clauses k c)
           unfolding search_cycles
-          try_next {c} l z =
+          try_next {b} {c} l z w =
               record {
                 size = g.size;
                 few = g.few;
@@ -199,14 +204,15 @@ module _ {ws : List ℕ} {end : ℕ} {rules : Rules} {past : Bool} {calls : List
                     ∙ rw ((here x z).is, search_cycles) (ap (λ m. search_through x.known limits (drop m (all x))) (sym (add-one k)));
                 declines = λ x j m.
                     either (eqb j k)
-                    (λ y. rw (eqb-true j k y, get_or-set_same clauses k c 0 (let a = g.long in let b = g.few in omega arith)) (here x z))
+                    (λ y. rw (eqb-true j k y, get_or-set_same clauses k c 0 (let a = g.long in let b = g.few in omega arith))
+                    (record { clause = clause_of b; number = sym w; is = (here x z).is }))
                     (λ f.
                     let o = eqb-false j k f in
                     rw (get_or-set_other clauses k j c 0 o) (g.declines x j (omega arith)));
                 behind = λ j m. get_or-set_other clauses k j c 0 (λ e. omega arith) ∙ g.behind j (omega arith);
               }
 
-          pub try_planned : {f : Found} {plan : Plan} → t ≡ D.Planned plan
+          pub try_planned : {f : Found} {plan : Plan} → t ≡ Ok plan
               → Ended (Planned (record { plan = plan; low = get_or r.members 0 0; high = get_or r.members 1 0 })) k clauses f
               → TriedOf ws end rules past calls marks kept closed limits bs f
           unfolding search_cycles
@@ -221,7 +227,7 @@ module _ {ws : List ℕ} {end : ℕ} {rules : Rules} {past : Bool} {calls : List
                 same = h.same;
               }
 
-          pub try_overfull : {f : Found} → t ≡ D.Overfull → Ended TooLarge k clauses f
+          pub try_overfull : {f : Found} → t ≡ Err Overfull → Ended TooLarge k clauses f
               → TriedOf ws end rules past calls marks kept closed limits bs f
           unfolding search_cycles
           try_overfull z e =

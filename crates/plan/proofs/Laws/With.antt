@@ -9,11 +9,9 @@ use borrow.Author.Tests.{not-true, not-false}
 use Rattle.grammar.specs.Tree.{inner_depth}
 use Rattle.grammar.specs.Lists as L
 use Rattle.grammar.specs.Laws.Opened.{rule_words_lem}
-use Rattle.reference.specs.Substitute.{no_hub, hub_with_arguments, satellite_not_inlinable, clause_number, Decided, found, ◌and_then◌}
+use Rattle.reference.specs.Substitute.{no_hub, hub_with_arguments, satellite_not_inlinable, Decided, found, ◌and_then◌}
 use Rattle.reference.specs.Plan.{CyclePlan, choose_hub, satellite_is_inlinable, satellites, with_hub, plan_cycle}
 use Rattle.records.specs.declared.rules.Rules.{Rules}
-use Rattle.reach.specs.declared.cycles.Next.{Next}
-use Rattle.reach.specs.declared.cycles.Next.TheVariants.{Done, Rule}
 use Rattle.analysis.specs.Facts.{Among, Standing}
 use Rattle.analysis.specs.Survey.{reading}
 use Rattle.analysis.specs.declared.rounds.Marks.{Marks}
@@ -23,8 +21,11 @@ use Rattle.hub.specs.Inlinable.{AllInlinable}
 use Rattle.hub.proofs.Laws.Grounds.{at_place, with_id}
 use Rattle.turns.specs.Midway.{limits_of}
 use Rattle.turns.specs.declared.state.Limits.{Limits}
-use Rattle.plan.specs.declared.plan.Decision.{Decision}
-use Rattle.plan.specs.declared.plan.Decision.TheVariants.{Declined}
+use Rattle.std.specs.Prelude.{Option, Some, None, Result, Err}
+use Rattle.steps.specs.declared.decide.Clause.TheVariants.{NoHub, HubWithArguments, SatelliteNotInlinable}
+use Rattle.turns.specs.declared.turn.Unplanned.{Unplanned}
+use Rattle.turns.specs.declared.turn.Unplanned.TheVariants.{Declined}
+use Rattle.plan.specs.declared.plan.Plan.{Plan}
 use Rattle.plan.specs.Known.{CycleKnown, HubKnown, known_rules, known_grammar}
 use Rattle.plan.specs.Decision.{TakesArguments, DecidedAs, PlanOf, PlanWith, PlanMade}
 use Rattle.plan.proofs.Laws.Last.{unmet, met}
@@ -47,12 +48,11 @@ module _ {ws : List ℕ} {end : ℕ} {rules : Rules} {past : Bool} {calls : List
     flagged x a = let s = rule_spans x.known.standing.rows a in t.is a.rule s.0 (rw e s.1)
 
     pub with_arguments : {limits : Limits} {bs : List ℕ} → args ≡ true
-        → PlanWith ws end rules past calls marks kept members limits hub bs (Declined 2)
-    unfolding clause_number
+        → PlanWith ws end rules past calls marks kept members limits hub bs (Err (Declined HubWithArguments))
     with_arguments f =
         record {
           is = λ x a.
-              record { clause = hub_with_arguments; number = refl; is = unmet hub_with_arguments _ (flagged x a ∙ ap not f) };
+              record { is = unmet hub_with_arguments _ (flagged x a ∙ ap not f) };
         }
 
     module _ (f : args ≡ false) (low : hub < rules.n) {able : Bool} (all : AllInlinable marks.stops members hub able) where
@@ -61,14 +61,11 @@ module _ {ws : List ℕ} {end : ℕ} {rules : Rules} {past : Bool} {calls : List
       inlined x = all.is ws end rules past calls x.corners marks x.known refl x.cycle x.is_cycle low
 
       pub with_stops : {limits : Limits} {bs : List ℕ} → not able ≡ true
-          → PlanWith ws end rules past calls marks kept members limits hub bs (Declined 3)
-      unfolding clause_number
+          → PlanWith ws end rules past calls marks kept members limits hub bs (Err (Declined SatelliteNotInlinable))
       with_stops n =
           record {
             is = λ x a.
                 record {
-                  clause = satellite_not_inlinable;
-                  number = refl;
                   is = met hub_with_arguments _ (flagged x a ∙ ap not f)
                       ∙ unmet satellite_not_inlinable _ (sym (inlined x) ∙ not-true able n);
                 };
@@ -78,7 +75,7 @@ module _ {ws : List ℕ} {end : ℕ} {rules : Rules} {past : Bool} {calls : List
         pub hub_known : CycleKnown ws end rules past calls marks kept members → HubKnown ws end rules past calls marks kept members hub
         hub_known x = record { known = x; low = low; inlinable = sym (inlined x) ∙ not-false able n }
 
-        pub with_made : {limits : Limits} {bs : List ℕ} {r : Decision} → PlanMade ws end rules past calls marks kept members limits hub bs r
+        pub with_made : {limits : Limits} {bs : List ℕ} {r : Result Plan Unplanned} → PlanMade ws end rules past calls marks kept members limits hub bs r
             → PlanWith ws end rules past calls marks kept members limits hub bs r
         unfolding hub_known
         with_made {bs = bs} {r} p =
@@ -91,28 +88,28 @@ module _ {ws : List ℕ} {end : ℕ} {rules : Rules} {past : Bool} {calls : List
             }
 
   -- The hub.
-  module _ {next : Next} (h : Chosen ws end rules marks.nullable calls members kept next) where
-    chosen_as : {t : Next} → next ≡ t → (x : CycleKnown ws end rules past calls marks kept members)
+  module _ {next : Option ℕ} (h : Chosen ws end rules marks.nullable calls members kept next) where
+    chosen_as : {t : Option ℕ} → next ≡ t → (x : CycleKnown ws end rules past calls marks kept members)
         → HubIs rules.ids rules.n members t (choose_hub (known_grammar x) x.cycle inner_depth (known_rules x) x.preserved)
     chosen_as e x =
         subst
         (λ t. HubIs rules.ids rules.n members t (choose_hub (known_grammar x) x.cycle inner_depth (known_rules x) x.preserved))
         e (h.is past x.corners marks x.known refl x.cycle x.preserved x.is_cycle x.keeps)
 
-    pub plan_none : {limits : Limits} {bs : List ℕ} → next ≡ Done
-        → PlanOf ws end rules past calls marks kept members limits bs (Declined 1)
-    unfolding clause_number plan_cycle
+    pub plan_none : {limits : Limits} {bs : List ℕ} → next ≡ None
+        → PlanOf ws end rules past calls marks kept members limits bs (Err (Declined NoHub))
+    unfolding plan_cycle
     plan_none e =
         record {
           is = λ x.
-              record { clause = no_hub; number = refl; is = rw (plan_cycle, chosen_as e x) refl };
+              record { is = rw (plan_cycle, chosen_as e x) refl };
         }
 
-    module _ {hub : ℕ} (e : next ≡ Rule hub) where
+    module _ {hub : ℕ} (e : next ≡ Some hub) where
       pub hub_inside : CycleKnown ws end rules past calls marks kept members → hub < rules.n
       hub_inside x = (chosen_as e x).0
 
-      pub plan_hub : {limits : Limits} {bs : List ℕ} {r : Decision} → PlanWith ws end rules past calls marks kept members limits hub bs r
+      pub plan_hub : {limits : Limits} {bs : List ℕ} {r : Result Plan Unplanned} → PlanWith ws end rules past calls marks kept members limits hub bs r
           → PlanOf ws end rules past calls marks kept members limits bs r
       unfolding plan_cycle
       plan_hub {limits} {bs} {r} p =

@@ -20,12 +20,13 @@ use Rattle.analysis.specs.declared.rounds.Marks.{Marks}
 use Rattle.hub.specs.Preserved.{between}
 use Rattle.turns.specs.Midway.{LimitsFit, IsStandard}
 use Rattle.turns.specs.declared.state.Limits.{Limits}
-use Rattle.plan.specs.declared.plan.Decision.{Decision}
+use Rattle.std.specs.Prelude.{Some, None, Result}
+use Rattle.turns.specs.declared.turn.Unplanned.{Unplanned}
+use Rattle.plan.specs.declared.plan.Plan.{Plan}
 use Rattle.plan.specs.Known.{CycleKnown}
 use Rattle.plan.specs.Decision.{DecidedAs, PlanOf}
 use Rattle.hub.proofs.Laws.Cycle.{listed_cycle}
 use Rattle.facts.proofs.Laws.Told.{are_ids, are_edges}
-use Rattle.plans.specs.declared.nth.Choice.TheVariants.{None, Some}
 use Rattle.plan.specs.Ground.{KeptOf}
 use Rattle.plans.specs.Nth.{capped, cycles_of, NthOf}
 
@@ -90,7 +91,7 @@ module _ {ws : List ℕ} {end to : ℕ} {rules : Rules} {past : Bool} {calls cor
             keeps = k.row;
           }
 
-      pub nth_some : {limits : Limits} {bs : List ℕ} {d : Decision} → IsStandard limits
+      pub nth_some : {limits : Limits} {bs : List ℕ} {d : Result Plan Unplanned} → IsStandard limits
           → PlanOf ws end rules past calls marks kept row limits bs d
           → NthOf ws end to rules past nth bs (record { cycles = n; choice = Some d })
       unfolding nth_known

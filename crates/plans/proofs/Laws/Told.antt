@@ -20,11 +20,12 @@ use Rattle.words.specs.Refusal.{refusal_number}
 use Rattle.sheet.proofs.Laws.Sizes.{is_refused, was_read}
 use Rattle.analysis.specs.Survey.{reading}
 use Rattle.analysis.proofs.Laws.Standing.{all_rules}
-use Rattle.plan.specs.declared.plan.Decision.TheVariants.{Planned, Declined, Overfull}
+use Rattle.std.specs.Prelude.{Option, Some, None, Result, Ok, Err}
+use Rattle.turns.specs.declared.turn.Unplanned.{Unplanned}
+use Rattle.turns.specs.declared.turn.Unplanned.TheVariants.{Declined, Overfull}
+use Rattle.plan.specs.declared.plan.Plan.{Plan}
 use Rattle.plan.specs.declared.search.Search.{Search}
 use Rattle.plan.specs.declared.search.Search.TheVariants as S
-use Rattle.plans.specs.declared.nth.Choice.{Choice}
-use Rattle.plans.specs.declared.nth.Choice.TheVariants.{None, Some}
 use Rattle.plans.specs.declared.nth.Nth.{Nth}
 use Rattle.plans.specs.Nth.{ChoiceAs, NthAs, NthOf, choice_numbers, nth_numbers, nth_row, left_by}
 use Rattle.plans.specs.Told.{Cleared, NthToldOf, NthTold, FirstToldOf, FirstTold}
@@ -66,13 +67,13 @@ left_cleared list {after} {numbers} e = record { is = λ z. go z (eqb (get_or nu
 
 -- and what is decided stays so.
 module _ (ws : List ℕ) (end : ℕ) (ids : List ℕ) (n : ℕ) (list : List ℕ) {after : List ℕ} (c : Corners) (rs : List Rule) (ps : List ℕ) where
-  choice_left : (nth k : ℕ) (x : Choice) → after ≡ left_by (choice_numbers k x) list → ChoiceAs ws end ids n list c rs ps nth x
+  choice_left : (nth k : ℕ) (x : Option (Result Plan Unplanned)) → after ≡ left_by (choice_numbers k x) list → ChoiceAs ws end ids n list c rs ps nth x
       → ChoiceAs ws end ids n after c rs ps nth x
   unfolding left_by
   choice_left nth k None e h = h
-  choice_left nth k (Some (Planned p)) e h = subst (λ b. ChoiceAs ws end ids n b c rs ps nth (Some (Planned p))) (sym e) h
-  choice_left nth k (Some (Declined m)) e h = record { low = h.low; is = h.is }
-  choice_left nth k (Some Overfull) e h = record { low = h.low; is = h.is }
+  choice_left nth k (Some (Ok p)) e h = subst (λ b. ChoiceAs ws end ids n b c rs ps nth (Some (Ok p))) (sym e) h
+  choice_left nth k (Some (Err (Declined m))) e h = record { low = h.low; is = h.is }
+  choice_left nth k (Some (Err Overfull)) e h = record { low = h.low; is = h.is }
 
   nth_left : {nth : ℕ} {t : Nth} {numbers : List ℕ} → numbers ≡ nth_numbers t → after ≡ left_by numbers list
       → NthAs ws end ids n list c rs ps nth t → NthAs ws end ids n after c rs ps nth t

@@ -13,7 +13,7 @@ use Rattle.splices.specs.Options.{meets, or_else, standing_options, OptionsIn}
 use Rattle.splices.specs.Places.{OptionCount}
 use Rattle.planned.specs.List.{Located, ListedIn}
 use Rattle.planned.specs.declared.list.Listed.{Listed}
-use Rattle.splices.specs.declared.options.Added.TheVariants.{Clash, More}
+use Rattle.std.specs.Prelude.{Some, None}
 use Rattle.splices.specs.declared.options.Meets.{Meets}
 use Rattle.splices.specs.declared.options.Meets.TheVariants.{New, Same, Other}
 use Rattle.splices.proofs.Laws.Options.{meets_append}
@@ -94,7 +94,7 @@ module _ {ws : List ℕ} {end d at : ℕ} {os : List OptionDecl} {n j added : �
   pub adding_same : m ≡ Same → {v : ℕ} → v ≡ added → Adding ws end d at os n (j + 1) v
   adding_same e f = added_next {next = g.wider} (let l = g.fewer in omega arith) (rw e refl) (let c = g.count in omega arith)
 
-  adding_clash : m ≡ Other → OptionCount ws end at n → OptionsAdded ws end d at os Clash
+  adding_clash : m ≡ Other → OptionCount ws end at n → OptionsAdded ws end d at os None
   adding_clash e c =
       record {
         clash = λ f a q s.
@@ -103,7 +103,7 @@ module _ {ws : List ℕ} {end d at : ℕ} {os : List OptionDecl} {n j added : �
       }
 
 adding_done : {ws : List ℕ} {end d at : ℕ} {os : List OptionDecl} {n j added : ℕ} → Adding ws end d at os n j added → n ≤ j
-    → OptionCount ws end at n → OptionsAdded ws end d at os (More added)
+    → OptionCount ws end at n → OptionsAdded ws end d at os (Some added)
 adding_done {ws} {end} {d} {at} {os} {n} {j} {added} g l c =
     record {
       clash = λ f. absurd (let z : ◌≡◌ {A = ℕ} 0 1 = cc in omega arith);
@@ -122,11 +122,11 @@ module _ {ws : List ℕ} {end d at : ℕ} (bs : List ℕ) (x : Listed) {n j adde
     (g : Adding ws end d at (options_from ws end d bs x.o x.no) n j added) (c : OptionCount ws end at n) where
   pub added_clash : j < n → {m : Meets}
       → m ≡ meets (options_from ws end d bs x.o x.no ++ standing_options ws end d (at + 5) j) (option_of ws end d (at + 5 + 2 * j))
-      → m ≡ Other → OptionsAdded ws end d at (meaning ws end d bs x).options Clash
+      → m ≡ Other → OptionsAdded ws end d at (meaning ws end d bs x).options None
   unfolding meaning
   added_clash h y e = adding_clash g h y e c
 
-  pub added_done : n ≤ j → OptionsAdded ws end d at (meaning ws end d bs x).options (More added)
+  pub added_done : n ≤ j → OptionsAdded ws end d at (meaning ws end d bs x).options (Some added)
   unfolding meaning
   added_done h = adding_done g h c
 

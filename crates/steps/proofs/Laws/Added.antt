@@ -17,8 +17,7 @@ use Rattle.grammar.specs.Laws.Found.{inner_found}
 use Rattle.reference.specs.Substitute.{add_option, union_options}
 use Rattle.splices.specs.Moves.{OptionsAdded}
 use Rattle.planned.specs.declared.list.Listed.{Listed}
-use Rattle.splices.specs.declared.options.Added.{Added}
-use Rattle.splices.specs.declared.options.Added.TheVariants as A
+use Rattle.std.specs.Prelude as P
 use Rattle.splices.proofs.Laws.Places.{elements_low}
 use Rattle.steps.specs.Decide.{HandFits, IsCounted, AlternativeCounted}
 use Rattle.splices.specs.declared.splice.Size.{Size}
@@ -63,7 +62,7 @@ union_length os (o ∷ more) {all} e = go (λ w f. union_length w more (rw (unio
         omega arith
 
 -- How many options an alternative adds.
-pub few_added : {ws : List ℕ} {end d at : ℕ} {os : List OptionDecl} {k : Added} {m : ℕ} → OptionsAdded ws end d at os k → k ≡ A.More m
+pub few_added : {ws : List ℕ} {end d at : ℕ} {os : List OptionDecl} {k : P.Option ℕ} {m : ℕ} → OptionsAdded ws end d at os k → k ≡ P.Some m
     → FoundAlternative ws end d at → end ≤ most_words → m ≤ most_words
 few_added {d = d} {os = os} {m = m} o e f small =
     let w = o.more m e f.tree f.next f.spans in

@@ -26,8 +26,7 @@ use Rattle.reference.specs.Substitute.{PlannedCorner, optional, satellite, block
 use Rattle.reference.specs.Substitute.{plain_head}
 use Rattle.reach.specs.Rows.{bit}
 use Rattle.analysis.specs.Names.{IsTarget}
-use Rattle.analysis.specs.declared.names.Target.{Target}
-use Rattle.analysis.specs.declared.names.Target.TheVariants.{Unknown, Rule}
+use Rattle.std.specs.Prelude as P
 use Rattle.planned.specs.Layout.{made_if}
 use Rattle.steps.specs.Corner.{CycleBy, bare_at, quantifier_at, met_corner, MetIn, met_by, met_member, CallMet, ItemMet}
 use Rattle.steps.specs.declared.corner.Cycle.{Cycle}
@@ -98,7 +97,7 @@ module _ (c : Cycle) {t : ℕ} (l : t < c.n) (m : bit c.members t ≡ true) wher
   met_in bare q = met_by_lem (eqb q optional_greedy) bare (eqb q once) (eqb t c.hub) refl
 
 -- A call of a name.
-module _ {names : List ℕ} {name : ℕ} {r : Target} (c : Cycle) (a : IsTarget names c.n name r) (bare : Bool) (q : ℕ) where
+module _ {names : List ℕ} {name : ℕ} {r : P.Option ℕ} (c : Cycle) (a : IsTarget names c.n name r) (bare : Bool) (q : ℕ) where
   corner_of : (g : Grammar) (cycle : List ℕ) (hub : ℕ) (d : ℕ) (h : ElementHead) (k : Call) (es : List (Element (Block d))) (o : Option ℕ)
       → target g k.name ≡ o
       → planned_corner g cycle hub (leaf h (call k) ∷ es)
@@ -109,7 +108,7 @@ module _ {names : List ℕ} {name : ℕ} {r : Target} (c : Cycle) (a : IsTarget 
   unfolding planned_corner sort_of
   corner_of g cycle hub d h k es o e = rw (planned_corner, e) refl
 
-  pub call_unknown : r ≡ Unknown → CallMet names c name bare q Settled
+  pub call_unknown : r ≡ P.None → CallMet names c name bare q Settled
   call_unknown e =
       record {
         is = λ g cycle ids b d h k n u v es.
@@ -117,7 +116,7 @@ module _ {names : List ℕ} {name : ℕ} {r : Target} (c : Cycle) (a : IsTarget 
         member = tt;
       }
 
-  module _ {t : ℕ} (e : r ≡ Rule t) where
+  module _ {t : ℕ} (e : r ≡ P.Some t) where
     pub call_outside : {x : Bool} → x ≡ bit c.members t → x ≡ false → CallMet names c name bare q Settled
     call_outside f x =
         let w = a.rule t e in
@@ -150,7 +149,7 @@ module _ {names : List ℕ} {name : ℕ} {r : Target} (c : Cycle) (a : IsTarget 
             (is_one h) (eqb t c.hub) (λ i j. let z = eqb-true h.quantifier 1 i in let w = eqb-true h.quantifier 0 j in absurd (omega arith)))
             ∙ ap (λ z. met_corner ids z (planned_corner g cycle (get_or ids c.hub 0) es)) same
 
-pub target_low : {names : List ℕ} {n m : ℕ} {r : Target} → IsTarget names n m r → {i : ℕ} → r ≡ Rule i → n ≤ rule_limit → i < rule_limit
+pub target_low : {names : List ℕ} {n m : ℕ} {r : P.Option ℕ} → IsTarget names n m r → {i : ℕ} → r ≡ P.Some i → n ≤ rule_limit → i < rule_limit
 target_low a {i} e l = let b = (a.rule i e).below in omega arith
 
 pub ruleset calls = (call_unknown, call_outside, call_member, target_low)

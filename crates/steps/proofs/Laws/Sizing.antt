@@ -23,10 +23,8 @@ use Rattle.planned.specs.declared.list.Listed.{Listed}
 use Rattle.planned.specs.Laws.Counts.{count_elements, count_options}
 use Rattle.steps.specs.Decide.{DeclinedBy, Around, SizedTo, SizedSo, Unreferring, OneAt, ManySized, RuleSized}
 use Rattle.steps.specs.Decide.{IsCounted, SmallSize, AlternativeCounted}
-use Rattle.steps.specs.declared.decide.One.{One}
-use Rattle.steps.specs.declared.decide.One.TheVariants.{Declines, Adds}
-use Rattle.steps.specs.declared.decide.Decision.{Decision}
-use Rattle.steps.specs.declared.decide.Decision.TheVariants.{Goes, Declined}
+use Rattle.std.specs.Prelude.{Result, Ok, Err}
+use Rattle.steps.specs.declared.decide.Clause.{Clause}
 use Rattle.splices.specs.declared.splice.Size.{Size}
 
 -- A decision for each item: the first one's, then the others'.
@@ -52,7 +50,7 @@ spliced_length (e ∷ es) xs (suc i) l = let z = spliced_length es xs i (omega a
 module _ {ws : List ℕ} {end d : ℕ} {bs : List ℕ} {h : Listed} {quiet : Bool} where
   -- One alternative more in front.
   module _ {n at : ℕ} {z : Size} (some : n ≡ 0 → ⊥) where
-    size_declined : {c : ℕ} → OneAt ws end d at bs h quiet (Declines c) → ManySized ws end d at bs h quiet n z (Declined c)
+    size_declined : {c : Clause} → OneAt ws end d at bs h quiet (Err c) → ManySized ws end d at bs h quiet n z (Err c)
     size_declined {c} o = record { is = go }
       where
         go : (index : ℕ) → index < h.ne → Around ws d (meaning ws end d bs h).elements index bs quiet
@@ -63,25 +61,25 @@ module _ {ws : List ℕ} {end d : ℕ} {bs : List ℕ} {h : Listed} {quiet : Boo
         go index l r (a ∷ as') q s e u =
             let f = first_spans s in
             let y = o.is index r a f.0 f.1 u.0 in
-            record { clause = y.clause; number = y.number; is = each_declined _ a as' y.is }
+            record { is = each_declined _ a as' y.is }
 
-    size_more : {more ne no count first there : ℕ} {t : Size} {r : Decision} → OneAt ws end d at bs h quiet (Adds more)
+    size_more : {more ne no count first there : ℕ} {t : Size} {r : Result Size Clause} → OneAt ws end d at bs h quiet (Ok more)
         → AlternativeAt ws end at count first → AlternativeWalked skipping ws end d at tt there tt → ne + 1 ≡ h.ne + count → no ≡ h.no + more
         → IsCounted z ne no t → ManySized ws end d there bs h quiet (n - 1) t r → ManySized ws end d at bs h quiet n z r
     unfolding total
     size_more {more} {ne} {no} {count} {there = there} {t} {r} o head w en eo ct v = record { is = go r v }
       where
-        go : (r : Decision) → ManySized ws end d there bs h quiet (n - 1) t r → (index : ℕ) → index < h.ne
+        go : (r : Result Size Clause) → ManySized ws end d there bs h quiet (n - 1) t r → (index : ℕ) → index < h.ne
             → Around ws d (meaning ws end d bs h).elements index bs quiet → (as' : List (AlternativeOf (Block d))) (q : ℕ)
             → Spans ws end (each (encode_alternative (encode_block d))) (all (ok_alternative (ok_block d))) at as' q → length as' ≡ n
             → AllOf (Unreferring d) as' → SizedSo d (meaning ws end d bs h) index as' z r
         go r v index l ar [] q s e u = absurd (some (sym e))
-        go (Declined c) v index l ar (a ∷ as') q s e u =
+        go (Err c) v index l ar (a ∷ as') q s e u =
             let f = first_spans s in
             let y = o.is index ar a f.0 f.1 u.0 in
             let x = v.is index l ar as' q (rw (w.passed a f.0 f.1) f.2) (omega arith) u.1 in
-            record { clause = x.clause; number = x.number; is = each_later _ a as' y.is x.is }
-        go (Goes g) v index l ar (a ∷ as') q s e u =
+            record { is = each_later _ a as' y.is x.is }
+        go (Ok g) v index l ar (a ∷ as') q s e u =
             let f = first_spans s in
             let y = o.is index ar a f.0 f.1 u.0 in
             let x = v.is index l ar as' q (rw (w.passed a f.0 f.1) f.2) (omega arith) u.1 in
@@ -110,22 +108,26 @@ many_low d (a ∷ as') s =
     omega arith
 
 module _ (ws : List ℕ) (end d : ℕ) (bs : List ℕ) (h : Listed) (quiet : Bool) where
-  -- A loop over n alternatives, with i left.
+  -- A loop over n alternatives, of which i are done.
   pub record Sizing (n at i p : ℕ) (z : Size) : Type 0 where
-    pub rest : (r : Decision) → ManySized ws end d p bs h quiet i z r → ManySized ws end d at bs h quiet n (record { a = 0; e = 0; o = 0 }) r
-    pub found : FoundAlternatives ws end d i p
+    pub rest : (r : Result Size Clause) → ManySized ws end d p bs h quiet (n - i) z r → ManySized ws end d at bs h quiet n (record { a = 0; e = 0; o = 0 }) r
+    pub found : FoundAlternatives ws end d (n - i) p
     pub within : p ≤ end
     pub few : n ≤ most_words
-    pub alternatives : z.a + i ≤ n
-    pub elements : z.e + i * (hand_halves + most_words) ≤ n * (hand_halves + most_words)
-    pub options : z.o + i * (hand_halves + most_words) ≤ n * (hand_halves + most_words)
+    pub alternatives : z.a ≤ i
+    pub elements : z.e ≤ i * (hand_halves + most_words)
+    pub options : z.o ≤ i * (hand_halves + most_words)
+    pub done : i ≤ n
+
+  none_done : (n : ℕ) → n - 0 ≡ n
+  none_done n = omega arith
 
   pub sizing_all : {n at : ℕ} → FoundAlternatives ws end d n at → at ≤ end → end ≤ most_words
-      → Sizing n at n at (record { a = 0; e = 0; o = 0 })
-  sizing_all f l small =
+      → Sizing n at 0 at (record { a = 0; e = 0; o = 0 })
+  sizing_all {n} f l small =
       record {
-        rest = λ r s. s;
-        found = f;
+        rest = λ r s. rw (none_done n) at s;
+        found = rw (none_done n) f;
         within = l;
         few =
             let m = many_low d f.trees f.spans in
@@ -135,13 +137,17 @@ module _ (ws : List ℕ) (end d : ℕ) (bs : List ℕ) (h : Listed) (quiet : Boo
         alternatives = omega arith;
         elements = omega arith;
         options = omega arith;
+        done = omega arith;
       }
 
 module _ {ws : List ℕ} {end d : ℕ} {bs : List ℕ} {h : Listed} {quiet : Bool} {n at i p : ℕ} {z : Size}
     (g : Sizing ws end d bs h quiet n at i p z) where
-  pub sizing_done : i ≡ 0 → ManySized ws end d at bs h quiet n (record { a = 0; e = 0; o = 0 }) (Goes z)
+  left_none : n ≤ i → n - i ≡ 0
+  left_none l = omega arith
+
+  pub sizing_done : n ≤ i → ManySized ws end d at bs h quiet n (record { a = 0; e = 0; o = 0 }) (Ok z)
   unfolding decide_each total
-  sizing_done e = g.rest (Goes z) (record { is = λ index l r as' q s c u. none as' index (c ∙ e) })
+  sizing_done e = g.rest (Ok z) (record { is = λ index l r as' q s c u. none as' index (c ∙ left_none e) })
     where
       none : (as' : List (AlternativeOf (Block d))) (index : ℕ) → length as' ≡ 0 → SizedTo d (meaning ws end d bs h) index as' z z
       none [] index c = record { ps = []; are = refl; alternatives = omega arith; elements = omega arith; options = omega arith }
@@ -153,25 +159,32 @@ module _ {ws : List ℕ} {end d : ℕ} {bs : List ℕ} {h : Listed} {quiet : Boo
       let a = g.alternatives in
       let b = g.elements in
       let c = g.options in
+      let e = g.done in
       record { alternatives = omega arith; elements = omega arith; options = omega arith }
 
-  module _ (some : i ≡ 0 → ⊥) where
+  module _ (less : i < n) where
+    some : n - i ≡ 0 → ⊥
+    some e = omega arith
+
     pub sizing_found : FoundAlternative ws end d p
     sizing_found = first_found g.found some
 
     pub sizing_room : p + 5 ≤ end
     sizing_room = alternative_room d sizing_found
 
-    pub sizing_declined : {k : One} {c : ℕ} → OneAt ws end d p bs h quiet k → k ≡ Declines c
-        → ManySized ws end d at bs h quiet n (record { a = 0; e = 0; o = 0 }) (Declined c)
-    sizing_declined {c = c} o e = g.rest (Declined c) (size_declined some (rw e at o))
+    pub sizing_declined : {k : Result ℕ Clause} {c : Clause} → OneAt ws end d p bs h quiet k → k ≡ Err c
+        → ManySized ws end d at bs h quiet n (record { a = 0; e = 0; o = 0 }) (Err c)
+    sizing_declined {c = c} o e = g.rest (Err c) (size_declined some (rw e at o))
 
-    module _ {k : One} {more : ℕ} (o : OneAt ws end d p bs h quiet k) (e : k ≡ Adds more) where
+    module _ {k : Result ℕ Clause} {more : ℕ} (o : OneAt ws end d p bs h quiet k) (e : k ≡ Ok more) where
       pub sizing_low : more ≤ most_words
       sizing_low = o.low more e
 
+      one_less : n - i - 1 ≡ n - (i + 1)
+      one_less = omega arith
+
       pub sizing_more : {t : Size} {there : ℕ} → AlternativeCounted ws end d p h more z t → AlternativeWalked skipping ws end d p tt there tt
-          → Sizing ws end d bs h quiet n at (i - 1) there t
+          → Sizing ws end d bs h quiet n at (i + 1) there t
       sizing_more {t} c w =
           let x = c.counted.alternatives in
           let y = c.counted.elements in
@@ -182,30 +195,31 @@ module _ {ws : List ℕ} {end d : ℕ} {bs : List ℕ} {h : Listed} {quiet : Boo
           let fe = c.few_elements in
           let fo = c.few_options in
           record {
-            rest = λ r s. g.rest r (size_more some (rw e at o) c.head w c.is_elements c.is_options c.counted s);
-            found = rest_found g.found some w.passed;
+            rest = λ r s. g.rest r (size_more some (rw e at o) c.head w c.is_elements c.is_options c.counted (rw one_less s));
+            found = rw (← one_less) (rest_found g.found some w.passed);
             within = w.within;
             few = g.few;
             alternatives = omega arith;
             elements = omega arith;
             options = omega arith;
+            done = omega arith;
           }
 
 -- The rule's body.
 module _ {ws : List ℕ} {end at m i p : ℕ} {bs : List ℕ} {h : Listed} {quiet : Bool} {z : Size} (d : ℕ) (e : m ≡ get_or ws (at + 3) 0)
     (g : Sizing ws end d bs h quiet m (at + 4) i p z) where
-  body_sized : {r : Decision} → ManySized ws end d (at + 4) bs h quiet m (record { a = 0; e = 0; o = 0 }) r
-      → ((z : Size) → r ≡ Goes z → SmallSize z) → RuleSized ws end d at bs h quiet r
+  body_sized : {r : Result Size Clause} → ManySized ws end d (at + 4) bs h quiet m (record { a = 0; e = 0; o = 0 }) r
+      → ((z : Size) → r ≡ Ok z → SmallSize z) → RuleSized ws end d at bs h quiet r
   body_sized v small =
       record {
         is = λ index l a t q s u. let w = rule_words_lem d s in v.is index l a t.body q w.alternatives (sym w.count ∙ sym e) u;
         small = small;
       }
 
-  pub rule_goes : i ≡ 0 → RuleSized ws end d at bs h quiet (Goes z)
+  pub rule_goes : m ≤ i → RuleSized ws end d at bs h quiet (Ok z)
   rule_goes n = body_sized (sizing_done g n) λ y f. let k : z ≡ y = cc in rw (← k) (sizing_small g)
 
-  pub rule_declines : {k : One} {c : ℕ} → (i ≡ 0 → ⊥) → OneAt ws end d p bs h quiet k → k ≡ Declines c → RuleSized ws end d at bs h quiet (Declined c)
+  pub rule_declines : {k : Result ℕ Clause} {c : Clause} → i < m → OneAt ws end d p bs h quiet k → k ≡ Err c → RuleSized ws end d at bs h quiet (Err c)
   rule_declines n o f = body_sized (sizing_declined g n o f) λ y k. absurd (let x : ◌≡◌ {A = ℕ} 0 1 = cc in omega arith)
 
 pub ruleset sizing = (sizing_all, sizing_found, sizing_room, sizing_small, sizing_low, sizing_more, rule_goes, rule_declines)

@@ -8,7 +8,7 @@ use lib.ListN.{length}
 use Rattle.grammar.specs.Tree.{Element, Block, RuleOf}
 use Rattle.grammar.specs.Lists.{total}
 use Rattle.grammar.specs.Found.{RuleSpans}
-use Rattle.reference.specs.Substitute.{dangling_reference, clause_number, remaining_actions_reference}
+use Rattle.reference.specs.Substitute.{remaining_actions_reference}
 use Rattle.reference.specs.Substitute.{split_optional, splice_satellite, without, with_plain}
 use Rattle.planned.specs.Layout.{meaning}
 use Rattle.planned.specs.List.{Located, InHand}
@@ -21,8 +21,9 @@ use Rattle.collisions.specs.Mark.{MarkedAround}
 use Rattle.collisions.proofs.Laws.Silent.{quiet_silent}
 use Rattle.steps.specs.Decide.{DeclinedBy, SmallSize, HandFits, RuleSized}
 use Rattle.steps.specs.Step.{RuleNamed, RuleUnreferring, step_by, GoesTo, DecisionOf, PreparedFor, DecidedAt}
-use Rattle.steps.specs.declared.decide.Decision.{Decision}
-use Rattle.steps.specs.declared.decide.Decision.TheVariants.{Goes, Declined}
+use Rattle.std.specs.Prelude.{Result, Ok, Err}
+use Rattle.steps.specs.declared.decide.Clause.{Clause}
+use Rattle.steps.specs.declared.decide.Clause.TheVariants.{DanglingReference}
 use Rattle.steps.specs.declared.step.Prepared.{Prepared}
 
 false_true : {b : Bool} → b ≡ true → b ≡ false → ⊥
@@ -63,8 +64,8 @@ module _ {ws : List ℕ} {end d at : ℕ} {before after : List ℕ} {h : Listed}
       → remaining_actions_reference d (meaning ws end d before h).elements index t.name ≡ r.dangling
   dangles t q s = ap (remaining_actions_reference d (meaning ws end d before h).elements index) (sym (n.is t q s)) ∙ sym p.dangling
 
-  pub step_dangling : r.dangling ≡ true → DecidedAt ws end d at before after h index optional (Declined 5)
-  unfolding splice_satellite clause_number
+  pub step_dangling : r.dangling ≡ true → DecidedAt ws end d at before after h index optional (Err DanglingReference)
+  unfolding splice_satellite
   step_dangling e =
       record {
         list = p.list;
@@ -74,13 +75,13 @@ module _ {ws : List ℕ} {end d at : ℕ} {before after : List ℕ} {h : Listed}
       }
     where
       go : (b : Bool) (t : RuleOf (Block (suc d))) → remaining_actions_reference d (meaning ws end d before h).elements index t.name ≡ true
-          → DeclinedBy (step_by d (meaning ws end d before h) index t b) 5
-      go true t f = record { clause = dangling_reference; number = refl; is = rw f refl }
-      go false t f = record { clause = dangling_reference; number = refl; is = rw (splice_satellite, f) refl }
+          → DeclinedBy (step_by d (meaning ws end d before h) index t b) DanglingReference
+      go true t f = record { is = rw f refl }
+      go false t f = record { is = rw (splice_satellite, f) refl }
 
   module _ (e : r.dangling ≡ false) where
     pub step_split : InHand h → optional ≡ true
-        → DecidedAt ws end d at before after h index optional (Goes (record { a = 2; e = 2 * h.ne - 1; o = 2 * h.no }))
+        → DecidedAt ws end d at before after h index optional (Ok (record { a = 2; e = 2 * h.ne - 1; o = 2 * h.no }))
     unfolding split_optional total
     step_split fits o =
         record {
@@ -90,7 +91,8 @@ module _ {ws : List ℕ} {end d at : ℕ} {before after : List ℕ} {h : Listed}
           split = λ x z k. rw (← same z k) (record { alternatives = refl; elements = refl; options = refl });
         }
       where
-        same : (z : Size) → Goes (record { a = 2; e = 2 * h.ne - 1; o = 2 * h.no }) ≡ Goes z → record { a = 2; e = 2 * h.ne - 1; o = 2 * h.no } ≡ z
+        same : (z : Size) → ◌≡◌ {A = Result Size Clause} (Ok (record { a = 2; e = 2 * h.ne - 1; o = 2 * h.no })) (Ok z)
+            → record { a = 2; e = 2 * h.ne - 1; o = 2 * h.no } ≡ z
         same z k = cc
 
         small : (z : Size) → record { a = 2; e = 2 * h.ne - 1; o = 2 * h.no } ≡ z → SmallSize z
@@ -118,7 +120,7 @@ module _ {ws : List ℕ} {end d at : ℕ} {before after : List ℕ} {h : Listed}
               options = omega arith;
             }
 
-    pub step_splice : {k : Decision} → optional ≡ false → (optional ≡ false → RuleUnreferring ws end d at) → RuleSized ws end d at after h r.quiet k
+    pub step_splice : {k : Result Size Clause} → optional ≡ false → (optional ≡ false → RuleUnreferring ws end d at) → RuleSized ws end d at after h r.quiet k
         → DecidedAt ws end d at before after h index optional k
     unfolding splice_satellite
     step_splice {k} o f v =
@@ -135,13 +137,13 @@ module _ {ws : List ℕ} {end d at : ℕ} {before after : List ℕ} {h : Listed}
         same : meaning ws end d after h ≡ meaning ws end d before h
         same = same_meaning p.list loc ws end d
 
-        go : (k : Decision) → RuleSized ws end d at after h r.quiet k → (t : RuleOf (Block (suc d))) (q : ℕ) → RuleSpans ws end (suc d) at t q
+        go : (k : Result Size Clause) → RuleSized ws end d at after h r.quiet k → (t : RuleOf (Block (suc d))) (q : ℕ) → RuleSpans ws end (suc d) at t q
             → remaining_actions_reference d (meaning ws end d before h).elements index t.name ≡ false
             → DecisionOf d (step_by d (meaning ws end d before h) index t false) k
-        go (Declined c) v t q s f =
+        go (Err c) v t q s f =
             let w = rw same at (v.is index l (rw same p.around) t q s (u.is t q s)) in
-            record { clause = w.clause; number = w.number; is = rw (splice_satellite, f) w.is }
-        go (Goes z) v t q s f =
+            record { is = rw (splice_satellite, f) w.is }
+        go (Ok z) v t q s f =
             let w = rw same at (v.is index l (rw same p.around) t q s (u.is t q s)) in
             record {
               ps = w.ps;

@@ -17,7 +17,7 @@ use Rattle.grammar.specs.Valid.{ok_alternative, ok_block}
 use Rattle.grammar.specs.Found.{FoundAlternative, FoundAlternatives, AlternativeSpans}
 use Rattle.grammar.specs.Fold.{AlternativeWalked}
 use Rattle.grammar.specs.Laws.Opened.{first_spans, first_found, rule_words_lem}
-use Rattle.reference.specs.Substitute.{overfull, budget, Planned}
+use Rattle.reference.specs.Substitute.{overfull, Planned}
 use Rattle.reference.specs.Substitute as R
 use Rattle.reference.specs.Plan.{as_it_is, as_they_are}
 use Rattle.analysis.specs.Facts.{Among}
@@ -34,10 +34,12 @@ use Rattle.substitution.specs.Run.{Untouched, MadeOf}
 use Rattle.substitution.specs.Over.{HubBeyond, InNeed, LookedAt, Unstored}
 use Rattle.steps.specs.declared.corner.Cycle.{Cycle}
 use Rattle.turns.specs.declared.state.Limits.{Limits}
-use Rattle.substitution.specs.declared.turning.Made.{Made}
-use Rattle.substitution.specs.declared.turning.Made.TheVariants as M
-use Rattle.substitution.specs.declared.over.Look.{Look}
-use Rattle.substitution.specs.declared.over.Look.TheVariants.{Settled, Declines, Goes}
+use Rattle.std.specs.Prelude.{Option, None, Result, Ok, Err}
+use Rattle.steps.specs.declared.decide.Clause.{Clause}
+use Rattle.turns.specs.Turn.{UnplannedBy}
+use Rattle.turns.specs.declared.turn.Unplanned.{Unplanned}
+use Rattle.turns.specs.declared.turn.Unplanned.TheVariants.{Declined, Overfull}
+use Rattle.substitution.specs.declared.turning.Done.{Done}
 use Rattle.substitution.proofs.Laws.Grown.{stays_beyond}
 use Rattle.turns.proofs.Laws.Replaced.{target_among, target_room, target_tree, target_spans}
 use Rattle.turns.proofs.Laws.Replaced.{target_place_in}
@@ -45,15 +47,15 @@ use Rattle.turns.proofs.Laws.Turns.{substituted, substitute_spent, settle_one, s
 
 -- The first that is in need of work ends the substitution.
 module _ {d : ℕ} {t : Task d} {start out : List (Planned d)} {p : Planned d} {ps : List (Planned d)} where
-  need_declines : {n : ℕ} (left : ℕ) → Substituting t left start left 0 out (p ∷ ps) → InNeed t left p (Declines n)
+  need_declines : {n : Clause} (left : ℕ) → Substituting t left start left 0 out (p ∷ ps) → InNeed t left p (Err (Declined n))
       → DeclinedBy (substitution t left 0 start) n
-  need_declines zero s k = record { clause = budget; number = sym (k.to.spent refl); is = (substitute_spent s k.replaced refl).is }
+  need_declines zero s k = rw (k.to.spent refl) (record { is = (substitute_spent s k.replaced refl).is })
   need_declines (suc left) s k =
       let some : suc left ≡ 0 → ⊥ = λ z. absurd (omega arith) in
       let v = k.to.declines some in
-      record { clause = v.clause; number = v.number; is = (substitute_declined s (subst (Replaced t p) v.is k.replaced) some).is }
+      record { is = (substitute_declined s (subst (Replaced t p) v.is k.replaced) some).is }
 
-  need_goes : (left : ℕ) → Substituting t left start left 0 out (p ∷ ps) → InNeed t left p Goes
+  need_goes : (left : ℕ) → Substituting t left start left 0 out (p ∷ ps) → InNeed t left p (Err Overfull)
       → (t.limits.alternatives < length (out ++ (p ∷ ps))) ⊎ (t.limits.options < options_all (out ++ (p ∷ ps)))
       → substitution t left 0 start ≡ overfull
   need_goes left s k b =
@@ -85,21 +87,27 @@ module _ {t : Task inner_depth} {left : ℕ} {start : List (Planned inner_depth)
           run = settle_one k.run i;
         }
 
-    behind_declines : {n : ℕ} → InNeed t left (as_it_is a) (Declines n) → DeclinedBy (substitution t left 0 start) n
+    behind_declines : {n : Clause} → InNeed t left (as_it_is a) (Err (Declined n)) → DeclinedBy (substitution t left 0 start) n
     unfolding as_they_are
     behind_declines n = need_declines left k.run n
 
-    behind_goes : InNeed t left (as_it_is a) Goes → (t.limits.alternatives < length start) ⊎ (t.limits.options < options_all start)
+    behind_goes : InNeed t left (as_it_is a) (Err Overfull) → (t.limits.alternatives < length start) ⊎ (t.limits.options < options_all start)
         → substitution t left 0 start ≡ overfull
     unfolding as_they_are
     behind_goes n b =
         need_goes left k.run n
         (subst (λ ps. (t.limits.alternatives < length ps) ⊎ (t.limits.options < options_all ps)) (sym k.whole) b)
 
+    behind_ends : (e : Unplanned) → InNeed t left (as_it_is a) (Err e)
+        → (t.limits.alternatives < length start) ⊎ (t.limits.options < options_all start)
+        → UnplannedBy (substitution t left 0 start) e
+    behind_ends (Declined n) i b = behind_declines i
+    behind_ends Overfull i b = behind_goes i b
+
 module _ (ws : List ℕ) (end : ℕ) (names places : List ℕ) (c : Cycle) (left : ℕ) (before : List ℕ) where
-  -- A loop over the hub's alternatives, with i left.
-  pub record Looking (i p : ℕ) (bs : List ℕ) : Type 0 where
-    pub found : FoundAlternatives ws end inner_depth i p
+  -- A loop over the hub's n alternatives, of which i are settled.
+  pub record Looking (n i p : ℕ) (bs : List ℕ) : Type 0 where
+    pub found : FoundAlternatives ws end inner_depth (n - i) p
     pub within : p ≤ end
     pub long : work_bytes ≤ length bs
     pub same : length bs ≡ length before
@@ -117,14 +125,17 @@ module _ {ws : List ℕ} {end : ℕ} {names places : List ℕ} {c : Cycle} (b : 
     pub hub_room : at + 4 ≤ end
     hub_room = target_room b (hub_low b) e
 
+    none_done : (n : ℕ) → n - 0 ≡ n
+    none_done n = omega arith
+
     pub looking_all : {left m : ℕ} {bs : List ℕ} → m ≡ get_or ws (at + 3) 0 → work_bytes ≤ length bs
-        → Looking ws end names places c left bs m (at + 4) bs
-    looking_all g l =
+        → Looking ws end names places c left bs m 0 (at + 4) bs
+    looking_all {m = m} g l =
         let a = target_among b (hub_low b) e in
         let s = target_spans b (hub_low b) e a in
         let w = rule_words_lem inner_depth s.1 in
         record {
-          found = record { trees = a.rule.body; next = s.0; spans = w.alternatives; count = sym w.count ∙ sym g };
+          found = record { trees = a.rule.body; next = s.0; spans = w.alternatives; count = sym w.count ∙ sym g ∙ sym (none_done m) };
           within = hub_room;
           long = l;
           same = refl;
@@ -141,15 +152,21 @@ beyond_hub b h a =
     ⊎_elim (λ l. inl (let e = h.counted.alternatives a.rule s.0 s.1 in omega arith))
     (λ l. inr (let e = h.counted.options a.rule s.0 s.1 in omega arith)) h.beyond
 
-module _ {ws : List ℕ} {end : ℕ} {names places : List ℕ} {c : Cycle} {left i p : ℕ} {start before : List ℕ}
-    (g : Looking ws end names places c left start i p before) where
-  pub looking_idle : i ≡ 0 → Unstored ws end names places c left before M.Idle
+module _ {ws : List ℕ} {end : ℕ} {names places : List ℕ} {c : Cycle} {left n i p : ℕ} {start before : List ℕ}
+    (g : Looking ws end names places c left start n i p before) where
+  left_none : n ≤ i → n - i ≡ 0
+  left_none l = omega arith
+
+  pub looking_idle : n ≤ i → Unstored ws end names places c left before (Ok None)
   looking_idle e =
       record {
-        is = λ limits h. record { is = λ b a. behind_none g.found.trees (g.found.count ∙ e) (g.so b (limits_of limits) a) };
+        is = λ limits h. record { is = λ b a. behind_none g.found.trees (g.found.count ∙ left_none e) (g.so b (limits_of limits) a) };
       }
 
-  module _ (some : i ≡ 0 → ⊥) where
+  module _ (less : i < n) where
+    some : n - i ≡ 0 → ⊥
+    some e = omega arith
+
     pub looking_found : FoundAlternative ws end inner_depth p
     looking_found = first_found g.found some
 
@@ -174,31 +191,20 @@ module _ {ws : List ℕ} {end : ℕ} {names places : List ℕ} {c : Cycle} {left
         → Behind (task_of b limits) left (as_they_are a.rule.body) (ahead.first ∷ ahead.more)
     now_at b limits a = subst (Behind (task_of b limits) left (as_they_are a.rule.body)) ahead.are (g.so b limits a)
 
-    module _ {after : List ℕ} {k : Look} (w : LookedAt ws end names places c left p before after k) where
-      pub looking_declined : {n : ℕ} → k ≡ Declines n → Unstored ws end names places c left after (M.Declined n)
-      looking_declined e =
+    module _ {after : List ℕ} {k : Result (Unit {0}) Unplanned} (w : LookedAt ws end names places c left p before after k) where
+      pub looking_ends : {m : Unplanned} → k ≡ Err m → Unstored ws end names places c left after (Err m)
+      looking_ends {m} e =
           record {
             is = λ limits h.
                 record {
                   is = λ b a.
-                      behind_declines ahead.first ahead.more (now_at b (limits_of limits) a)
-                      (rw e at (w.is b (limits_of limits) ahead.first ahead.next ahead.spans));
-                };
-          }
-
-      pub looking_over : k ≡ Goes → Unstored ws end names places c left after M.Overfull
-      looking_over e =
-          record {
-            is = λ limits h.
-                record {
-                  is = λ b a.
-                      behind_goes ahead.first ahead.more (now_at b (limits_of limits) a)
+                      behind_ends ahead.first ahead.more (now_at b (limits_of limits) a) m
                       (rw e at (w.is b (limits_of limits) ahead.first ahead.next ahead.spans)) (beyond_hub b h a);
                 };
           }
 
-      pub looking_more : {there : ℕ} → k ≡ Settled → AlternativeWalked skipping ws end inner_depth p tt there tt
-          → Looking ws end names places c left start (i - 1) there after
+      pub looking_more : {there : ℕ} {u : Unit {0}} → k ≡ Ok u → AlternativeWalked skipping ws end inner_depth p tt there tt
+          → Looking ws end names places c left start n (i + 1) there after
       looking_more {there} e v =
           record {
             found = record {
@@ -215,13 +221,13 @@ module _ {ws : List ℕ} {end : ℕ} {names places : List ℕ} {c : Cycle} {left
                 (rw e at (w.is b limits ahead.first ahead.next ahead.spans));
           }
 
-pub looking_long : {ws : List ℕ} {end : ℕ} {names places : List ℕ} {c : Cycle} {left i p : ℕ} {start bs : List ℕ}
-    → Looking ws end names places c left start i p bs → work_bytes ≤ length bs
+pub looking_long : {ws : List ℕ} {end : ℕ} {names places : List ℕ} {c : Cycle} {left n i p : ℕ} {start bs : List ℕ}
+    → Looking ws end names places c left start n i p bs → work_bytes ≤ length bs
 looking_long g = g.long
 
 pub ruleset hubs = (hub_in, hub_room)
 
-pub ruleset looking = (looking_all, looking_idle, looking_found, looking_declined, looking_over, looking_more, looking_long)
+pub ruleset looking = (looking_all, looking_idle, looking_found, looking_ends, looking_more, looking_long)
 
 -- For the caller: the hub's own list is beyond the limits, and so what was made is the definition's.
 pub hub_beyond : {ws : List ℕ} {end : ℕ} {places : List ℕ} {c : Cycle} {limits : Limits} {at : ℕ} {z : Size} {r : Bool} → RuleCounted ws end at z
@@ -237,7 +243,7 @@ hub_beyond {ws} {end} {places} {c} {limits} {at} {z} k e f g l =
         (leb-false z.o limits.options
         (rw (le-leb z.e limits.elements (let m = k.few in omega arith)) at h))
 
-pub unstored_made : {ws : List ℕ} {end : ℕ} {names places : List ℕ} {c : Cycle} {left : ℕ} {bs : List ℕ} {r : Made} {limits : Limits}
+pub unstored_made : {ws : List ℕ} {end : ℕ} {names places : List ℕ} {c : Cycle} {left : ℕ} {bs : List ℕ} {r : Result (Option Done) Unplanned} {limits : Limits}
     → Unstored ws end names places c left bs r → HubBeyond ws end places c limits → MadeOf ws end names places c limits left bs r
 unstored_made {limits = limits} u h = u.is limits h
 

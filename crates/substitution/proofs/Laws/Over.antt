@@ -9,7 +9,7 @@ use Rattle.grammar.specs.Numbers.{rule_limit}
 use Rattle.grammar.specs.Tree.{inner_depth}
 use Rattle.grammar.specs.Lists.{member}
 use Rattle.grammar.specs.Found.{FoundRule}
-use Rattle.reference.specs.Substitute.{declined, blocked_corner, clause_number, Planned}
+use Rattle.reference.specs.Substitute.{declined, blocked_corner, Planned}
 use Rattle.analysis.specs.Facts.{Among}
 use Rattle.analysis.proofs.Laws.Standing.{id_at}
 use Rattle.hub.specs.Grounds.{rules_of}
@@ -22,15 +22,17 @@ use Rattle.steps.specs.Corner.{CornerAt}
 use Rattle.steps.specs.Step.{RuleNamed, RuleUnreferring, DecidedAt}
 use Rattle.turns.specs.Ground.{Ground, task_of}
 use Rattle.turns.specs.Turns.{Task}
-use Rattle.substitution.specs.Over.{InNeed, LookTo, BlockedLook, Reached, StepLooked, HandLooked, LookedAt}
+use Rattle.substitution.specs.Over.{Stops, InNeed, LookTo, Reached, StepLooked, HandLooked, LookedAt}
 use Rattle.steps.specs.declared.corner.Cycle.{Cycle}
 use Rattle.steps.specs.declared.corner.Place.{Place}
 use Rattle.steps.specs.declared.corner.Corner.{Corner}
 use Rattle.steps.specs.declared.corner.Corner.TheVariants as C
-use Rattle.steps.specs.declared.decide.Decision.{Decision}
-use Rattle.steps.specs.declared.decide.Decision.TheVariants as D
-use Rattle.substitution.specs.declared.over.Look.{Look}
-use Rattle.substitution.specs.declared.over.Look.TheVariants.{Settled, Declines, Goes}
+use Rattle.std.specs.Prelude.{Result, Ok, Err}
+use Rattle.steps.specs.declared.decide.Clause.{Clause}
+use Rattle.steps.specs.declared.decide.Clause.TheVariants.{Budget}
+use Rattle.turns.specs.Turn.{StuckAt}
+use Rattle.turns.specs.declared.turn.Unplanned.{Unplanned}
+use Rattle.turns.specs.declared.turn.Unplanned.TheVariants.{Declined, Overfull}
 use Rattle.substitution.proofs.Laws.Grown.{step_grows}
 use Rattle.turns.proofs.Laws.Ground.{names_told}
 use Rattle.turns.proofs.Laws.Replaced.{settled_corner, blocked_corner_lem, optional_corner, satellite_corner}
@@ -38,18 +40,8 @@ use Rattle.turns.proofs.Laws.Replaced.{target_among, target_found, target_room, 
 use Rattle.turns.proofs.Laws.Replaced.{target_unreferring, target_name_in, target_place_in}
 
 -- A corner in the way.
-pub blocked_spent : (d : ℕ) {left : ℕ} → left ≡ 0 → BlockedLook d left (Declines 4)
-unfolding clause_number
-blocked_spent d e = record { is = λ p. record { spent = λ z. refl; declines = λ f. absurd (f e) } }
-
-pub blocked_declines : (d : ℕ) {left : ℕ} → (left ≡ 0 → ⊥) → BlockedLook d left (Declines 6)
-unfolding clause_number
-blocked_declines d f =
-    record {
-      is = λ p. record { spent = λ z. absurd (f z); declines = λ g. record { clause = blocked_corner; number = refl; is = refl } };
-    }
-
-pub ruleset blocks = (blocked_spent, blocked_declines)
+stuck_stops : {d left : ℕ} {n : Clause} (p : Planned d) → StuckAt left n → Stops d left p (declined blocked_corner) n
+stuck_stops p s = record { spent = s.spent; declines = λ f. rw (s.blocked f) (record { is = refl }) }
 
 -- What is needed where a member is met.
 module _ {ws : List ℕ} {end : ℕ} {names places : List ℕ} {c : Cycle} (b : Ground ws end names places c) {n : ℕ} {p : Place} {optional : Bool}
@@ -78,13 +70,13 @@ reached_index r = r.member.index
 
 -- The step.
 module _ {ws : List ℕ} {end : ℕ} {names places : List ℕ} {c : Cycle} {left : ℕ} (h : Listed) (p : Place) (optional : Bool) where
-  pub step_spent : (bs : List ℕ) → left ≡ 0 → StepLooked ws end names places c left bs bs h p optional (Declines 4)
-  unfolding clause_number
+  pub step_spent : (bs : List ℕ) → left ≡ 0 → StepLooked ws end names places c left bs bs h p optional (Err (Declined Budget))
   step_spent bs e = record { is = λ b a. record { spent = λ z. refl; declines = λ f. absurd (f e) }; long = refl }
 
-  module _ {before after : List ℕ} {at : ℕ} {k : Decision} (f : left ≡ 0 → ⊥) (r : Reached c h.ne p optional)
+  module _ {before after : List ℕ} {at : ℕ} {k : Result Size Clause} (f : left ≡ 0 → ⊥) (r : Reached c h.ne p optional)
       (e : at ≡ get_or places p.target 0) (v : DecidedAt ws end inner_depth at before after h p.index optional k) where
-    pub step_declined : {n : ℕ} → k ≡ D.Declined n → StepLooked ws end names places c left before after h p optional (Declines n)
+    pub step_declined : {n : Clause} → k ≡ Err n
+        → StepLooked ws end names places c left before after h p optional (Err (Declined n))
     step_declined g =
         record {
           is = λ b a.
@@ -93,7 +85,7 @@ module _ {ws : List ℕ} {end : ℕ} {names places : List ℕ} {c : Cycle} {left
           long = v.list.long;
         }
 
-    pub step_goes : {z : Size} → k ≡ D.Goes z → StepLooked ws end names places c left before after h p optional Goes
+    pub step_goes : {z : Size} → k ≡ Ok z → StepLooked ws end names places c left before after h p optional (Err Overfull)
     step_goes g =
         record {
           is = λ b a.
@@ -116,10 +108,9 @@ pub ruleset reaching = (reached_name, reached_place, reached_found, reached_room
 pub ruleset stepping = (step_spent, step_declined, step_goes)
 
 -- The alternative that came into the hand.
-in_need : {d : ℕ} {t : Task d} {left : ℕ} {p : Planned d} (k : Look) → InNeed t left p k → LookTo t left p k
-in_need Settled n = absurd n.to
-in_need (Declines c) n = n
-in_need Goes n = n
+in_need : {d : ℕ} {t : Task d} {left : ℕ} {p : Planned d} (k : Result (Unit {0}) Unplanned) → InNeed t left p k → LookTo t left p k
+in_need (Ok u) n = absurd n.to
+in_need (Err e) n = n
 
 module _ {ws : List ℕ} {end : ℕ} {names : List ℕ} {c : Cycle} {bs : List ℕ} {h : Listed} {r : Corner} {p : Place}
     (w : CornerAt names c ws end inner_depth bs h r) where
@@ -132,19 +123,23 @@ module _ {ws : List ℕ} {end : ℕ} {names : List ℕ} {c : Cycle} {bs : List �
 
 module _ {ws : List ℕ} {end : ℕ} {names places : List ℕ} {c : Cycle} {left : ℕ} {bs : List ℕ} {h : Listed} {r : Corner}
     (w : CornerAt names c ws end inner_depth bs h r) where
-  pub look_settled : r ≡ C.Settled → HandLooked ws end names places c left bs bs h Settled
+  pub look_settled : r ≡ C.Settled → HandLooked ws end names places c left bs bs h (Ok tt)
   look_settled e = record { is = λ b limits. settled_corner b limits (rw e at w); long = refl }
 
-  pub look_blocked : (k : Look) → r ≡ C.Blocked → BlockedLook inner_depth left k → HandLooked ws end names places c left bs bs h k
-  look_blocked k e m =
+  pub look_blocked : {n : Clause} → r ≡ C.Blocked → StuckAt left n
+      → HandLooked ws end names places c left bs bs h (Err (Declined n))
+  look_blocked e m =
       record {
         is = λ b limits.
-            in_need k
-            (record { by = declined blocked_corner; replaced = blocked_corner_lem b limits (rw e at w); to = m.is (meaning ws end inner_depth bs h) });
+            record {
+              by = declined blocked_corner;
+              replaced = blocked_corner_lem b limits (rw e at w);
+              to = stuck_stops (meaning ws end inner_depth bs h) m;
+            };
         long = refl;
       }
 
-  module _ {after : List ℕ} {p : Place} (k : Look) where
+  module _ {after : List ℕ} {p : Place} (k : Result (Unit {0}) Unplanned) where
     pub look_optional : r ≡ C.Optional p → StepLooked ws end names places c left bs after h p true k
         → HandLooked ws end names places c left bs after h k
     look_optional e m =
@@ -166,7 +161,7 @@ module _ {ws : List ℕ} {end : ℕ} {names places : List ℕ} {c : Cycle} {left
         }
 
 -- The hub's alternative came into the hand.
-pub hand_at : {ws : List ℕ} {end : ℕ} {names places : List ℕ} {c : Cycle} {left at : ℕ} {before mid after : List ℕ} {h : Listed} (k : Look)
+pub hand_at : {ws : List ℕ} {end : ℕ} {names places : List ℕ} {c : Cycle} {left at : ℕ} {before mid after : List ℕ} {h : Listed} (k : Result (Unit {0}) Unplanned)
     → Brought ws end inner_depth at before mid h → HandLooked ws end names places c left mid after h k
     → LookedAt ws end names places c left at before after k
 hand_at {left = left} k g m =

@@ -15,9 +15,8 @@ use Rattle.substitution.specs.Run.{MadeOf, Going}
 use Rattle.steps.specs.declared.corner.Cycle.{Cycle}
 use Rattle.turns.specs.declared.state.Limits.{Limits}
 use Rattle.turns.specs.declared.state.State.{State}
-use Rattle.substitution.specs.declared.turning.Made.TheVariants as M
-use Rattle.turns.specs.declared.turn.Turn.{Turn}
-use Rattle.turns.specs.declared.turn.Turn.TheVariants.{On, Declined, Overfull}
+use Rattle.std.specs.Prelude.{Some, Result, Ok, Err}
+use Rattle.turns.specs.declared.turn.Unplanned.{Unplanned}
 use Rattle.turns.proofs.Laws.Turns.{substituted}
 use Rattle.turns.proofs.Laws.Midway.{retold}
 
@@ -43,7 +42,7 @@ module _ {ws : List ℕ} {end : ℕ} {names places : List ℕ} {c : Cycle} {limi
   module _ {bs : List ℕ} {st : State} (r : Shut (Ready ws end bs st 0 0 0)) (g : Shut (Going ws end names places c limits most bs st)) where
     -- Nothing is left to look at.
     pub run_done : {k : Bool} → NextIs st k → k ≡ false
-        → MadeOf ws end names places c limits most bs (M.Planned (record { l = st.l; steps = st.steps }))
+        → MadeOf ws end names places c limits most bs (Ok (Some (record { l = st.l; steps = st.steps })))
     unfolding as_they_are
     run_done n e =
         record {
@@ -62,30 +61,25 @@ module _ {ws : List ℕ} {end : ℕ} {names places : List ℕ} {c : Cycle} {limi
             go [] f = refl
             go (t ∷ ts) f = absurd (omega arith)
 
-    module _ {after : List ℕ} {v : Turn} (t : TurnedTo ws end names places c limits bs after st v) where
-      pub run_ready : {next : State} → v ≡ On next → Shut (Ready ws end after next 0 0 0)
+    module _ {after : List ℕ} {v : Result State Unplanned} (t : TurnedTo ws end names places c limits bs after st v) where
+      pub run_ready : {next : State} → v ≡ Ok next → Shut (Ready ws end after next 0 0 0)
       run_ready {next} e = shut (t.ready next e)
 
-      pub run_on : {next : State} → v ≡ On next → Shut (Going ws end names places c limits most after next)
+      pub run_on : {next : State} → v ≡ Ok next → Shut (Going ws end names places c limits most after next)
       run_on {next} e =
           let u = rw e at t in
           shut (record { is = λ b a y. u.is b most (as_they_are a.rule.body) (opened r) ((opened g).is b a (opened r)) y })
 
-      pub run_declined : {n : ℕ} → v ≡ Declined n → MadeOf ws end names places c limits most after (M.Declined n)
-      run_declined e =
-          let u = rw e at t in
-          record { is = λ b a. u.is b most (as_they_are a.rule.body) (opened r) ((opened g).is b a (opened r)) }
-
-      pub run_over : v ≡ Overfull → MadeOf ws end names places c limits most after M.Overfull
-      run_over e =
+      pub run_ends : {n : Unplanned} → v ≡ Err n → MadeOf ws end names places c limits most after (Err n)
+      run_ends e =
           let u = rw e at t in
           record { is = λ b a. u.is b most (as_they_are a.rule.body) (opened r) ((opened g).is b a (opened r)) }
 
 pub next_has : {st : State} {k : Bool} → NextIs st k → k ≡ true → HasNext st
 next_has n e = n.more e
 
-pub turn_less : {ws : List ℕ} {end : ℕ} {names places : List ℕ} {c : Cycle} {limits : Limits} {before after : List ℕ} {st : State} {v : Turn}
-    → TurnedTo ws end names places c limits before after st v → {next : State} → v ≡ On next → turns_left ws end after next < turns_left ws end before st
+pub turn_less : {ws : List ℕ} {end : ℕ} {names places : List ℕ} {c : Cycle} {limits : Limits} {before after : List ℕ} {st : State} {v : Result State Unplanned}
+    → TurnedTo ws end names places c limits before after st v → {next : State} → v ≡ Ok next → turns_left ws end after next < turns_left ws end before st
 turn_less t {next} e = t.less next e
 
-pub ruleset running = (next_has, turn_less, run_done, run_ready, run_on, run_declined, run_over)
+pub ruleset running = (next_has, turn_less, run_done, run_ready, run_on, run_ends)

@@ -1,5 +1,5 @@
 -- How large a rule is, one alternative more and all.
-use Prim.Native.Nat.{ℕ, ◌+◌, ◌-◌, ◌≤◌}
+use Prim.Native.Nat.{ℕ, ◌+◌, ◌-◌, ◌<◌, ◌≤◌}
 use mathlib.Core.Path.{◌≡◌, sym, ◌∙◌}
 use mathlib.Core.List.{List, [], ◌∷◌, map}
 use native.Mathlib.Omega.{arith}
@@ -65,17 +65,21 @@ module _ {ws : List ℕ} {end d : ℕ} where
             options = let i = x.options in let j = c.options in let k = y.counted in omega arith;
           }
 
--- A loop over n alternatives, with i left.
+-- A loop over n alternatives, of which i are done.
 pub record Counting (ws : List ℕ) (end d n at i p : ℕ) (z : Size) : Type 0 where
-  pub rest : (r : Size) → ManyCounted ws end d i p z r → ManyCounted ws end d n at (record { a = 0; e = 0; o = 0 }) r
-  pub found : FoundAlternatives ws end d i p
+  pub rest : (r : Size) → ManyCounted ws end d (n - i) p z r → ManyCounted ws end d n at (record { a = 0; e = 0; o = 0 }) r
+  pub found : FoundAlternatives ws end d (n - i) p
   pub within : p ≤ end
   pub few : z.a + z.e + z.o ≤ p
   pub low : end ≤ most_words
 
+none_done : (n : ℕ) → n - 0 ≡ n
+none_done n = omega arith
+
 pub counting_all : (d : ℕ) {ws : List ℕ} {end n at : ℕ} → FoundAlternatives ws end d n at → at ≤ end → end ≤ most_words
-    → Counting ws end d n at n at (record { a = 0; e = 0; o = 0 })
-counting_all d f l small = record { rest = λ r s. s; found = f; within = l; few = omega arith; low = small }
+    → Counting ws end d n at 0 at (record { a = 0; e = 0; o = 0 })
+counting_all d {n = n} f l small =
+    record { rest = λ r s. rw (none_done n) at s; found = rw (none_done n) f; within = l; few = omega arith; low = small }
 
 module _ {ws : List ℕ} {end d n at i p : ℕ} {z : Size} (g : Counting ws end d n at i p z) where
   pub counting_small : SmallSize z
@@ -85,15 +89,24 @@ module _ {ws : List ℕ} {end d n at i p : ℕ} {z : Size} (g : Counting ws end 
       let l = g.low in
       record { alternatives = omega arith; elements = omega arith; options = omega arith }
 
-  counting_done : i ≡ 0 → ManyCounted ws end d n at (record { a = 0; e = 0; o = 0 }) z
+  left_none : n ≤ i → n - i ≡ 0
+  left_none l = omega arith
+
+  counting_done : n ≤ i → ManyCounted ws end d n at (record { a = 0; e = 0; o = 0 }) z
   unfolding as_they_are total
-  counting_done e = g.rest z (record { is = λ as' q s c. go as' (c ∙ e) })
+  counting_done e = g.rest z (record { is = λ as' q s c. go as' (c ∙ left_none e) })
     where
       go : (as' : List (AlternativeOf (Block d))) → length as' ≡ 0 → CountedTo (map as_it_is as') z z
       go [] c = record { alternatives = omega arith; elements = omega arith; options = omega arith }
       go (a ∷ as') c = absurd (omega arith)
 
-  module _ (some : i ≡ 0 → ⊥) where
+  module _ (less : i < n) where
+    some : n - i ≡ 0 → ⊥
+    some e = omega arith
+
+    one_less : n - i - 1 ≡ n - (i + 1)
+    one_less = omega arith
+
     pub counting_found : FoundAlternative ws end d p
     counting_found = first_found g.found some
 
@@ -102,7 +115,7 @@ module _ {ws : List ℕ} {end d n at i p : ℕ} {z : Size} (g : Counting ws end 
 
     pub counting_more : {t : Size} {there : ℕ} → IsCounted z (get_or ws (p + 4) 0) (get_or ws (p + 3) 0) t
         → AlternativeWalked skipping ws end d p tt there tt
-        → Counting ws end d n at (i - 1) there t
+        → Counting ws end d n at (i + 1) there t
     counting_more {t} {there} c w =
         let f = counting_found in
         let l = alternative_past d f.spans in
@@ -112,8 +125,8 @@ module _ {ws : List ℕ} {end d n at i p : ℕ} {z : Size} (g : Counting ws end 
         let v = c.options in
         let k = g.few in
         record {
-          rest = λ r s. g.rest r (count_more some w c s);
-          found = rest_found g.found some w.passed;
+          rest = λ r s. g.rest r (count_more some w c (rw one_less s));
+          found = rw (← one_less) (rest_found g.found some w.passed);
           within = w.within;
           few = omega arith;
           low = g.low;
@@ -121,7 +134,7 @@ module _ {ws : List ℕ} {end d n at i p : ℕ} {z : Size} (g : Counting ws end 
 
 -- The rule's body.
 pub rule_counted : {ws : List ℕ} {end at m p : ℕ} {z : Size} → m ≡ get_or ws (at + 3) 0 → {i : ℕ}
-    → Counting ws end inner_depth m (at + 4) i p z → i ≡ 0 → RuleCounted ws end at z
+    → Counting ws end inner_depth m (at + 4) i p z → m ≤ i → RuleCounted ws end at z
 rule_counted {ws} {end} {at} {m} {z = z} e g none =
     let f = g.few in
     let w = g.within in

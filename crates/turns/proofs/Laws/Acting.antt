@@ -12,7 +12,6 @@ use Rattle.grammar.specs.Laws.Parse.{either}
 use Rattle.grammar.specs.Numbers.{rule_limit}
 use Rattle.grammar.specs.Tree.{Rule, inner_depth, body_depth}
 use Rattle.grammar.specs.Encode.{encode_rule, encode_block}
-use Rattle.reference.specs.Substitute.{clause_number, budget, blocked_corner}
 use Rattle.analysis.specs.Names.{Told}
 use Rattle.analysis.specs.Facts.{Among}
 use Rattle.hub.specs.Grounds.{rules_of}
@@ -33,8 +32,11 @@ use Rattle.steps.specs.declared.corner.Corner.{Corner}
 use Rattle.steps.specs.declared.corner.Corner.TheVariants as C
 use Rattle.turns.specs.declared.state.Limits.{Limits}
 use Rattle.turns.specs.declared.state.State.{State}
-use Rattle.turns.specs.declared.turn.Turn.{Turn}
-use Rattle.turns.specs.declared.turn.Turn.TheVariants.{On, Declined}
+use Rattle.std.specs.Prelude.{Result, Ok, Err}
+use Rattle.steps.specs.declared.decide.Clause.{Clause}
+use Rattle.steps.specs.declared.decide.Clause.TheVariants.{Budget, BlockedCorner}
+use Rattle.turns.specs.declared.turn.Unplanned.{Unplanned}
+use Rattle.turns.specs.declared.turn.Unplanned.TheVariants.{Declined}
 use Rattle.turns.proofs.Laws.Turns.{substitute_spent, substitute_declined}
 use Rattle.turns.proofs.Laws.Midway.{with_laid, with_located, with_listed, with_movable}
 use Rattle.turns.proofs.Laws.Ground.{names_told}
@@ -49,16 +51,16 @@ pub called_of : {ws : List ℕ} {end : ℕ} {bs names places : List ℕ} {x : Li
 called_of c e f = rw (e, f) c.is
 
 pub stepped_place : {ws : List ℕ} {end : ℕ} {before after : List ℕ} {st : State} {x : Listed} {index at place : ℕ}
-    {optional : Bool} {limits : Limits} {r : Turn} → SteppedTo ws end before after st x index at optional limits r → at ≡ place
+    {optional : Bool} {limits : Limits} {r : Result State Unplanned} → SteppedTo ws end before after st x index at optional limits r → at ≡ place
     → SteppedTo ws end before after st x index place optional limits r
 stepped_place s e = rw (← e) s
 
 pub ruleset calling = (called_of, stepped_place)
 
-pub stuck_spent : {st : State} → st.budget ≡ 0 → StuckAt st (Declined 4)
+pub stuck_spent : {budget : ℕ} → budget ≡ 0 → StuckAt budget Budget
 stuck_spent e = record { spent = λ z. refl; blocked = λ h. absurd (h e) }
 
-pub stuck_blocked : {st : State} → (st.budget ≡ 0 → ⊥) → StuckAt st (Declined 6)
+pub stuck_blocked : {budget : ℕ} → (budget ≡ 0 → ⊥) → StuckAt budget BlockedCorner
 stuck_blocked h = record { spent = λ z. absurd (h z); blocked = λ z. refl }
 
 pub ruleset stucks = (stuck_spent, stuck_blocked)
@@ -135,7 +137,7 @@ module _ {ws : List ℕ} {end : ℕ} {names places : List ℕ} {c : Cycle} (b : 
 module _ {ws : List ℕ} {end : ℕ} {names places : List ℕ} {c : Cycle} (limits : Limits) {before : List ℕ} {st : State} {x : Listed}
     {k : Corner} (o : CornerAt names c ws end inner_depth before x k) where
   pub act_settled : {after : List ℕ} {next : State} → Shut (With ws end before st x) → k ≡ C.Settled → PutSettled before after st x next
-      → ActedOn ws end names places c limits before after st x (On next)
+      → ActedOn ws end names places c limits before after st x (Ok next)
   act_settled {next = next} w e p =
       let s = p.is ws end in
       let q = rw e at o in
@@ -148,46 +150,42 @@ module _ {ws : List ℕ} {end : ℕ} {names places : List ℕ} {c : Cycle} (limi
         long = s.long;
       }
 
-  pub act_stuck : {r : Turn} → k ≡ C.Blocked → StuckAt st r → ActedOn ws end names places c limits before before st x r
-  unfolding clause_number
+  pub act_stuck : {r : Clause} → k ≡ C.Blocked → StuckAt st.budget r
+      → ActedOn ws end names places c limits before before st x (Err (Declined r))
   act_stuck {r} e s = go r s
     where
       q : CornerAt names c ws end inner_depth before x C.Blocked
       q = rw e at o
 
-      never : {n : ℕ} {next : State} → Declined n ≡ On next → ⊥
+      never : {n : Clause} {next : State} → Err (Declined n) ≡ Ok next → ⊥
       never f = let y : ◌≡◌ {A = ℕ} 0 1 = cc in omega arith
 
-      go : (r : Turn) → StuckAt st r → ActedOn ws end names places c limits before before st x r
+      go : (r : Clause) → StuckAt st.budget r → ActedOn ws end names places c limits before before st x (Err (Declined r))
       go r s = either (eqb st.budget 0)
           (λ z. let v = eqb-true st.budget 0 z in rw (s.spent v) (none v))
           (λ z. let v = eqb-false st.budget 0 z in rw (s.blocked v) (some' v))
         where
-          none : st.budget ≡ 0 → ActedOn ws end names places c limits before before st x (Declined 4)
+          none : st.budget ≡ 0 → ActedOn ws end names places c limits before before st x (Err (Declined Budget))
           none v =
               record {
                 ready = λ next f. absurd (never f);
                 less = λ next f. absurd (never f);
                 is = λ b most start w h.
-                    record { clause = budget; number = refl; is = (substitute_spent h.run (blocked_corner_lem b (limits_of limits) q) v).is };
+                    record { is = (substitute_spent h.run (blocked_corner_lem b (limits_of limits) q) v).is };
                 long = refl;
               }
 
-          some' : (st.budget ≡ 0 → ⊥) → ActedOn ws end names places c limits before before st x (Declined 6)
+          some' : (st.budget ≡ 0 → ⊥) → ActedOn ws end names places c limits before before st x (Err (Declined BlockedCorner))
           some' v =
               record {
                 ready = λ next f. absurd (never f);
                 less = λ next f. absurd (never f);
                 is = λ b most start w h.
-                    record {
-                      clause = blocked_corner;
-                      number = refl;
-                      is = (substitute_declined h.run (blocked_corner_lem b (limits_of limits) q) v).is;
-                    };
+                    record { is = (substitute_declined h.run (blocked_corner_lem b (limits_of limits) q) v).is };
                 long = refl;
               }
 
-  module _ {after : List ℕ} {p : Place} {optional : Bool} {r : Turn} (g : Shut (Ground ws end names places c))
+  module _ {after : List ℕ} {p : Place} {optional : Bool} {r : Result State Unplanned} (g : Shut (Ground ws end names places c))
       (s : SteppedTo ws end before after st x p.index (get_or places p.target 0) optional limits r) where
     -- The rule at the member's place.
     module _ (l : p.target < c.n)

@@ -37,7 +37,8 @@ use Rattle.turns.specs.Midway.{Shut, opened}
 use Rattle.turns.specs.Turn.{SteppedTo}
 use Rattle.turns.specs.declared.state.Limits.{Limits}
 use Rattle.turns.specs.declared.state.State.{State}
-use Rattle.turns.specs.declared.turn.Turn.TheVariants.{On, Overfull}
+use Rattle.std.specs.Prelude.{Ok, Err}
+use Rattle.turns.specs.declared.turn.Unplanned.TheVariants.{Overfull}
 use Rattle.turns.proofs.Laws.Turns.{substitute_over, substitute_more}
 use Rattle.turns.proofs.Laws.Midway.{retold, with_laid}
 
@@ -161,7 +162,7 @@ module _ {ws : List ℕ} {end : ℕ} {before : List ℕ} (limits : Limits) (st :
     {z more : Size} (left : st.budget ≡ 0 → ⊥) (k : Goable ws end inner_depth at before h index optional z)
     (a : SizeAfter st.all h z more) where
   pub advance_over : {b : Bool} → b ≡ within_limits limits more → b ≡ false
-      → SteppedTo ws end before before st h index at optional limits Overfull
+      → SteppedTo ws end before before st h index at optional limits (Err Overfull)
   advance_over e f =
       record {
         ready = λ next x. absurd (let y : ◌≡◌ {A = ℕ} 0 1 = cc in omega arith);
@@ -221,7 +222,7 @@ module _ {ws : List ℕ} {end : ℕ} {before : List ℕ} (limits : Limits) (st :
           counted = omega arith;
         }
 
-    pub advance_on : SteppedTo ws end before after st h index at optional limits (On next)
+    pub advance_on : SteppedTo ws end before after st h index at optional limits (Ok next)
     advance_on =
         record {
           ready = λ n x. let y : next ≡ n = cc in rw (← y) ready_next;

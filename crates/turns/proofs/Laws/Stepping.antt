@@ -8,7 +8,6 @@ use native.Mathlib.Omega.{arith}
 use lib.ListN.{drop}
 use Rattle.grammar.specs.Tree.{inner_depth}
 use Rattle.grammar.specs.Found.{FoundRule}
-use Rattle.reference.specs.Substitute.{clause_number, budget}
 use Rattle.reference.specs.Plan.{as_they_are}
 use Rattle.planned.specs.Layout.{meaning}
 use Rattle.planned.specs.List.{Located, SameList}
@@ -21,12 +20,13 @@ use Rattle.steps.specs.Decide.{SmallSize}
 use Rattle.steps.specs.Step.{step_by, DecidedAt, Goable, RuleNamed, RuleUnreferring, CallIn}
 use Rattle.turns.specs.Midway.{Shut, shut, opened, With, Holding, Held}
 use Rattle.turns.specs.Turn.{Called, called, SteppedTo}
-use Rattle.steps.specs.declared.decide.Decision.{Decision}
-use Rattle.steps.specs.declared.decide.Decision.TheVariants as D
+use Rattle.std.specs.Prelude.{Result, Ok, Err}
+use Rattle.steps.specs.declared.decide.Clause.{Clause}
+use Rattle.steps.specs.declared.decide.Clause.TheVariants.{Budget}
+use Rattle.turns.specs.declared.turn.Unplanned.{Unplanned}
+use Rattle.turns.specs.declared.turn.Unplanned.TheVariants.{Declined}
 use Rattle.turns.specs.declared.state.Limits.{Limits}
 use Rattle.turns.specs.declared.state.State.{State}
-use Rattle.turns.specs.declared.turn.Turn.{Turn}
-use Rattle.turns.specs.declared.turn.Turn.TheVariants.{Declined}
 use Rattle.turns.proofs.Laws.Turns.{substitute_spent, substitute_declined}
 use Rattle.turns.proofs.Laws.Midway.{retold, with_laid, with_located, with_listed, with_movable}
 
@@ -101,11 +101,11 @@ module _ {ws : List ℕ} {end : ℕ} {bs : List ℕ} {x : Listed} {index name at
       go : Called ws end bs x index name at optional → optional ≡ true → CallIn (meaning ws end inner_depth bs x).elements index
       go (called a f n u i) = i
 
-module _ {ws : List ℕ} {end : ℕ} {before mid : List ℕ} {st : State} {h : Listed} {index at : ℕ} {optional : Bool} {k : Decision}
+module _ {ws : List ℕ} {end : ℕ} {before mid : List ℕ} {st : State} {h : Listed} {index at : ℕ} {optional : Bool} {k : Result Size Clause}
     (d : DecidedAt ws end inner_depth at before mid h index optional k) where
   -- It is declined.
-  pub stepped_declined : (limits : Limits) {n : ℕ} → k ≡ D.Declined n → (st.budget ≡ 0 → ⊥)
-      → SteppedTo ws end before mid st h index at optional limits (Declined n)
+  pub stepped_declined : (limits : Limits) {n : Clause} → k ≡ Err n → (st.budget ≡ 0 → ⊥)
+      → SteppedTo ws end before mid st h index at optional limits (Err (Declined n))
   stepped_declined limits {n} e left =
       let f = rw e at d in
       record {
@@ -113,11 +113,7 @@ module _ {ws : List ℕ} {end : ℕ} {before mid : List ℕ} {st : State} {h : L
         spent = λ next x. absurd (let y : ◌≡◌ {A = ℕ} 0 1 = cc in omega arith);
         is = λ t most start l w o rule q s r.
             let x = f.is rule q s in
-            record {
-              clause = x.clause;
-              number = x.number;
-              is = (substitute_declined o.run (record { is = r.is ∙ ap some x.is }) left).is;
-            };
+            record { is = (substitute_declined o.run (record { is = r.is ∙ ap some x.is }) left).is };
         long = f.list.long;
       }
 
@@ -125,7 +121,7 @@ module _ {ws : List ℕ} {end : ℕ} {before mid : List ℕ} {st : State} {h : L
     pub decided_with : Shut (With ws end mid st h)
     decided_with = shut (same_with d.list (opened w))
 
-    module _ {z : Size} (e : k ≡ D.Goes z) where
+    module _ {z : Size} (e : k ≡ Ok z) where
       pub decided_small : SmallSize z
       decided_small = d.small z e
 
@@ -143,7 +139,7 @@ module _ {ws : List ℕ} {end : ℕ} {before mid : List ℕ} {st : State} {h : L
           }
 
     -- It was decided, and is done.
-    pub stepped_on : (limits : Limits) {after : List ℕ} {r : Turn} → SteppedTo ws end mid after st h index at optional limits r
+    pub stepped_on : (limits : Limits) {after : List ℕ} {r : Result State Unplanned} → SteppedTo ws end mid after st h index at optional limits r
         → SteppedTo ws end before after st h index at optional limits r
     stepped_on limits v =
         let same = same_meaning d.list (opened w).located ws end inner_depth in
@@ -160,13 +156,12 @@ pub ruleset stepping =
 
 -- The step beyond the budget.
 pub stepped_spent : (ws : List ℕ) (end : ℕ) (bs : List ℕ) (st : State) (x : Listed) (index at : ℕ) (optional : Bool) (limits : Limits)
-    → st.budget ≡ 0 → SteppedTo ws end bs bs st x index at optional limits (Declined 4)
-unfolding clause_number
+    → st.budget ≡ 0 → SteppedTo ws end bs bs st x index at optional limits (Err (Declined Budget))
 stepped_spent ws end bs st x index at optional limits z =
     record {
       ready = λ next e. absurd (let y : ◌≡◌ {A = ℕ} 0 1 = cc in omega arith);
       spent = λ next e. absurd (let y : ◌≡◌ {A = ℕ} 0 1 = cc in omega arith);
-      is = λ t most start l w o rule q s r. record { clause = budget; number = refl; is = (substitute_spent o.run r z).is };
+      is = λ t most start l w o rule q s r. record { is = (substitute_spent o.run r z).is };
       long = refl;
     }
 
@@ -187,7 +182,7 @@ module _ {ws : List ℕ} {end : ℕ} {before mid : List ℕ} {st : State} {x h :
       called (called_room c) (called_found c) (called_named c) (called_unreferring c) λ o.
       subst (λ p. CallIn p.elements index) (sym (k.is ws end).meant) (called_in c o)
 
-  pub stepped_held : {after : List ℕ} {index at : ℕ} (optional : Bool) (limits : Limits) {r : Turn}
+  pub stepped_held : {after : List ℕ} {index at : ℕ} (optional : Bool) (limits : Limits) {r : Result State Unplanned}
       → SteppedTo ws end mid after st h index at optional limits r → SteppedTo ws end before after st x index at optional limits r
   stepped_held {index = index} optional limits v =
       let j = k.is ws end in

@@ -14,7 +14,8 @@ use Rattle.steps.specs.declared.corner.Cycle.{Cycle}
 use Rattle.turns.specs.declared.state.Limits.{Limits}
 use Rattle.turns.specs.declared.state.State.{State}
 use Rattle.turns.specs.declared.state.Taken.{Taken}
-use Rattle.turns.specs.declared.turn.Turn.{Turn}
+use Rattle.std.specs.Prelude.{Result}
+use Rattle.turns.specs.declared.turn.Unplanned.{Unplanned}
 
 -- No more is to be looked at than a list may have.
 few_pending : {ws : List ℕ} {end : ℕ} {bs : List ℕ} {st : State} → Ready ws end bs st 0 0 0 → pending_count ws end bs st ≤ most_alternatives
@@ -29,7 +30,7 @@ module _ {ws : List ℕ} {end : ℕ} {before mid : List ℕ} {st : State} {t : T
   pub taken_shut : Shut (With ws end mid t.st t.x)
   taken_shut = shut (k.with (opened r))
 
-  pub turned : {names places : List ℕ} {c : Cycle} {limits : Limits} {after : List ℕ} {v : Turn}
+  pub turned : {names places : List ℕ} {c : Cycle} {limits : Limits} {after : List ℕ} {v : Result State Unplanned}
       → ActedOn ws end names places c limits mid after t.st t.x v → TurnedTo ws end names places c limits before after st v
   turned {limits = limits} {after} a =
       record {

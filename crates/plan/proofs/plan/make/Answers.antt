@@ -1,27 +1,29 @@
-use Rattle.std.proofs.Common.{rules}
+use Rattle.std.proofs.Common.{rules, ap, ◌≡◌, ◌∙◌, Some, None, Ok}
+use Rattle.std.proofs.lemmas.Result.{err_from_is_err_and}
 use Rattle.plan.proofs.plan.make.Goals as goal
-use Rattle.plan.proofs.Laws.Made.{hub_low, hub_standing, made_laid, made_listed, made_idle, made_declined, made_overfull, making}
+use Rattle.plan.proofs.Laws.Made.{hub_low, hub_standing, made_laid, made_listed, made_idle, made_planned, made_unplanned, making}
 
--- src/plan.rt:115:11
 pub substitute-requires-clause-ground : goal.substitute-requires-clause-ground
-substitute-requires-clause-ground c = search (rules, making, hub_low, hub_standing, made_laid, made_listed, made_idle, made_declined, made_overfull)
+substitute-requires-clause-ground c = search (rules, making, hub_low, hub_standing)
 
--- src/plan.rt:117:13
+pub returns-in_err-done : goal.returns-in_err-done
+returns-in_err-done c =
+    let w = c.in_err-done.was in
+    let v = err_from_is_err_and c.from_residual.result c.from_residual.ensures.1 in
+    let q : v.0 ≡ c.in_err-done.field-0.0 = v.2 in
+    rw (v.1, q) (search (rules, made_unplanned))
+
+pub returns-in_default : goal.returns-in_default
+returns-in_default c =
+    let w : c.substitute.result ≡ Ok None = c.in_ok-done.was ∙ ap Ok c.in_default.is in
+    search (rules, made_idle)
+
 pub finish-requires-clause-laid : goal.finish-requires-clause-laid
-finish-requires-clause-laid c = search (rules, making, hub_low, hub_standing, made_laid, made_listed, made_idle, made_declined, made_overfull)
+finish-requires-clause-laid c =
+    let w : c.substitute.result ≡ Ok (Some c.in-Some.done) = c.in_ok-done.was ∙ ap Ok c.in-Some.is in
+    search (rules, made_laid, made_listed)
 
--- src/plan.rt:94:1
-pub returns-in-Planned : goal.returns-in-Planned
-returns-in-Planned c = search (rules, making, hub_low, hub_standing, made_laid, made_listed, made_idle, made_declined, made_overfull)
-
--- src/plan.rt:94:1
-pub returns-in-Idle : goal.returns-in-Idle
-returns-in-Idle c = search (rules, making, hub_low, hub_standing, made_laid, made_listed, made_idle, made_declined, made_overfull)
-
--- src/plan.rt:94:1
-pub returns-in-Declined : goal.returns-in-Declined
-returns-in-Declined c = search (rules, making, hub_low, hub_standing, made_laid, made_listed, made_idle, made_declined, made_overfull)
-
--- src/plan.rt:94:1
-pub returns-in-Overfull : goal.returns-in-Overfull
-returns-in-Overfull c = search (rules, making, hub_low, hub_standing, made_laid, made_listed, made_idle, made_declined, made_overfull)
+pub returns : goal.returns
+returns c =
+    let w : c.substitute.result ≡ Ok (Some c.in-Some.done) = c.in_ok-done.was ∙ ap Ok c.in-Some.is in
+    search (rules, made_planned)

@@ -1,4 +1,3 @@
-use Prim.Native.Nat.{◌-◌}
 use mathlib.Core.Path.{◌≡◌}
 use lib.ListN.{length}
 use Rattle.grammar.specs.Words.{words}
@@ -7,6 +6,3 @@ use Rattle.plan.proofs.search.try_cycles.Given as goal
 
 abbrev pub invariant-loop-k : goal.invariant-loop-k
 invariant-loop-k l = (length l.work ≡ length l.initial.work) × Trying (words l.s) l.end l.rules l.past l.calls l.marks l.kept l.closed l.limits l.n l.k l.left l.clauses
-
-abbrev pub decreases-loop-k : goal.decreases-loop-k
-decreases-loop-k l = l.n - l.k

@@ -1,4 +1,3 @@
-use Prim.Native.Nat.{◌-◌}
 use Rattle.grammar.specs.Words.{words}
 use Rattle.planned.specs.Layout.{options_from}
 use Rattle.splices.proofs.Laws.OptionsAdded.{Adding}
@@ -6,6 +5,3 @@ use Rattle.splices.proofs.options.options_added.Given as goal
 
 abbrev pub invariant-loop-j : goal.invariant-loop-j
 invariant-loop-j l = Adding (words l.s) l.end l.depth l.at (options_from (words l.s) l.end l.depth l.work l.h.o l.h.no) l.n l.j l.added
-
-abbrev pub decreases-loop-j : goal.decreases-loop-j
-decreases-loop-j l = l.n - l.j

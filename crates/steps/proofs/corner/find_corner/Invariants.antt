@@ -1,4 +1,3 @@
-use Prim.Native.Nat.{◌-◌}
 use Rattle.grammar.specs.Tree.{inner_depth}
 use Rattle.grammar.specs.Words.{words}
 use Rattle.steps.proofs.Laws.Seeking.{Seeking}
@@ -6,6 +5,3 @@ use Rattle.steps.proofs.corner.find_corner.Given as goal
 
 abbrev pub invariant-loop-i : goal.invariant-loop-i
 invariant-loop-i l = Seeking l.names l.c (words l.s) l.end inner_depth l.work l.x l.i
-
-abbrev pub decreases-loop-i : goal.decreases-loop-i
-decreases-loop-i l = l.n - l.i

@@ -1,39 +1,36 @@
-use Rattle.std.proofs.Common.{rules}
+use Rattle.std.proofs.Common.{rules, ◌≡◌}
+use Rattle.std.proofs.lemmas.Result.{err_from_is_err_and}
 use Rattle.steps.proofs.decide.splice_size.Goals as goal
 use Rattle.grammar.specs.Laws.Fold.{bodies}
 use Rattle.steps.proofs.Laws.Sizing.{sizing}
 
--- src/decide.rt:133:5
-pub loop-i-init : goal.loop-i-init
-loop-i-init c = search (rules, bodies, sizing)
+pub loop-init : goal.loop-init
+loop-init c = search (rules, bodies, sizing)
 
--- src/decide.rt:134:15
-pub splice_one-requires-clause-found_alternative :
-    goal.splice_one-requires-clause-found_alternative
+pub splice_one-requires-clause-found_alternative : goal.splice_one-requires-clause-found_alternative
 splice_one-requires-clause-found_alternative c = search (rules, bodies, sizing)
 
--- src/decide.rt:135:38
-pub returns-in-Declines : goal.returns-in-Declines
-returns-in-Declines c = search (rules, bodies, sizing)
+pub returns-in_err-more : goal.returns-in_err-more
+returns-in_err-more c =
+    let w = c.in_err-more.was in
+    let v = err_from_is_err_and c.from_residual.result c.from_residual.ensures.1 in
+    let q : v.0 ≡ c.in_err-more.field-0.0 = v.2 in
+    rw (v.1, q) (search (rules, bodies, sizing))
 
--- src/decide.rt:137:21
-pub count_one-t-requires-clause-room : goal.count_one-t-requires-clause-room
-count_one-t-requires-clause-room c = search (rules, bodies, sizing)
+pub count_one-z-requires-clause-room : goal.count_one-z-requires-clause-room
+count_one-z-requires-clause-room c = let w = c.in_ok-more.was in search (rules, bodies, sizing)
 
--- src/decide.rt:137:21
-pub count_one-t-requires-clause-found_alternative :
-    goal.count_one-t-requires-clause-found_alternative
-count_one-t-requires-clause-found_alternative c = search (rules, bodies, sizing)
+pub count_one-z-requires-clause-small_size : goal.count_one-z-requires-clause-small_size
+count_one-z-requires-clause-small_size c = search (rules, bodies, sizing)
 
--- src/decide.rt:139:17
-pub alternative_end-p-requires-clause-found_alternative :
-    goal.alternative_end-p-requires-clause-found_alternative
+pub count_one-z-requires-clause-found_alternative : goal.count_one-z-requires-clause-found_alternative
+count_one-z-requires-clause-found_alternative c = search (rules, bodies, sizing)
+
+pub alternative_end-p-requires-clause-found_alternative : goal.alternative_end-p-requires-clause-found_alternative
 alternative_end-p-requires-clause-found_alternative c = search (rules, bodies, sizing)
 
--- src/decide.rt:133:5
-pub loop-i-preserved : goal.loop-i-preserved
-loop-i-preserved c = search (rules, bodies, sizing)
+pub loop-preserved : goal.loop-preserved
+loop-preserved c = let w = c.in_ok-more.was in search (rules, bodies, sizing)
 
--- src/decide.rt:124:1
 pub returns : goal.returns
 returns c = search (rules, bodies, sizing)

@@ -1,31 +1,31 @@
-use Rattle.std.proofs.Common.{rules}
+use Rattle.std.proofs.Common.{rules, ◌≡◌}
+use Rattle.std.proofs.lemmas.Result.{err_from_is_err_and}
+use Rattle.turns.specs.declared.turn.Unplanned.TheVariants.{Declined}
 use Rattle.substitution.proofs.over.look_step.Goals as goal
 use Rattle.substitution.proofs.Laws.Over.{reaching, stepping}
 
--- src/over.rt:62:9
 pub returns-then-budget-eq0 : goal.returns-then-budget-eq0
 returns-then-budget-eq0 c = search (rules, reaching, stepping)
 
--- src/over.rt:65:16
 pub bounds-names-t : goal.bounds-names-t
 bounds-names-t c = search (rules, reaching, stepping)
 
--- src/over.rt:66:20
 pub bounds-places-t : goal.bounds-places-t
 bounds-places-t c = search (rules, reaching, stepping)
 
--- src/over.rt:67:11
 pub decide-requires-clause-found_rule : goal.decide-requires-clause-found_rule
 decide-requires-clause-found_rule c = search (rules, reaching, stepping)
 
--- src/over.rt:67:11
-pub decide-requires-clause-rule_unreferring : goal.decide-requires-clause-rule_unreferring
+pub decide-requires-clause-rule_unreferring :
+    goal.decide-requires-clause-rule_unreferring
 decide-requires-clause-rule_unreferring c = search (rules, reaching, stepping)
 
--- src/over.rt:43:1
-pub returns-in-Declined : goal.returns-in-Declined
-returns-in-Declined c = search (rules, reaching, stepping)
+pub returns-in_err-decide : goal.returns-in_err-decide
+returns-in_err-decide c =
+    let w = c.in_err-decide.was in
+    let v = err_from_is_err_and c.from_residual.result c.from_residual.ensures.1 in
+    let q : v.0 ≡ Declined c.in_err-decide.field-0.0 = v.2 in
+    rw (v.1, q) (search (rules, reaching, stepping))
 
--- src/over.rt:43:1
-pub returns-in-Goes : goal.returns-in-Goes
-returns-in-Goes c = search (rules, reaching, stepping)
+pub returns : goal.returns
+returns c = let w = c.in_ok-decide.was in search (rules, reaching, stepping)

@@ -1,19 +1,17 @@
-use Rattle.std.proofs.Common.{rules}
+use Rattle.std.proofs.Common.{rules, ◌≡◌}
+use Rattle.std.proofs.lemmas.Result.{err_from_is_err_and}
 use Rattle.substitution.proofs.turning.stored.Goals as goal
 use Rattle.substitution.proofs.Laws.Run.{running}
 
--- src/turning.rt:82:5
 pub loop-c-preserved : goal.loop-c-preserved
-loop-c-preserved c = search (rules, running)
+loop-c-preserved c = let w = c.in_ok-st.was in search (rules, running)
 
--- src/turning.rt:85:39
-pub returns-in-Declined : goal.returns-in-Declined
-returns-in-Declined c = search (rules, running)
+pub returns-in_err-st : goal.returns-in_err-st
+returns-in_err-st c =
+    let w = c.in_err-st.was in
+    let v = err_from_is_err_and c.from_residual.result c.from_residual.ensures.1 in
+    let q : v.0 ≡ c.in_err-st.field-0.0 = v.2 in
+    rw (v.1, q) (search (rules, running))
 
--- src/turning.rt:86:31
-pub returns-in-Overfull : goal.returns-in-Overfull
-returns-in-Overfull c = search (rules, running)
-
--- src/turning.rt:64:1
 pub returns : goal.returns
 returns c = search (rules, running)

@@ -1,19 +1,24 @@
-use Rattle.std.proofs.Common.{rules}
+use Rattle.std.proofs.Common.{rules, ◌≡◌}
+use Rattle.std.proofs.lemmas.Result.{err_from_is_err_and}
+use Rattle.turns.specs.declared.turn.Unplanned.TheVariants.{Declined}
 use Rattle.turns.proofs.turn.step_in_hand.Goals as goal
 use Rattle.turns.proofs.Laws.Stepping.{decided_goable, stepping}
 
--- src/turn.rt:148:30
+pub returns-in_err-z : goal.returns-in_err-z
+returns-in_err-z c =
+    let w = c.in_err-z.was in
+    let v = err_from_is_err_and c.from_residual.result c.from_residual.ensures.1 in
+    let q : v.0 ≡ Declined c.in_err-z.field-0.0 = v.2 in
+    rw (v.1, q) (search (rules, stepping))
+
+pub advance-requires-clause-room : goal.advance-requires-clause-room
+advance-requires-clause-room c = let w = c.in_ok-z.was in search (rules, stepping)
+
 pub advance-requires-clause-shut : goal.advance-requires-clause-shut
 advance-requires-clause-shut c = search (rules, stepping)
 
--- src/turn.rt:148:30
 pub advance-requires-clause-goable : goal.advance-requires-clause-goable
-advance-requires-clause-goable c = search (rules, stepping, decided_goable)
+advance-requires-clause-goable c = let w = c.in_ok-z.was in search (rules, stepping, decided_goable)
 
--- src/turn.rt:129:1
-pub returns-in-Declined : goal.returns-in-Declined
-returns-in-Declined c = search (rules, stepping)
-
--- src/turn.rt:129:1
-pub returns-in-Goes : goal.returns-in-Goes
-returns-in-Goes c = search (rules, stepping)
+pub returns : goal.returns
+returns c = search (rules, stepping)
