@@ -15,7 +15,7 @@ use analysis::rounds::{Marks, find_rows};
 use reach::cycles::list_cycles;
 use reach::rows::Row;
 use records::rules::Rules;
-use sheet::{Answer, read};
+use sheet::read;
 use words::words::clear;
 
 // The marks of all rules, and the number of cycles.
@@ -69,19 +69,16 @@ pub fn find_facts(
     *calls = [[0; Row::WORDS]; Row::RULES];
     *corners = [[0; Row::WORDS]; Row::RULES];
     *cycles = [[0; Row::WORDS]; Row::RULES];
-    let r = read(sheet, work);
-    let rules = r.rules;
-    let n = rules.n;
-    let answer = r.answer;
-    match answer {
-        Answer::Refused(number) => {
-            *numbers = [number, 0, 0];
+    match read(sheet, work) {
+        Err(refusal) => {
+            *numbers = [u32::from(refusal), 0, 0];
             *marks = [0; 4];
         }
-        Answer::Sheet(parts) => {
+        Ok(r) => {
+            let rules = r.rules;
             let t = tell(
                 sheet,
-                parts.preserved as usize,
+                r.parts.preserved as usize,
                 rules,
                 textbook != 0,
                 calls,
@@ -91,7 +88,7 @@ pub fn find_facts(
             );
             let nullable = t.marks.nullable;
             let stops = t.marks.stops;
-            *numbers = [0, n, t.cycles];
+            *numbers = [0, rules.n, t.cycles];
             *marks = [nullable[0], nullable[1], stops[0], stops[1]];
         }
     }

@@ -12,7 +12,7 @@ ghost use Rattle.plans.specs.Told.{NthTold, FirstTold};
 
 use crate::first::{decide_first, tell_search};
 use crate::nth::{decide_nth, leave, tell_nth};
-use sheet::{Answer, read};
+use sheet::read;
 
 // The decision for the nth cycle of a sheet, in numbers; 0 is the cycle with the least id. The reading of left corners is the
 // original's where `textbook` is 0. Where there is a plan, its list is left in the work area; else that ends as after `read`.
@@ -28,18 +28,15 @@ pub fn plan_nth(
         (work_after sheet.now work.old) work.new numbers.new removable.new }
     ensures work_len_unchanged { length work.new ≡ length work.old }
 {
-    let r = read(sheet, work);
-    let rules = r.rules;
-    let answer = r.answer;
-    match answer {
-        Answer::Refused(number) => {
-            *numbers = [number, 0, 0, 0, 0, 0, 0, 0];
+    match read(sheet, work) {
+        Err(refusal) => {
+            *numbers = [u32::from(refusal), 0, 0, 0, 0, 0, 0, 0];
             *removable = [0; 2];
         }
-        Answer::Sheet(parts) => {
-            let end = parts.preserved as usize;
-            let to = end + parts.count as usize;
-            let t = tell_nth(decide_nth(sheet, end, to, rules, textbook != 0, nth, work));
+        Ok(r) => {
+            let end = r.parts.preserved as usize;
+            let to = end + r.parts.count as usize;
+            let t = tell_nth(decide_nth(sheet, end, to, r.rules, textbook != 0, nth, work));
             let told = t.numbers;
             let row = t.row;
             leave(told, work);
@@ -65,20 +62,17 @@ pub fn first_plan(
         removable.new clauses.new }
     ensures work_len_unchanged { length work.new ≡ length work.old }
 {
-    let r = read(sheet, work);
-    let rules = r.rules;
-    let answer = r.answer;
-    match answer {
-        Answer::Refused(number) => {
-            *numbers = [number, 0, 0, 0, 0, 0, 0, 0];
+    match read(sheet, work) {
+        Err(refusal) => {
+            *numbers = [u32::from(refusal), 0, 0, 0, 0, 0, 0, 0];
             *cycle = [0; 2];
             *removable = [0; 2];
             *clauses = [0; 128];
         }
-        Answer::Sheet(parts) => {
-            let end = parts.preserved as usize;
-            let to = end + parts.count as usize;
-            let found = decide_first(sheet, end, to, rules, textbook != 0, work);
+        Ok(r) => {
+            let end = r.parts.preserved as usize;
+            let to = end + r.parts.count as usize;
+            let found = decide_first(sheet, end, to, r.rules, textbook != 0, work);
             let declines = found.clauses;
             let answer = found.answer;
             let t = tell_search(found.declined, answer);

@@ -1,5 +1,5 @@
 -- The rules of a sheet as the reader's arrays hold them.
-use Rattle.std.specs.Prelude.{ℕ, ◌+◌, ◌-◌, ◌≤◌, ◌≡◌, List, [], ◌∷◌, ◌++◌, length, set, replicate, Bool, true, false}
+use Rattle.std.specs.Prelude.{ℕ, ◌+◌, ◌-◌, ◌≤◌, ◌≡◌, List, [], ◌∷◌, ◌++◌, length, set, replicate, Bool, true, false, Option, Some, is_some}
 use Rattle.grammar.specs.Tree.{Rule, body_depth}
 use Rattle.grammar.specs.Encode.{encode_rule, encode_block}
 use Rattle.grammar.specs.Numbers.{rule_limit}
@@ -8,7 +8,6 @@ use Rattle.grammar.specs.Parse.{Got, got, bad}
 use Rattle.grammar.specs.Read.{rules_at}
 use Rattle.grammar.specs.Found.{FoundRules}
 use Rattle.records.specs.declared.rules.Rules.{Rules}
-use Rattle.records.specs.declared.rules.Rows.{Rows}
 
 -- Numbers in an array of as many rows as there may be rules, zeros behind.
 unfoldable pub row : List ℕ → List ℕ
@@ -42,11 +41,10 @@ abbrev pub is_got : {A : Type 0} → Got A → Bool
 is_got (got a q) = true
 is_got bad = false
 
--- What the definition finds, and its arrays; where it finds nothing, empty ones.
-pub record RulesRead (ws : List ℕ) (end : ℕ) (r : Rows) : Type 0 where
-  pub good : r.good ≡ is_got (rules_at ws end rule_limit 0)
-  pub rows : (rs : List Rule) (q : ℕ) → rules_at ws end rule_limit 0 ≡ got rs q → RowsOf rs r.rules
-  pub none : rules_at ws end rule_limit 0 ≡ bad → IsEmpty r.rules
+-- Whether the definition finds rules, and their arrays.
+pub record RulesRead (ws : List ℕ) (end : ℕ) (r : Option Rules) : Type 0 where
+  pub good : is_some r ≡ is_got (rules_at ws end rule_limit 0)
+  pub rows : (rules : Rules) (rs : List Rule) (q : ℕ) → r ≡ Some rules → rules_at ws end rule_limit 0 ≡ got rs q → RowsOf rs rules
 
 -- Rules that stand from the first word up to the end, not too many, and their arrays.
 pub record FoundRows (ws : List ℕ) (end : ℕ) (rules : Rules) : Type 0 where

@@ -1,5 +1,5 @@
 // The rules of a sheet: their ids, names and places, found by reading every record.
-ghost use Rattle.std.specs.Prelude.{◌≡◌, true, false, ◌+◌, ◌-◌, ◌*◌, ◌<◌, ◌≤◌, ◌^◌, length};
+ghost use Rattle.std.specs.Prelude.{◌≡◌, ◌+◌, ◌-◌, ◌*◌, ◌<◌, ◌≤◌, ◌^◌, length};
 ghost use Rattle.grammar.specs.Numbers.{rule_limit};
 ghost use Rattle.grammar.specs.Tree.{body_depth};
 ghost use Rattle.grammar.specs.Words.{words};
@@ -65,22 +65,8 @@ fn rule_at(s: &[u8], end: usize, at: usize) -> Step
     Step::Bad
 }
 
-// The rules, where every record is good; else no rules.
-#[derive(Clone, Copy)]
-pub struct Rows {
-    pub good: bool,
-    pub rules: Rules,
-}
-
-fn no_rows() -> Rows
-    ensures { (result.good ≡ false) × IsEmpty result.rules }
-{
-    let rules = Rules::empty();
-    Rows { good: false, rules }
-}
-
-// Every rule from the first word up to the end exactly.
-pub fn read_rules(s: &[u8], end: usize) -> Rows
+// Every rule from the first word up to the end exactly, where every record is good.
+pub fn read_rules(s: &[u8], end: usize) -> Option<Rules>
     requires { (4 * end ≤ length s.now) × (end < 2 ^ 31) }
     ensures { RulesRead (words s.now) end result }
 {
@@ -89,13 +75,13 @@ pub fn read_rules(s: &[u8], end: usize) -> Rows
     while at != end {
         let n = rules.n;
         if n == Rules::LIMIT {
-            return no_rows();
+            return None;
         }
         if left(at, end) < 3 {
-            return no_rows();
+            return None;
         }
         match rule_at(s, end, at) {
-            Step::Bad => return no_rows(),
+            Step::Bad => return None,
             Step::Next(p) => {
                 let more = rules.with(word(s, at), word(s, at + 1), at as u32);
                 rules = more;
@@ -103,5 +89,5 @@ pub fn read_rules(s: &[u8], end: usize) -> Rows
             }
         }
     }
-    Rows { good: true, rules }
+    Some(rules)
 }

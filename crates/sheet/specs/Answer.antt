@@ -1,5 +1,5 @@
--- The reader's answer (SPECIFICATION 3.9): the refusal's number, or the sheet's parts, with the rules beside it.
-use Rattle.std.specs.Prelude.{ℕ, ◌+◌, ◌-◌, ◌/◌, ◌≤◌, ◌≡◌, List, [], ◌∷◌, true, false, length, get_or, replicate, leb}
+-- The reader's answer (SPECIFICATION 3.9): the refusal's number, or the sheet's parts and its rules.
+use Rattle.std.specs.Prelude.{ℕ, ◌+◌, ◌-◌, ◌/◌, ◌≤◌, ◌≡◌, List, [], ◌∷◌, true, false, length, get_or, replicate, leb, Result, Ok, Err}
 use Rattle.grammar.specs.Numbers.{least_bytes, most_bytes, trailer_words, work_bytes}
 use Rattle.grammar.specs.Numbers.{bad_length, short_buffer}
 use Rattle.grammar.specs.Tree as tree
@@ -9,12 +9,11 @@ use Rattle.grammar.specs.Reading as reading
 use Rattle.grammar.specs.Reading.{refused, sheet, is_length, read}
 use Rattle.writing.specs.declared.counters.Counters.{Counters}
 use Rattle.writing.specs.Taken.{counters_of}
-use Rattle.records.specs.declared.rules.Rules.{Rules}
+use Rattle.words.specs.declared.numbers.Refusal.{Refusal}
+use Rattle.words.specs.Refusal.{refusal_number}
 use Rattle.sheet.specs.declared.answer.Parts.{Parts}
-use Rattle.sheet.specs.declared.answer.Answer.{Answer}
-use Rattle.sheet.specs.declared.answer.Answer.TheVariants.{Refused, Sheet}
 use Rattle.sheet.specs.declared.answer.Reading.{Reading}
-use Rattle.records.specs.Rules.{RowsOf, IsEmpty}
+use Rattle.records.specs.Rules.{RowsOf}
 
 pub record CountersAt (ws : List ℕ) (t : ℕ) (c : Counters) : Type 0 where
   pub alternative : c.alternative ≡ get_or ws (t + 3) 0
@@ -40,19 +39,24 @@ parts_of s =
           };
     }
 
-abbrev pub answer_of : reading.Reading → Answer
-answer_of (refused n) = Refused n
-answer_of (sheet s) = Sheet (parts_of s)
+abbrev pub answer_of : reading.Reading → Result Parts ℕ
+answer_of (refused n) = Err n
+answer_of (sheet s) = Ok (parts_of s)
 
--- The number for each case of the enum, 0 for a sheet, and the values that the case has (SPECIFICATION 3.8): unit kind,
+-- The same of what the code answers.
+abbrev pub told_of : Result Reading Refusal → Result Parts ℕ
+told_of (Err e) = Err (refusal_number e)
+told_of (Ok r) = Ok r.parts
+
+-- The number for each case of the answer, 0 for a sheet, and the values that the case has (SPECIFICATION 3.8): unit kind,
 -- place and length of the preserved list, and the five counters.
-abbrev pub number_of : Answer → ℕ
-number_of (Refused n) = n
-number_of (Sheet p) = 0
+abbrev pub number_of : Result Reading Refusal → ℕ
+number_of (Err e) = refusal_number e
+number_of (Ok r) = 0
 
-abbrev pub values_of : Answer → List ℕ
-values_of (Refused n) = []
-values_of (Sheet p) = p.kind ∷ p.preserved ∷ p.count ∷ encode_counters (counters_of p.counters)
+abbrev pub values_of : Result Reading Refusal → List ℕ
+values_of (Err e) = []
+values_of (Ok r) = r.parts.kind ∷ r.parts.preserved ∷ r.parts.count ∷ encode_counters (counters_of r.parts.counters)
 
 -- The same of what the definition finds.
 abbrev pub number_in : reading.Reading → ℕ
@@ -63,17 +67,12 @@ abbrev pub values_in : reading.Reading → List ℕ
 values_in (refused n) = []
 values_in (sheet s) = s.kind ∷ length (encode_rules s.rules) ∷ length s.preserved ∷ encode_counters s.counters
 
--- The arrays of a sheet's rules; of a refusal empty ones.
-abbrev pub RowsIn : reading.Reading → Rules → Type 0
-RowsIn (refused n) rules = IsEmpty rules
-RowsIn (sheet s) rules = RowsOf s.rules rules
-
--- What the code answers is what the definition finds: the enum's case, and the number and values for it.
-pub record ReadAs (found : reading.Reading) (r : Reading) : Type 0 where
-  pub answer : r.answer ≡ answer_of found
-  pub number : number_of r.answer ≡ number_in found
-  pub values : values_of r.answer ≡ values_in found
-  pub rows : RowsIn found r.rules
+-- What the code answers is what the definition finds: the case, and the number and values for it; of a sheet the arrays of its rules.
+pub record ReadAs (found : reading.Reading) (r : Result Reading Refusal) : Type 0 where
+  pub answer : told_of r ≡ answer_of found
+  pub number : number_of r ≡ number_in found
+  pub values : values_of r ≡ values_in found
+  pub rows : (s : tree.Sheet) (x : Reading) → found ≡ sheet s → r ≡ Ok x → RowsOf s.rules x.rules
 
 -- A sheet of good length, and a work area that is long enough.
 pub record Lent (bs work : List ℕ) : Type 0 where

@@ -1,3 +1,4 @@
 pub mod Answer
+pub mod Verdict
 pub mod Sizes
 pub mod Read

@@ -1,5 +1,5 @@
 -- How much a sheet holds: alternatives and elements are counted by their ids, nested ones too.
-use Rattle.std.specs.Prelude.{ℕ, ◌≡◌, List, [], ◌∷◌, length, replicate}
+use Rattle.std.specs.Prelude.{ℕ, ◌≡◌, List, [], ◌∷◌, length, replicate, Result, Ok, Err}
 use Rattle.grammar.specs.Numbers.{alternative_sort, element_sort, rule_limit}
 use Rattle.grammar.specs.Tree as tree
 use Rattle.grammar.specs.Words.{words}
@@ -12,8 +12,8 @@ use Rattle.grammar.specs.Found.{FoundRules}
 use Rattle.words.specs.Room.{Room}
 use Rattle.records.specs.Rules.{row, places_from}
 use Rattle.sheet.specs.Answer.{parts_of, number_in}
-use Rattle.sheet.specs.declared.counts.Summary.{Summary}
-use Rattle.sheet.specs.declared.counts.Summary.TheVariants.{Refused, Sheet}
+use Rattle.words.specs.declared.numbers.Refusal.{Refusal}
+use Rattle.words.specs.Refusal.{refusal_number}
 
 abbrev pub sizes_of : tree.Sheet → Sizes
 sizes_of s =
@@ -24,27 +24,32 @@ sizes_of s =
       preserved = length s.preserved;
     }
 
-abbrev pub summary_of : reading.Reading → Summary
-summary_of (refused n) = Refused n
-summary_of (sheet s) = Sheet (sizes_of s)
+abbrev pub summary_of : reading.Reading → Result Sizes ℕ
+summary_of (refused n) = Err n
+summary_of (sheet s) = Ok (sizes_of s)
 
--- The number for each case of the enum, and the sizes of a sheet (SPECIFICATION 3.8); then that the code's summary is the
+-- The same of what the code tells.
+abbrev pub told_of : Result Sizes Refusal → Result Sizes ℕ
+told_of (Err e) = Err (refusal_number e)
+told_of (Ok z) = Ok z
+
+-- The number for each case of the summary, and the sizes of a sheet (SPECIFICATION 3.8); then that the code's summary is the
 -- definition's.
-abbrev pub number_of : Summary → ℕ
-number_of (Refused n) = n
-number_of (Sheet z) = 0
+abbrev pub number_of : Result Sizes Refusal → ℕ
+number_of (Err e) = refusal_number e
+number_of (Ok z) = 0
 
-abbrev pub values_of : Summary → List ℕ
-values_of (Refused n) = []
-values_of (Sheet z) = z.rules ∷ z.alternatives ∷ z.elements ∷ z.preserved ∷ []
+abbrev pub values_of : Result Sizes Refusal → List ℕ
+values_of (Err e) = []
+values_of (Ok z) = z.rules ∷ z.alternatives ∷ z.elements ∷ z.preserved ∷ []
 
 abbrev pub values_in : reading.Reading → List ℕ
 values_in (refused n) = []
 values_in (sheet s) =
     length s.rules ∷ length (body_ids alternative_sort s.rules) ∷ length (body_ids element_sort s.rules) ∷ length s.preserved ∷ []
 
-pub record SummedAs (found : reading.Reading) (r : Summary) : Type 0 where
-  pub summary : r ≡ summary_of found
+pub record SummedAs (found : reading.Reading) (r : Result Sizes Refusal) : Type 0 where
+  pub summary : told_of r ≡ summary_of found
   pub number : number_of r ≡ number_in found
   pub values : values_of r ≡ values_in found
 

@@ -4,18 +4,18 @@ ghost use Rattle.grammar.specs.Numbers.{least_bytes, trailer_words};
 ghost use Rattle.grammar.specs.Words.{words};
 ghost use Rattle.grammar.specs.Parse.{got};
 ghost use Rattle.grammar.specs.Reading.{is_length, is_trailer, judge, read_words};
-ghost use Rattle.records.specs.Rules.{IsEmpty, FoundRows};
+ghost use Rattle.records.specs.Rules.{FoundRows};
 ghost use Rattle.sheet.specs.Answer.{CountersAt, EndAt, Lent, ReadAs, TrailerAt};
 
 use crate::judge::judge;
 use ids::lists::is_rising;
 use records::rules::{Rules, read_rules};
-use words::numbers::{OldRefusal, Sheet, UnitKind};
+use words::numbers::{Refusal, Sheet, UnitKind};
 use words::words::word;
 use writing::counters::Counters;
 
 // The sheet's parts: unit kind; the preserved list's place, in words, and how many ids it has; counters.
-#[derive(Clone, Copy)]
+#[derive(Clone, Copy, Debug, PartialEq, Eq)]
 pub struct Parts {
     pub kind: u32,
     pub preserved: u32,
@@ -23,27 +23,11 @@ pub struct Parts {
     pub counters: Counters,
 }
 
-#[derive(Clone, Copy)]
-pub enum Answer {
-    Refused(u32),
-    Sheet(Parts),
-}
-
-// An answer, and the rules where it is a sheet.
+// What is read of a sheet.
 #[derive(Clone, Copy)]
 pub struct Reading {
-    pub answer: Answer,
+    pub parts: Parts,
     pub rules: Rules,
-}
-
-pub fn refused(number: u32) -> Reading
-    ensures { (result.answer ≡ Answer.Refused number) × IsEmpty result.rules }
-{
-    let rules = Rules::empty();
-    Reading {
-        answer: Answer::Refused(number),
-        rules,
-    }
 }
 
 // Refusal 1 is given where this is false.
@@ -100,51 +84,37 @@ fn counters_at(s: &[u8], t: usize) -> Counters
 }
 
 // Refusals 5 and 6, or the sheet; its records are good.
-fn judged(s: &[u8], t: usize, end: usize, rules: Rules, work: &mut [u8]) -> Reading
+fn judged(s: &[u8], t: usize, end: usize, rules: Rules, work: &mut [u8]) -> Result<Reading, Refusal>
     requires lent { Lent s.now work.old × EndAt s.now t end }
     requires found_rows { FoundRows (words s.now) end rules }
     ensures { (f : FoundRows (words s.now) end rules)
         → ReadAs (judge (words s.now) (got f.found.trees end)) result }
 {
     let counters = counters_at(s, t);
-    let verdict = judge(s, end, rules, counters, work);
-    if !verdict.distinct {
-        return refused(OldRefusal::SHARED_NUMBER);
-    }
-    if !verdict.below {
-        return refused(OldRefusal::ID_PAST_COUNTER);
-    }
+    judge(s, end, rules, counters, work)?;
     let parts = Parts {
         kind: word(s, t),
         preserved: end as u32,
         count: word(s, t + 2),
         counters,
     };
-    Reading {
-        answer: Answer::Sheet(parts),
-        rules,
-    }
+    Ok(Reading { parts, rules })
 }
 
 // The whole reading of a sheet of good length. Of the work area its length stays, and nothing else is known.
-pub fn examine(s: &[u8], work: &mut [u8]) -> Reading
+pub fn examine(s: &[u8], work: &mut [u8]) -> Result<Reading, Refusal>
     requires { Lent s.now work.old }
     ensures read_as { ReadAs (read_words (words s.now)) result }
     ensures work_len_unchanged { length work.new ≡ length work.old }
 {
     let t = s.len() / 4 - Sheet::TRAILER_WORDS;
     if !is_trailer(s, t) {
-        return refused(OldRefusal::BAD_TRAILER);
+        return Err(Refusal::BadTrailer);
     }
     let end = rules_end(s, t);
-    let rows = read_rules(s, end);
-    let good = rows.good;
-    let rules = rows.rules;
-    if !good {
-        return refused(OldRefusal::BAD_RECORD);
-    }
+    let rules = read_rules(s, end).ok_or(Refusal::BadRecord)?;
     if !is_rising(s, end, t - end) {
-        return refused(OldRefusal::BAD_RECORD);
+        return Err(Refusal::BadRecord);
     }
     judged(s, t, end, rules, work)
 }

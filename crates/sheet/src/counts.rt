@@ -8,18 +8,12 @@ use crate::answer::Parts;
 use ids::survey::survey_all;
 
 // The numbers of rules, alternatives, elements and preserved ids, nested ones counted.
-#[derive(Clone, Copy)]
+#[derive(Clone, Copy, Debug, PartialEq, Eq)]
 pub struct Sizes {
     pub rules: u32,
     pub alternatives: u32,
     pub elements: u32,
     pub preserved: u32,
-}
-
-#[derive(Clone, Copy)]
-pub enum Summary {
-    Refused(u32),
-    Sheet(Sizes),
 }
 
 // The sizes of a sheet that was read.

@@ -8,27 +8,15 @@ ghost use Rattle.grammar.specs.Found.{FoundRules};
 ghost use Rattle.words.specs.Room.{Room};
 ghost use Rattle.records.specs.Rules.{FoundRows};
 ghost use Rattle.writing.specs.Taken.{counters_of};
-ghost use Rattle.ids.specs.Survey.{RisesApart, Surveyed, SortDistinct, PartsDistinct, BodiesDistinct, BodiesBelow, all_under};
+ghost use Rattle.ids.specs.Survey.{RisesApart, Surveyed, SortDistinct, PartsDistinct, BodiesDistinct, all_under};
+ghost use Rattle.sheet.specs.Verdict.{verdict};
 
 use ids::ids::collect;
 use ids::lists::{is_distinct, put_row};
 use ids::survey::{Survey, survey_all};
 use records::rules::Rules;
-use words::numbers::Sort;
+use words::numbers::{Refusal, Sort};
 use writing::counters::Counters;
-
-// Refusal 5 is given where `distinct` is false, refusal 6 where only `below` is.
-#[derive(Clone, Copy)]
-pub struct Verdict {
-    pub distinct: bool,
-    pub below: bool,
-}
-
-fn both(a: bool, b: bool) -> bool
-    ensures { result ≡ (a && b) }
-{
-    a && b
-}
 
 // Whether no two of the first n numbers of a row are equal.
 fn row_is_distinct(row: &[u32], n: usize, work: &mut [u8]) -> bool
@@ -47,9 +35,7 @@ fn rows_are_distinct(rules: Rules, work: &mut [u8]) -> bool
     let n = rules.n as usize;
     let ids = rules.ids;
     let names = rules.names;
-    let a = row_is_distinct(&ids, n, work);
-    let b = row_is_distinct(&names, n, work);
-    both(a, b)
+    row_is_distinct(&ids, n, work) && row_is_distinct(&names, n, work)
 }
 
 // Whether no two ids of one sort are equal: those that rise are not, the others are collected and parted.
@@ -71,10 +57,9 @@ fn parts_are_distinct(s: &[u8], end: usize, n: u32, v: Survey, work: &mut [u8]) 
     requires found_rules { FoundRules (words s.now) end n 0 × Surveyed (words s.now) end n v }
     ensures { PartsDistinct (words s.now) end n result }
 {
-    let l = sort_is_distinct(s, end, n, Sort::LABEL, v.label.falls, work);
-    let a = sort_is_distinct(s, end, n, Sort::ACTION, v.action.falls, work);
-    let p = sort_is_distinct(s, end, n, Sort::PREDICATE, v.predicate.falls, work);
-    both(l, both(a, p))
+    sort_is_distinct(s, end, n, Sort::LABEL, v.label.falls, work)
+        && sort_is_distinct(s, end, n, Sort::ACTION, v.action.falls, work)
+        && sort_is_distinct(s, end, n, Sort::PREDICATE, v.predicate.falls, work)
 }
 
 fn bodies_are_distinct(s: &[u8], end: usize, n: u32, v: Survey, work: &mut [u8]) -> bool
@@ -82,10 +67,9 @@ fn bodies_are_distinct(s: &[u8], end: usize, n: u32, v: Survey, work: &mut [u8])
     requires found_rules { FoundRules (words s.now) end n 0 × Surveyed (words s.now) end n v }
     ensures { BodiesDistinct (words s.now) end n result }
 {
-    let a = sort_is_distinct(s, end, n, Sort::ALTERNATIVE, v.alternative.falls, work);
-    let e = sort_is_distinct(s, end, n, Sort::ELEMENT, v.element.falls, work);
-    let p = parts_are_distinct(s, end, n, v, work);
-    both(a, both(e, p))
+    sort_is_distinct(s, end, n, Sort::ALTERNATIVE, v.alternative.falls, work)
+        && sort_is_distinct(s, end, n, Sort::ELEMENT, v.element.falls, work)
+        && parts_are_distinct(s, end, n, v, work)
 }
 
 fn is_under(top: u64, counter: u32) -> bool
@@ -97,41 +81,36 @@ fn is_under(top: u64, counter: u32) -> bool
 fn bodies_are_below(v: Survey, counters: Counters) -> bool
     ensures { result ≡ all_under v (counters_of counters) }
 {
-    let a = is_under(v.alternative.top, counters.alternative);
-    let e = is_under(v.element.top, counters.element);
-    let l = is_under(v.label.top, counters.label);
-    let c = is_under(v.action.top, counters.action);
-    let p = is_under(v.predicate.top, counters.predicate);
-    both(a, both(e, both(l, both(c, p))))
+    is_under(v.alternative.top, counters.alternative)
+        && is_under(v.element.top, counters.element)
+        && is_under(v.label.top, counters.label)
+        && is_under(v.action.top, counters.action)
+        && is_under(v.predicate.top, counters.predicate)
 }
 
-// The verdict on the ids in the bodies of n rules.
-fn judge_bodies(s: &[u8], end: usize, n: u32, counters: Counters, work: &mut [u8]) -> Verdict
-    requires room { Room s.now end × (4 * end + 4 ≤ length work.old) }
-    requires found_rules { FoundRules (words s.now) end n 0 }
-    ensures { BodiesDistinct (words s.now) end n result.distinct
-        × BodiesBelow (words s.now) end n (counters_of counters) result.below }
-{
-    let v = survey_all(s, end, n);
-    let below = bodies_are_below(v, counters);
-    let distinct = bodies_are_distinct(s, end, n, v, work);
-    Verdict { distinct, below }
-}
-
-// The verdict on good rules, whose rows are given; the work area is left in any state.
-pub fn judge(s: &[u8], end: usize, rules: Rules, counters: Counters, work: &mut [u8]) -> Verdict
+// Refusals 5 and 6, of good rules, whose rows are given; the work area is left in any state.
+pub fn judge(
+    s: &[u8],
+    end: usize,
+    rules: Rules,
+    counters: Counters,
+    work: &mut [u8],
+) -> Result<(), Refusal>
     requires room { Room s.now end × (4 * (end + rule_limit) ≤ length work.old) }
     requires found_rows { FoundRows (words s.now) end rules }
-    ensures distinct_value { (f : FoundRows (words s.now) end rules) → result.distinct ≡ is_distinct f.found.trees }
-    ensures below_value { (f : FoundRules (words s.now) end rules.n 0)
-        → result.below ≡ is_below (counters_of counters) f.trees }
+    ensures { (f : FoundRows (words s.now) end rules)
+        → result ≡ verdict (is_distinct f.found.trees) (is_below (counters_of counters) f.found.trees) }
 {
     let n = rules.n;
-    let rows = rows_are_distinct(rules, work);
-    let bodies = judge_bodies(s, end, n, counters, work);
-    let distinct = both(rows, bodies.distinct);
-    Verdict {
-        distinct,
-        below: bodies.below,
+    let v = survey_all(s, end, n);
+    if !rows_are_distinct(rules, work) {
+        return Err(Refusal::SharedNumber);
     }
+    if !bodies_are_distinct(s, end, n, v, work) {
+        return Err(Refusal::SharedNumber);
+    }
+    if !bodies_are_below(v, counters) {
+        return Err(Refusal::IdPastCounter);
+    }
+    Ok(())
 }

@@ -9,23 +9,23 @@ ghost use Rattle.std.specs.Prelude.{◌≡◌};
 ghost use Rattle.sheet.specs.Answer.{ReadAs, read_lent, work_after};
 ghost use Rattle.sheet.specs.Sizes.{SummedAs, numbers_of, ids_of, names_of, places_of};
 
-pub use answer::{Answer, Parts, Reading};
-use answer::{examine, is_length, refused};
-pub use counts::{Sizes, Summary};
+use answer::{examine, is_length};
+pub use answer::{Parts, Reading};
+pub use counts::Sizes;
 use counts::{counted, refusal_numbers, sheet_numbers};
-use words::numbers::{OldRefusal, Work};
+use words::numbers::{Refusal, Work};
 use words::words::clear;
 
 // Reads a sheet. The work area ends as it was under refusals 1 and 2, else all zeros.
-pub fn read(sheet: &[u8], work: &mut [u8]) -> Reading
+pub fn read(sheet: &[u8], work: &mut [u8]) -> Result<Reading, Refusal>
     ensures read_as { ReadAs (read_lent sheet.now work.old) result }
     ensures work_after { work.new ≡ work_after sheet.now work.old }
 {
     if !is_length(sheet.len()) {
-        return refused(OldRefusal::BAD_LENGTH);
+        return Err(Refusal::BadLength);
     }
     if work.len() < Work::BYTES {
-        return refused(OldRefusal::SHORT_BUFFER);
+        return Err(Refusal::ShortBuffer);
     }
     let r = examine(sheet, work);
     clear(work);
@@ -33,20 +33,13 @@ pub fn read(sheet: &[u8], work: &mut [u8]) -> Reading
 }
 
 // What a sheet holds, or its refusal; the work area ends as after `read`.
-pub fn summary(sheet: &[u8], work: &mut [u8]) -> Summary
+pub fn summary(sheet: &[u8], work: &mut [u8]) -> Result<Sizes, Refusal>
     ensures summed_as { SummedAs (read_lent sheet.now work.old) result }
     ensures work_after { work.new ≡ work_after sheet.now work.old }
 {
-    let r = read(sheet, work);
-    let answer = r.answer;
+    let r = read(sheet, work)?;
     let n = r.rules.n;
-    match answer {
-        Answer::Refused(number) => Summary::Refused(number),
-        Answer::Sheet(parts) => {
-            let sizes = counted(sheet, parts, n);
-            Summary::Sheet(sizes)
-        }
-    }
+    Ok(counted(sheet, r.parts, n))
 }
 
 // The whole answer in numbers, for callers in other languages; the work area ends as after `read`.
@@ -64,23 +57,23 @@ pub fn read_sheet(
     ensures places_after { places.new ≡ places_of (read_lent sheet.now work.old) }
     ensures work_after { work.new ≡ work_after sheet.now work.old }
 {
-    let r = read(sheet, work);
-    let rules = r.rules;
-    let n = rules.n;
-    let a = rules.ids;
-    let b = rules.names;
-    let c = rules.places;
-    *ids = a;
-    *names = b;
-    *places = c;
-    let answer = r.answer;
-    match answer {
-        Answer::Refused(number) => {
-            *numbers = refusal_numbers(number);
+    match read(sheet, work) {
+        Err(refusal) => {
+            *numbers = refusal_numbers(u32::from(refusal));
+            *ids = [0; 128];
+            *names = [0; 128];
+            *places = [0; 128];
         }
-        Answer::Sheet(parts) => {
-            let sizes = counted(sheet, parts, n);
-            *numbers = sheet_numbers(parts, sizes);
+        Ok(r) => {
+            let rules = r.rules;
+            let sizes = counted(sheet, r.parts, rules.n);
+            let a = rules.ids;
+            let b = rules.names;
+            let c = rules.places;
+            *numbers = sheet_numbers(r.parts, sizes);
+            *ids = a;
+            *names = b;
+            *places = c;
         }
     }
 }

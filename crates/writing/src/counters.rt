@@ -7,10 +7,10 @@ ghost use Rattle.writing.specs.Taken.{following, TookAlternative, TookElement, T
 pub struct Last;
 
 impl Last {
-    pub const NUMBER: u32 = 4294967295;
+    pub const NUMBER: u32 = u32::MAX;
 }
 
-#[derive(Clone, Copy)]
+#[derive(Clone, Copy, Debug, PartialEq, Eq)]
 pub struct Counters {
     pub alternative: u32,
     pub element: u32,
@@ -20,7 +20,7 @@ pub struct Counters {
 }
 
 // A fresh id, and the counters behind it.
-#[derive(Clone, Copy)]
+#[derive(Clone, Copy, Debug, PartialEq, Eq)]
 pub struct Taken {
     pub id: u32,
     pub counters: Counters,
@@ -31,10 +31,7 @@ pub struct Taken {
 fn next(id: u32) -> u32
     ensures { result ≡ following id }
 {
-    if id < Last::NUMBER {
-        return id + 1;
-    }
-    id
+    id.saturating_add(1)
 }
 
 impl Counters {

@@ -19,9 +19,10 @@ use Rattle.records.specs.Rules.{row}
 use Rattle.records.specs.declared.rules.Rules.{Rules}
 use Rattle.words.specs.Room.{Room}
 use Rattle.sheet.specs.Answer.{read_lent, work_after, ReadAs}
-use Rattle.sheet.specs.declared.answer.Reading as answer
-use Rattle.sheet.specs.declared.answer.Parts.{Parts}
-use Rattle.sheet.specs.declared.answer.Answer.TheVariants.{Refused, Sheet}
+use Rattle.sheet.specs.declared.answer.Reading.{Reading}
+use Rattle.std.specs.Prelude.{Ok, Err}
+use Rattle.words.specs.declared.numbers.Refusal.{Refusal}
+use Rattle.words.specs.Refusal.{refusal_number}
 use Rattle.sheet.proofs.Laws.Sizes.{is_refused, was_read}
 use Rattle.sheet.specs.Read.{WasRead}
 use Rattle.reach.specs.Rows.{holds, Behind}
@@ -153,11 +154,11 @@ module _ {bs work : List ℕ} {end : ℕ} {rules : Rules} (w : WasRead bs work e
           }
 
 -- the same of an answer of the reader
-module _ (bs work : List ℕ) {r : answer.Reading} (a : ReadAs (read_lent bs work) r) where
-  pub tells_refusal : {n : ℕ} → r.answer ≡ Refused n → (c : Corners) {ms : List ℕ} {cs ks ys : List (List ℕ)} → ms ≡ replicate 4 0 → cs ≡ no_rows
+module _ (bs work : List ℕ) {x : Refusal} (a : ReadAs (read_lent bs work) (Err x)) where
+  pub tells_refusal : {n : ℕ} → n ≡ refusal_number x → (c : Corners) {ms : List ℕ} {cs ks ys : List (List ℕ)} → ms ≡ replicate 4 0 → cs ≡ no_rows
       → ks ≡ no_rows → ys ≡ no_rows → Tells c (read_lent bs work) (n ∷ 0 ∷ 0 ∷ []) ms cs ks ys
   tells_refusal {n} h c {ms} {cs} {ks} {ys} f x y z =
-      let e = is_refused bs work a h in
+      let e = is_refused bs work a in
       record {
         refusal = λ k g. let same : n ≡ k = cc in record {
           numbers_are = ap (λ i. i ∷ 0 ∷ 0 ∷ []) same;
@@ -169,27 +170,27 @@ module _ (bs work : List ℕ) {r : answer.Reading} (a : ReadAs (read_lent bs wor
         sheet = λ s g. absurd (let u : ◌≡◌ {A = ℕ} 0 1 = cc in omega arith);
       }
 
-  module _ {p : Parts} (h : r.answer ≡ Sheet p) where
-    pub read_room : Room bs p.preserved
-    read_room = (was_read bs work a h).room
+module _ (bs work : List ℕ) {r : Reading} (a : ReadAs (read_lent bs work) (Ok r)) where
+  pub read_room : Room bs r.parts.preserved
+  read_room = (was_read bs work a).room
 
-    pub read_rules : Standing (words bs) p.preserved r.rules
-    read_rules = read_stands (was_read bs work a h)
+  pub read_rules : Standing (words bs) r.parts.preserved r.rules
+  read_rules = read_stands (was_read bs work a)
 
-    module _ {w : List ℕ} (e : w ≡ work_after bs work) where
-      same_long : length w ≡ length work
-      same_long = ap length (e ∙ (was_read bs work a h).cleared) ∙ length-replicate (length work) 0
+  module _ {w : List ℕ} (e : w ≡ work_after bs work) where
+    same_long : length w ≡ length work
+    same_long = ap length (e ∙ (was_read bs work a).cleared) ∙ length-replicate (length work) 0
 
-      pub read_work : work_bytes ≤ length w
-      read_work = let l = (was_read bs work a h).lent in let k = same_long in omega arith
+    pub read_work : work_bytes ≤ length w
+    read_work = let l = (was_read bs work a).lent in let k = same_long in omega arith
 
-      pub read_cleared : {after : List ℕ} → after ≡ replicate (length w) 0 → after ≡ work_after bs work
-      read_cleared g = g ∙ ap (λ k. replicate k 0) same_long ∙ sym (was_read bs work a h).cleared
+    pub read_cleared : {after : List ℕ} → after ≡ replicate (length w) 0 → after ≡ work_after bs work
+    read_cleared g = g ∙ ap (λ k. replicate k 0) same_long ∙ sym (was_read bs work a).cleared
 
-    pub tells_read : {c : Corners} {m : Marks} {count : ℕ} {cs ks ys : List (List ℕ)} → RulesTold (words bs) p.preserved r.rules c m count cs ks ys
-        → Tells c (read_lent bs work) (0 ∷ r.rules.n ∷ count ∷ [])
-        (get_or m.nullable 0 0 ∷ get_or m.nullable 1 0 ∷ get_or m.stops 0 0 ∷ get_or m.stops 1 0 ∷ []) cs ks ys
-    tells_read t = tells_sheet (was_read bs work a h) t refl
+  pub tells_read : {c : Corners} {m : Marks} {count : ℕ} {cs ks ys : List (List ℕ)} → RulesTold (words bs) r.parts.preserved r.rules c m count cs ks ys
+      → Tells c (read_lent bs work) (0 ∷ r.rules.n ∷ count ∷ [])
+      (get_or m.nullable 0 0 ∷ get_or m.nullable 1 0 ∷ get_or m.stops 0 0 ∷ get_or m.stops 1 0 ∷ []) cs ks ys
+  tells_read t = tells_sheet (was_read bs work a) t refl
 
 -- the work area, cleared behind whatever stood in it
 pub cleared_long : (mid before : List ℕ) {after : List ℕ} → length mid ≡ length before → after ≡ replicate (length mid) 0

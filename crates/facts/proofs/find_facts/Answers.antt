@@ -11,9 +11,9 @@ pub tell-t-requires-clause-standing : goal.tell-t-requires-clause-standing
 tell-t-requires-clause-standing c = search (rules, tellings)
 
 -- src/lib.rt:55:1
-pub returns-in-Sheet-clause-tells : goal.returns-in-Sheet-clause-tells
-returns-in-Sheet-clause-tells c = search (rules, tellings)
+pub returns-in-Ok-clause-tells : goal.returns-in-Ok-clause-tells
+returns-in-Ok-clause-tells c = search (rules, tellings)
 
 -- src/lib.rt:55:1
-pub returns-in-Sheet-clause-work_after : goal.returns-in-Sheet-clause-work_after
-returns-in-Sheet-clause-work_after c = search (rules, tellings)
+pub returns-in-Ok-clause-work_after : goal.returns-in-Ok-clause-work_after
+returns-in-Ok-clause-work_after c = search (rules, tellings)

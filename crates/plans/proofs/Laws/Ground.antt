@@ -22,9 +22,8 @@ use Rattle.grammar.specs.Laws.Whole.{words_sound, reads_sheet, valid_parts}
 use Rattle.records.specs.declared.rules.Rules.{Rules}
 use Rattle.hub.specs.Preserved.{between}
 use Rattle.sheet.specs.Answer.{read_lent, answer_of, parts_of, ReadAs, Lent}
-use Rattle.sheet.specs.declared.answer.Reading as answer
-use Rattle.sheet.specs.declared.answer.Parts.{Parts}
-use Rattle.sheet.specs.declared.answer.Answer.TheVariants.{Sheet}
+use Rattle.sheet.specs.declared.answer.Reading.{Reading}
+use Rattle.std.specs.Prelude.{Ok}
 use Rattle.sheet.specs.Read.{WasRead}
 use Rattle.sheet.proofs.Laws.Lent.{lent_all}
 use Rattle.sheet.proofs.Laws.Sizes.{was_read}
@@ -83,28 +82,28 @@ read_stands w =
     }
 
 -- The same of an answer of the reader.
-module _ (bs work : List ℕ) {r : answer.Reading} (a : ReadAs (read_lent bs work) r) {p : Parts} (h : r.answer ≡ Sheet p) where
-  abbrev was : WasRead bs work p.preserved r.rules
-  was = was_read bs work a h
+module _ (bs work : List ℕ) {r : Reading} (a : ReadAs (read_lent bs work) (Ok r)) where
+  abbrev was : WasRead bs work r.parts.preserved r.rules
+  was = was_read bs work a
 
-  parts_are : p ≡ parts_of was.tree
-  parts_are = let e : answer_of (sheet was.tree) ≡ Sheet p = ap answer_of (sym was.is) ∙ sym a.answer ∙ h in cc
+  parts_are : r.parts ≡ parts_of was.tree
+  parts_are = let e : answer_of (sheet was.tree) ≡ Ok r.parts = ap answer_of (sym was.is) ∙ sym a.answer in cc
 
-  pub read_end : p.preserved ≡ length (encode_rules was.tree.rules)
+  pub read_end : r.parts.preserved ≡ length (encode_rules was.tree.rules)
   read_end = ap (λ q. q.preserved) parts_are
 
-  read_count : p.count ≡ length was.tree.preserved
+  read_count : r.parts.count ≡ length was.tree.preserved
   read_count = ap (λ q. q.count) parts_are
 
-  pub read_small : p.preserved ≤ most_words
+  pub read_small : r.parts.preserved ≤ most_words
   read_small = let t = (taken bs work was.tree was.is).lent.most in let z = was.room.trailer in omega arith
 
-  module _ {to : ℕ} (e : to ≡ p.preserved + p.count) where
-    pub read_preserved : between (words bs) p.preserved to ≡ was.tree.preserved
+  module _ {to : ℕ} (e : to ≡ r.parts.preserved + r.parts.count) where
+    pub read_preserved : between (words bs) r.parts.preserved to ≡ was.tree.preserved
     read_preserved =
-        kept_between was.tree (encoded (taken bs work was.tree was.is)) read_end (e ∙ ap (λ k. p.preserved + k) read_count)
+        kept_between was.tree (encoded (taken bs work was.tree was.is)) read_end (e ∙ ap (λ k. r.parts.preserved + k) read_count)
 
-    pub read_kept : KeptAt bs p.preserved to
+    pub read_kept : KeptAt bs r.parts.preserved to
     read_kept =
         let w = encoded (taken bs work was.tree was.is) in
         let l = length_words bs in

@@ -13,9 +13,10 @@ use Rattle.grammar.specs.Ids.{rule_ids}
 use Rattle.grammar.specs.Corners.{Corners}
 use Rattle.records.specs.Rules.{row}
 use Rattle.sheet.specs.Answer.{read_lent, work_after, ReadAs}
-use Rattle.sheet.specs.declared.answer.Reading as answer
-use Rattle.sheet.specs.declared.answer.Parts.{Parts}
-use Rattle.sheet.specs.declared.answer.Answer.TheVariants as A
+use Rattle.sheet.specs.declared.answer.Reading.{Reading}
+use Rattle.std.specs.Prelude.{Ok, Err}
+use Rattle.words.specs.declared.numbers.Refusal.{Refusal}
+use Rattle.words.specs.Refusal.{refusal_number}
 use Rattle.sheet.proofs.Laws.Sizes.{is_refused, was_read}
 use Rattle.analysis.specs.Survey.{reading}
 use Rattle.analysis.proofs.Laws.Standing.{all_rules}
@@ -97,12 +98,12 @@ module _ (ws : List ℕ) (end : ℕ) (ids : List ℕ) (n : ℕ) (list : List ℕ
         behind = h.behind;
       }
 
-module _ (bs work : List ℕ) {r : answer.Reading} (a : ReadAs (read_lent bs work) r) where
-  pub nth_refusal : {n : ℕ} → r.answer ≡ A.Refused n → (c : Corners) (nth : ℕ) {after numbers removable : List ℕ}
+module _ (bs work : List ℕ) {o : Refusal} (a : ReadAs (read_lent bs work) (Err o)) where
+  pub nth_refusal : {n : ℕ} → n ≡ refusal_number o → (c : Corners) (nth : ℕ) {after numbers removable : List ℕ}
       → numbers ≡ n ∷ replicate 7 0 → removable ≡ replicate 2 0 → after ≡ work_after bs work
       → NthTold c nth bs (read_lent bs work) (work_after bs work) after numbers removable
   nth_refusal {n} h c nth f g w =
-      let e = is_refused bs work a h in
+      let e = is_refused bs work a in
       record {
         refusal = λ k z. let same : n ≡ k = cc in record {
           numbers_are = f ∙ ap (λ i. i ∷ replicate 7 0) same;
@@ -112,12 +113,12 @@ module _ (bs work : List ℕ) {r : answer.Reading} (a : ReadAs (read_lent bs wor
         sheet = λ s z. absurd (let u : ◌≡◌ {A = ℕ} 0 1 = cc in omega arith);
       }
 
-  pub first_refusal : {n : ℕ} → r.answer ≡ A.Refused n → (c : Corners) {after numbers cycle removable clauses : List ℕ}
+  pub first_refusal : {n : ℕ} → n ≡ refusal_number o → (c : Corners) {after numbers cycle removable clauses : List ℕ}
       → numbers ≡ n ∷ replicate 7 0 → cycle ≡ replicate 2 0 → removable ≡ replicate 2 0 → clauses ≡ replicate rule_limit 0
       → after ≡ work_after bs work
       → FirstTold c bs (read_lent bs work) (work_after bs work) after numbers cycle removable clauses
   first_refusal {n} h c f x g y w =
-      let e = is_refused bs work a h in
+      let e = is_refused bs work a in
       record {
         refusal = λ k z. let same : n ≡ k = cc in record {
           refusal = record { numbers_are = f ∙ ap (λ i. i ∷ replicate 7 0) same; none = g; work = w };
@@ -127,54 +128,54 @@ module _ (bs work : List ℕ) {r : answer.Reading} (a : ReadAs (read_lent bs wor
         sheet = λ s z. absurd (let u : ◌≡◌ {A = ℕ} 0 1 = cc in omega arith);
       }
 
-  module _ {p : Parts} (h : r.answer ≡ A.Sheet p) {to : ℕ} (e : to ≡ p.preserved + p.count) where
-    pub nth_sheet : {past : Bool} {nth : ℕ} {t : Nth} {list after numbers removable : List ℕ}
-        → NthOf (words bs) p.preserved to r.rules past nth list t → numbers ≡ nth_numbers t → removable ≡ nth_row t
-        → after ≡ left_by numbers list
-        → NthTold (reading past) nth bs (read_lent bs work) (work_after bs work) after numbers removable
-    unfolding read_stands
-    nth_sheet {past} {nth} {t} {list} {after} {numbers} {removable} d f g l =
-        let w = was_read bs work a h in
-        let here : NthToldOf (reading past) nth bs w.tree after numbers removable = record {
-          answer = t;
-          numbers_are = f;
-          removable_is = g;
-          cleared = left_cleared list l;
-          is = nth_left _ _ _ _ list _ _ _ f l
-              (moved (read_end bs work a h) (w.rows.rows.ids ∙ ap (λ rs. row (rule_ids rs)) w.trees)
-              (all_rules w.rows ∙ ap length w.trees) w.trees (read_preserved bs work a h e) (d.is (read_stands w)));
-        } in
-        record {
-          refusal = λ k z. absurd (let y = w.is in let u : ◌≡◌ {A = ℕ} 0 1 = cc in omega arith);
-          sheet = λ s z.
-              let same : w.tree ≡ s = let y = w.is in cc in
-              subst (λ x. NthToldOf (reading past) nth bs x after numbers removable) same here;
-        }
+module _ (bs work : List ℕ) {r : Reading} (a : ReadAs (read_lent bs work) (Ok r)) {to : ℕ} (e : to ≡ r.parts.preserved + r.parts.count) where
+  pub nth_sheet : {past : Bool} {nth : ℕ} {t : Nth} {list after numbers removable : List ℕ}
+      → NthOf (words bs) r.parts.preserved to r.rules past nth list t → numbers ≡ nth_numbers t → removable ≡ nth_row t
+      → after ≡ left_by numbers list
+      → NthTold (reading past) nth bs (read_lent bs work) (work_after bs work) after numbers removable
+  unfolding read_stands
+  nth_sheet {past} {nth} {t} {list} {after} {numbers} {removable} d f g l =
+      let w = was_read bs work a in
+      let here : NthToldOf (reading past) nth bs w.tree after numbers removable = record {
+        answer = t;
+        numbers_are = f;
+        removable_is = g;
+        cleared = left_cleared list l;
+        is = nth_left _ _ _ _ list _ _ _ f l
+            (moved (read_end bs work a) (w.rows.rows.ids ∙ ap (λ rs. row (rule_ids rs)) w.trees)
+            (all_rules w.rows ∙ ap length w.trees) w.trees (read_preserved bs work a e) (d.is (read_stands w)));
+      } in
+      record {
+        refusal = λ k z. absurd (let y = w.is in let u : ◌≡◌ {A = ℕ} 0 1 = cc in omega arith);
+        sheet = λ s z.
+            let same : w.tree ≡ s = let y = w.is in cc in
+            subst (λ x. NthToldOf (reading past) nth bs x after numbers removable) same here;
+      }
 
-    pub first_sheet : {past : Bool} {t : Found} {list after numbers cycle removable clauses : List ℕ}
-        → FirstOf (words bs) p.preserved to r.rules past list t → numbers ≡ search_numbers t.declined t.answer
-        → cycle ≡ search_cycle t.answer → removable ≡ search_row t.answer → clauses ≡ t.clauses → after ≡ left_by numbers list
-        → FirstTold (reading past) bs (read_lent bs work) (work_after bs work) after numbers cycle removable clauses
-    unfolding read_stands
-    first_sheet {past} {t} {list} {after} {numbers} {cycle} {removable} {clauses} d f x g y l =
-        let w = was_read bs work a h in
-        let here : FirstToldOf (reading past) bs w.tree after numbers cycle removable clauses = record {
-          found = t;
-          numbers_are = f;
-          cycle_is = x;
-          removable_is = g;
-          clauses_are = y;
-          cleared = left_cleared list l;
-          is = first_left _ _ _ _ list _ _ _ f l
-              (found_moved (read_end bs work a h) (w.rows.rows.ids ∙ ap (λ rs. row (rule_ids rs)) w.trees)
-              (all_rules w.rows ∙ ap length w.trees) w.trees (read_preserved bs work a h e) (d.is (read_stands w)));
-        } in
-        record {
-          refusal = λ k z. absurd (let y = w.is in let u : ◌≡◌ {A = ℕ} 0 1 = cc in omega arith);
-          sheet = λ s z.
-              let same : w.tree ≡ s = let y = w.is in cc in
-              subst (λ x. FirstToldOf (reading past) bs x after numbers cycle removable clauses) same here;
-        }
+  pub first_sheet : {past : Bool} {t : Found} {list after numbers cycle removable clauses : List ℕ}
+      → FirstOf (words bs) r.parts.preserved to r.rules past list t → numbers ≡ search_numbers t.declined t.answer
+      → cycle ≡ search_cycle t.answer → removable ≡ search_row t.answer → clauses ≡ t.clauses → after ≡ left_by numbers list
+      → FirstTold (reading past) bs (read_lent bs work) (work_after bs work) after numbers cycle removable clauses
+  unfolding read_stands
+  first_sheet {past} {t} {list} {after} {numbers} {cycle} {removable} {clauses} d f x g y l =
+      let w = was_read bs work a in
+      let here : FirstToldOf (reading past) bs w.tree after numbers cycle removable clauses = record {
+        found = t;
+        numbers_are = f;
+        cycle_is = x;
+        removable_is = g;
+        clauses_are = y;
+        cleared = left_cleared list l;
+        is = first_left _ _ _ _ list _ _ _ f l
+            (found_moved (read_end bs work a) (w.rows.rows.ids ∙ ap (λ rs. row (rule_ids rs)) w.trees)
+            (all_rules w.rows ∙ ap length w.trees) w.trees (read_preserved bs work a e) (d.is (read_stands w)));
+      } in
+      record {
+        refusal = λ k z. absurd (let y = w.is in let u : ◌≡◌ {A = ℕ} 0 1 = cc in omega arith);
+        sheet = λ s z.
+            let same : w.tree ≡ s = let y = w.is in cc in
+            subst (λ x. FirstToldOf (reading past) bs x after numbers cycle removable clauses) same here;
+      }
 
 pub ruleset tellings = (nth_refusal, nth_sheet)
 

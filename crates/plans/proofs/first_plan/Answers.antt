@@ -1,28 +1,18 @@
-use Rattle.std.proofs.Common.{rules}
+use Rattle.std.proofs.Common.{refl}
 use Rattle.plans.proofs.first_plan.Goals as goal
 use Rattle.facts.proofs.Laws.Told as facts
-use Rattle.plans.proofs.Laws.Ground.{readings}
-use Rattle.plans.proofs.Laws.Told.{first_tellings}
+use Rattle.plans.proofs.Laws.Ground.{read_small, read_kept}
+use Rattle.plans.proofs.Laws.Told.{first_sheet}
 
--- src/lib.rt:81:17
 pub decide_first-found-requires-clause-room : goal.decide_first-found-requires-clause-room
 decide_first-found-requires-clause-room c =
-    (search facts.tellings, search readings, search (rules, facts.tellings), search (rules, readings))
+    let o = c.in-Ok.ensures in
+    (facts.read_room _ _ o.read_as, read_small _ _ o.read_as, facts.read_work _ _ o.read_as o.work_after, read_kept _ _ o.read_as refl)
 
--- src/lib.rt:81:17
 pub decide_first-found-requires-clause-standing : goal.decide_first-found-requires-clause-standing
-decide_first-found-requires-clause-standing c =
-    search facts.tellings
+decide_first-found-requires-clause-standing c = facts.read_rules _ _ c.in-Ok.ensures.read_as
 
--- src/lib.rt:54:1
-pub returns-in-Sheet-clause-first_told : goal.returns-in-Sheet-clause-first_told
-returns-in-Sheet-clause-first_told c =
-    let work = c.leave.ensures in
-    let numbers = c.tell_search-t.ensures in
-    let first = c.decide_first-found.ensures in
-    let parts = c.in-Sheet.is in
-    let sheet = c.read-r.ensures.read_as in
-    let left_long = c.leave.auto.work in
-    let decided_long = c.decide_first-found.auto.work in
-    let read_long = c.read-r.auto.work in
-    search first_tellings
+pub returns-in-Ok-clause-first_told : goal.returns-in-Ok-clause-first_told
+returns-in-Ok-clause-first_told c =
+    let t = c.tell_search-t.ensures in
+    first_sheet _ _ c.in-Ok.ensures.read_as refl c.decide_first-found.ensures t.0 t.1 t.2 refl c.leave.ensures

@@ -1,17 +1,18 @@
-use Rattle.std.proofs.Common.{rules}
+use Rattle.std.proofs.Common.{refl}
 use Rattle.plans.proofs.plan_nth.Goals as goal
 use Rattle.facts.proofs.Laws.Told as facts
-use Rattle.plans.proofs.Laws.Ground.{readings}
-use Rattle.plans.proofs.Laws.Told.{tellings}
+use Rattle.plans.proofs.Laws.Ground.{read_small, read_kept}
+use Rattle.plans.proofs.Laws.Told.{nth_sheet}
 
--- src/lib.rt:42:30
 pub decide_nth-requires-clause-room : goal.decide_nth-requires-clause-room
-decide_nth-requires-clause-room c = search (rules, facts.tellings, readings, tellings)
+decide_nth-requires-clause-room c =
+    let o = c.in-Ok.ensures in
+    (facts.read_room _ _ o.read_as, read_small _ _ o.read_as, facts.read_work _ _ o.read_as o.work_after, read_kept _ _ o.read_as refl)
 
--- src/lib.rt:42:30
 pub decide_nth-requires-clause-standing : goal.decide_nth-requires-clause-standing
-decide_nth-requires-clause-standing c = search (rules, facts.tellings, readings, tellings)
+decide_nth-requires-clause-standing c = facts.read_rules _ _ c.in-Ok.ensures.read_as
 
--- src/lib.rt:19:1
-pub returns-in-Sheet-clause-nth_told : goal.returns-in-Sheet-clause-nth_told
-returns-in-Sheet-clause-nth_told c = search (rules, facts.tellings, readings, tellings)
+pub returns-in-Ok-clause-nth_told : goal.returns-in-Ok-clause-nth_told
+returns-in-Ok-clause-nth_told c =
+    let t = c.tell_nth-t.ensures in
+    nth_sheet _ _ c.in-Ok.ensures.read_as refl c.decide_nth.ensures t.0 t.1 c.leave.ensures

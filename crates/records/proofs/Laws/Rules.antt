@@ -1,8 +1,7 @@
 -- The rules read so far, and what is left to read.
 use Prim.Native.Nat.{ℕ, zero, suc, ◌+◌, ◌-◌, ◌<◌, ◌≤◌}
-use mathlib.Core.Path.{◌≡◌, refl, sym, ap, ◌∙◌}
+use mathlib.Core.Path.{◌≡◌, refl, sym, ap, subst, ◌∙◌}
 use mathlib.Core.List.{List, [], ◌∷◌, ◌++◌, map, append_assoc, append-nil}
-use mathlib.Core.Bool.{true, false}
 use native.Mathlib.Omega.{arith}
 use lib.ListN.{length, get_or, set, replicate, length-append, length-map, length-replicate}
 use lib.Seq.{set-append_seam}
@@ -20,7 +19,7 @@ use Rattle.grammar.specs.Laws.Sound.{rule_sound, block_sound}
 use Rattle.records.specs.declared.records.Step.{Step}
 use Rattle.records.specs.declared.records.Step.TheVariants.{Next, Bad}
 use Rattle.records.specs.declared.rules.Rules.{Rules}
-use Rattle.records.specs.declared.rules.Rows.{Rows}
+use Rattle.std.specs.Prelude.{Some, None}
 use Rattle.records.specs.Step.{step_of}
 use Rattle.records.specs.Rules.{row, places_from, RowsOf, IsEmpty, IsWith, RulesRead, is_got}
 use Rattle.records.proofs.Laws.Trees.{rule_short}
@@ -197,22 +196,19 @@ module _ {ws : List ℕ} {end at : ℕ} {rules : Rules} (f : SoFar ws end at rul
       ended zero = rw (eq-eqb end end refl, rules_at)
       ended (suc m) = rw (eq-eqb end end refl, rules_at)
 
-  pub read_all : at ≡ end → RulesRead ws end (record { good = true; rules = rules })
+  pub read_all : at ≡ end → RulesRead ws end (Some rules)
   read_all e =
       let h = all_read e in
       record {
         good = sym (ap is_got h);
-        rows = λ rs q g. let z : f.read ≡ rs = cc in rw z at f.rows;
-        none = λ g. absurd (let z : ◌≡◌ {A = ℕ} 0 1 = cc in omega arith);
+        rows = λ o rs q w g. let z : f.read ≡ rs = cc in let y : rules ≡ o = cc in subst (λ x. RowsOf rs x) y (subst (λ x. RowsOf x rules) z f.rows);
       }
 
-pub read_none : (ws : List ℕ) (end : ℕ) {r : Rows} → rules_at ws end rule_limit 0 ≡ bad → r.good ≡ false → IsEmpty r.rules
-    → RulesRead ws end r
-read_none ws end e g h =
+pub read_none : (ws : List ℕ) (end : ℕ) → rules_at ws end rule_limit 0 ≡ bad → RulesRead ws end None
+read_none ws end e =
     record {
-      good = g ∙ sym (ap is_got e);
-      rows = λ rs q f. absurd (let z : ◌≡◌ {A = ℕ} 0 1 = cc in omega arith);
-      none = λ f. h;
+      good = sym (ap is_got e);
+      rows = λ o rs q w f. absurd (let z : ◌≡◌ {A = ℕ} 0 1 = cc in omega arith);
     }
 
 pub ruleset reads = (none_so_far, full_bad, rule_bad, short_bad, more_so_far, read_all, read_none)

@@ -1,15 +1,15 @@
 -- The returns of the functions that read the trailer and give the answer.
 use Prim.Native.Nat.{ℕ, ◌+◌, ◌-◌, ◌/◌, ◌<◌, ◌≤◌}
-use mathlib.Core.Path.{◌≡◌, refl, sym, ap, ◌∙◌}
+use mathlib.Core.Path.{◌≡◌, refl, sym, ap, subst, ◌∙◌}
 use mathlib.Core.List.{List}
-use mathlib.Core.Bool.{Bool, true, false, not}
+use mathlib.Core.Bool.{Bool, true, false}
 use native.Mathlib.Omega.{arith}
 use lib.ListN.{length, get_or, take, drop, length-drop}
 use lib.Seq.{length-take-le}
 use lib.Dec.{leb, eqb}
-use borrow.Author.Tests.{le-leb, lt-leb, eq-eqb, ne_eqb, leb-true, eqb-true, not-true, not-false}
+use borrow.Author.Tests.{le-leb, lt-leb, eq-eqb, ne_eqb, leb-true, eqb-true}
 use Rattle.grammar.specs.Numbers.{least_bytes, trailer_words, rule_limit, lexer, combined}
-use Rattle.grammar.specs.Numbers.{bad_trailer, bad_record, shared_number, id_past_counter}
+use Rattle.grammar.specs.Numbers.{bad_record}
 use Rattle.grammar.specs.Parse.{Got, got, bad, ◌then◌, given}
 use Rattle.grammar.specs.Encode.{encode_rules}
 use Rattle.grammar.specs.Words.{words}
@@ -17,6 +17,7 @@ use Rattle.grammar.specs.Read.{rules_at}
 use Rattle.grammar.specs.Valid.{is_kind}
 use Rattle.grammar.specs.Lists.{rising}
 use Rattle.grammar.specs.Ids.{is_distinct, is_below}
+use Rattle.grammar.specs.Tree as tree
 use Rattle.grammar.specs.Reading as reading
 use Rattle.grammar.specs.Reading.{refused, sheet, trailer, unit_kind, first_distance, second_distance, rules_end, is_trailer}
 use Rattle.grammar.specs.Reading.{preserved_ids, counters_of, rules_of, sheet_of, judge, read_words}
@@ -27,13 +28,16 @@ use Rattle.grammar.specs.Laws.Sound.{rules_sound}
 use Rattle.writing.specs.declared.counters.Counters.{Counters}
 use Rattle.writing.specs.Taken as taken
 use Rattle.records.specs.declared.rules.Rules.{Rules}
-use Rattle.records.specs.declared.rules.Rows.{Rows}
-use Rattle.sheet.specs.declared.answer.Answer.TheVariants.{Refused, Sheet}
+use Rattle.std.specs.Prelude.{Option, Some, None, Result, Ok, Err, is_some, ok_or}
+use Rattle.words.specs.declared.numbers.Refusal.{Refusal}
+use Rattle.words.specs.declared.numbers.Refusal.TheVariants.{BadTrailer, BadRecord, SharedNumber, IdPastCounter}
+use Rattle.words.specs.Refusal.{refusal_number}
+use Rattle.sheet.specs.declared.answer.Parts.{Parts}
 use Rattle.sheet.specs.declared.answer.Reading.{Reading}
-use Rattle.records.specs.Rules.{IsEmpty, RulesRead, FoundRows, is_got}
+use Rattle.records.specs.Rules.{RowsOf, RulesRead, FoundRows, is_got}
 use Rattle.sheet.specs.Answer as answer
-use Rattle.grammar.specs.Found.{FoundRules}
-use Rattle.sheet.specs.Answer.{CountersAt, ReadAs, answer_of, number_of, values_of, number_in, values_in, RowsIn}
+use Rattle.sheet.specs.Answer.{CountersAt, ReadAs, values_of}
+use Rattle.sheet.specs.Verdict.{verdict}
 use Rattle.sheet.specs.Answer.{TrailerAt, EndAt}
 
 -- the trailer
@@ -61,21 +65,30 @@ module _ (bs : List ℕ) {t : ℕ} (e : t ≡ length bs / 4 - trailer_words) whe
 
 pub ruleset trailers = (kind_low, kind_high, first_other, second_decides)
 
--- the number and the values go with the answer
-read_as : (g : reading.Reading) {r : Reading} → r.answer ≡ answer_of g → RowsIn g r.rules → ReadAs g r
-read_as g {r} a i = record { answer = a; number = ap number_of a ∙ number_same g; values = ap values_of a ∙ values_same g; rows = i }
-  where
-    number_same : (g : reading.Reading) → number_of (answer_of g) ≡ number_in g
-    number_same (refused n) = refl
-    number_same (sheet s) = refl
+-- refusals, and a sheet with its rules
+pub read_refused : {g : reading.Reading} {n : ℕ} (e : Refusal) → g ≡ refused n → refusal_number e ≡ n → ReadAs g (Err e)
+read_refused e g f =
+    rw g
+    (record {
+      answer = ap Err f;
+      number = f;
+      values = refl;
+      rows = λ s x z w. absurd (let u : ◌≡◌ {A = ℕ} 0 1 = cc in omega arith);
+    })
 
-    values_same : (g : reading.Reading) → values_of (answer_of g) ≡ values_in g
-    values_same (refused n) = refl
-    values_same (sheet s) = refl
-
--- refusals
-pub read_refused : {g : reading.Reading} {n : ℕ} {r : Reading} → g ≡ refused n → r.answer ≡ Refused n → IsEmpty r.rules → ReadAs g r
-read_refused {g} {n} {r} e a i = read_as g (a ∙ sym (ap answer_of e)) (rw e i)
+read_sheet : {g : reading.Reading} {s : tree.Sheet} {p : Parts} {rules : Rules} → g ≡ sheet s → p ≡ answer.parts_of s → RowsOf s.rules rules
+    → ReadAs g (Ok (record { parts = p; rules = rules }))
+read_sheet {s = s} {p} {rules} g e o =
+    rw g
+    (record {
+      answer = ap Ok e;
+      number = refl;
+      values = ap (λ q. values_of (Ok (record { parts = q; rules = rules }))) e;
+      rows = λ t x z w.
+          let same : s ≡ t = cc in
+          let are : rules ≡ x.rules = ap (λ y. y.rules) (let k : ◌≡◌ {A = Reading} (record { parts = p; rules = rules }) x = cc in k) in
+          subst (λ y. RowsOf y.rules x.rules) same (subst (λ y. RowsOf s.rules y) are o);
+    })
 
 counters_same : (ws : List ℕ) {t : ℕ} {c : Counters} → length ws - trailer_words ≡ t → CountersAt ws t c
     → taken.counters_of c ≡ counters_of ws
@@ -106,12 +119,11 @@ module _ (bs : List ℕ) {t end : ℕ} {rules : Rules} (k : EndAt bs t end) (f :
   back i = ap (λ x. get_or (words bs) (x + i) 0) (sym (here bs k.place))
 
   parts_same : {w c : ℕ} {a : Counters} → w ≡ get_or (words bs) t 0 → c ≡ get_or (words bs) (t + 2) 0 → CountersAt (words bs) t a
-      → Sheet (record { kind = w; preserved = end; count = c; counters = a })
-      ≡ Sheet (answer.parts_of (sheet_of (words bs) f.found.trees))
+      → ◌≡◌ {A = Parts} (record { kind = w; preserved = end; count = c; counters = a })
+      (answer.parts_of (sheet_of (words bs) f.found.trees))
   unfolding sheet_of counters_of
   parts_same p q n i =
-      Sheet
-      (record {
+      record {
         kind = (p ∙ ap (λ x. get_or (words bs) x 0) (sym (here bs k.place))) i;
         preserved = sym rules_long i;
         count = (q ∙ sym second_is) i;
@@ -123,37 +135,53 @@ module _ (bs : List ℕ) {t end : ℕ} {rules : Rules} (k : EndAt bs t end) (f :
               action = (n.action ∙ back 6) i;
               predicate = (n.predicate ∙ back 7) i;
             };
-      })
+      }
 
-module _ (bs : List ℕ) {end : ℕ} {rules : Rules} {b : Bool}
-    (d : (o : FoundRows (words bs) end rules) → b ≡ is_distinct o.found.trees) where
-  pub distinct_refused : {r : Reading} → not b ≡ true → r.answer ≡ Refused shared_number → IsEmpty r.rules
-      → (f : FoundRows (words bs) end rules) → ReadAs (judge (words bs) (got f.found.trees end)) r
+-- refusals 5 and 6, and what is no refusal
+module _ (bs : List ℕ) {t end : ℕ} {rules : Rules} (k : EndAt bs t end) {a : Counters} (n : CountersAt (words bs) t a) where
+  below_is : (f : FoundRows (words bs) end rules)
+      → is_below (taken.counters_of a) f.found.trees ≡ is_below (counters_of (words bs)) f.found.trees
+  below_is f = ap (λ z. is_below z f.found.trees) (counters_same (words bs) (here bs k.place) n)
+
+  pub ids_refused : {e : Refusal}
+      → ((f : FoundRows (words bs) end rules) → Err e ≡ verdict (is_distinct f.found.trees) (is_below (taken.counters_of a) f.found.trees))
+      → (f : FoundRows (words bs) end rules) → ReadAs (judge (words bs) (got f.found.trees end)) (Err e)
   unfolding judge
-  distinct_refused h x y f = read_refused (rw (sym (d f) ∙ not-true b h, judge) refl) x y
+  ids_refused {e} d f = go (is_distinct f.found.trees) refl (is_below (counters_of (words bs)) f.found.trees) refl
+    where
+      said : Err e ≡ verdict (is_distinct f.found.trees) (is_below (counters_of (words bs)) f.found.trees)
+      said = d f ∙ ap (verdict (is_distinct f.found.trees)) (below_is f)
 
-  module _ (h : not b ≡ false) {t : ℕ} (k : EndAt bs t end) {a : Counters} (n : CountersAt (words bs) t a)
-      {c : Bool} (i : (o : FoundRules (words bs) end rules.n 0) → c ≡ is_below (taken.counters_of a) o.trees) where
-    below_is : (f : FoundRows (words bs) end rules) → is_below (counters_of (words bs)) f.found.trees ≡ c
-    below_is f = ap (λ z. is_below z f.found.trees) (sym (counters_same (words bs) (here bs k.place) n)) ∙ sym (i f.found)
+      go : (b : Bool) → is_distinct f.found.trees ≡ b → (c : Bool) → is_below (counters_of (words bs)) f.found.trees ≡ c
+          → ReadAs (judge (words bs) (got f.found.trees end)) (Err e)
+      go false y c z =
+          let w : e ≡ SharedNumber = let u = rw y at said in cc in
+          rw w (read_refused SharedNumber (rw (y, judge) refl) refl)
+      go true y false z =
+          let w : e ≡ IdPastCounter = let u = rw (y, z) at said in cc in
+          rw w (read_refused IdPastCounter (rw (y, z, judge) refl) refl)
+      go true y true z = absurd (let u = rw (y, z) at said in let o : ◌≡◌ {A = ℕ} 0 1 = cc in omega arith)
 
-    pub below_refused : {r : Reading} → not c ≡ true → r.answer ≡ Refused id_past_counter → IsEmpty r.rules
-        → (f : FoundRows (words bs) end rules) → ReadAs (judge (words bs) (got f.found.trees end)) r
-    unfolding judge
-    below_refused j x y f = read_refused (rw (sym (d f) ∙ not-false b h, below_is f ∙ not-true c j, judge) refl) x y
+  pub sheet_read : {u : Unit {0}} {w m : ℕ}
+      → ((f : FoundRows (words bs) end rules) → Ok u ≡ verdict (is_distinct f.found.trees) (is_below (taken.counters_of a) f.found.trees))
+      → w ≡ get_or (words bs) t 0 → m ≡ get_or (words bs) (t + 2) 0 → (f : FoundRows (words bs) end rules)
+      → ReadAs (judge (words bs) (got f.found.trees end))
+      (Ok (record { parts = record { kind = w; preserved = end; count = m; counters = a }; rules = rules }))
+  unfolding judge sheet_of
+  sheet_read {u} {w} {m} d p q f = go (is_distinct f.found.trees) refl (is_below (counters_of (words bs)) f.found.trees) refl
+    where
+      said : Ok u ≡ verdict (is_distinct f.found.trees) (is_below (counters_of (words bs)) f.found.trees)
+      said = d f ∙ ap (verdict (is_distinct f.found.trees)) (below_is f)
 
-    pub sheet_read : {w m : ℕ} → not c ≡ false → w ≡ get_or (words bs) t 0 → m ≡ get_or (words bs) (t + 2) 0
-        → (f : FoundRows (words bs) end rules)
-        → ReadAs (judge (words bs) (got f.found.trees end))
-        (record { answer = Sheet (record { kind = w; preserved = end; count = m; counters = a }); rules = rules })
-    unfolding judge sheet_of
-    sheet_read j p q f =
-        let s = f.found.trees in
-        let e : judge (words bs) (got s end) ≡ sheet (sheet_of (words bs) s) =
-        rw (sym (d f) ∙ not-false b h, below_is f ∙ not-false c j, judge) refl in
-        read_as (judge (words bs) (got s end)) (parts_same bs k f p q n ∙ sym (ap answer_of e)) (rw e f.rows)
+      go : (b : Bool) → is_distinct f.found.trees ≡ b → (c : Bool) → is_below (counters_of (words bs)) f.found.trees ≡ c
+          → ReadAs (judge (words bs) (got f.found.trees end))
+          (Ok (record { parts = record { kind = w; preserved = end; count = m; counters = a }; rules = rules }))
+      go false y c z = absurd (let u = rw y at said in let o : ◌≡◌ {A = ℕ} 0 1 = cc in omega arith)
+      go true y false z = absurd (let u = rw (y, z) at said in let o : ◌≡◌ {A = ℕ} 0 1 = cc in omega arith)
+      go true y true z =
+          read_sheet {s = sheet_of (words bs) f.found.trees} (rw (y, z, judge) refl) (parts_same bs k f p q n) f.rows
 
-pub ruleset judges = (distinct_refused, below_refused, sheet_read)
+pub ruleset judges = (ids_refused, sheet_read)
 
 -- what reading the rules found
 got_of : {A : Type 0} (g : Got A) → is_got g ≡ true → (a : A) × (q : ℕ) × (g ≡ got a q)
@@ -164,20 +192,28 @@ bad_of : {A : Type 0} (g : Got A) → is_got g ≡ false → g ≡ bad
 bad_of (got a q) e = absurd (let z : ◌≡◌ {A = ℕ} 0 1 = cc in omega arith)
 bad_of bad e = refl
 
+is_given : {A : Type 0} {o : Option A} {a : A} → Ok a ≡ ok_or o BadRecord → o ≡ Some a
+is_given {o = Some b} e = cc
+is_given {o = None} e = absurd (let z : ◌≡◌ {A = ℕ} 0 1 = cc in omega arith)
+
+not_given : {A : Type 0} {o : Option A} {x : Refusal} → Err x ≡ ok_or o BadRecord → (o ≡ None) × (x ≡ BadRecord)
+not_given {o = Some b} e = absurd (let z : ◌≡◌ {A = ℕ} 0 1 = cc in omega arith)
+not_given {o = None} e = (refl, cc)
+
 record GotRules (ws : List ℕ) (end : ℕ) (rules : Rules) : Type 0 where
   rows : FoundRows ws end rules
   is : rules_at ws end rule_limit 0 ≡ got rows.found.trees end
 
-module _ {ws : List ℕ} {end : ℕ} {r : Rows} (f : RulesRead ws end r) where
-  rules_bad : r.good ≡ false → rules_at ws end rule_limit 0 ≡ bad
-  rules_bad e = bad_of (rules_at ws end rule_limit 0) (sym f.good ∙ e)
+module _ {ws : List ℕ} {end : ℕ} {r : Option Rules} (f : RulesRead ws end r) where
+  rules_bad : r ≡ None → rules_at ws end rule_limit 0 ≡ bad
+  rules_bad e = bad_of (rules_at ws end rule_limit 0) (sym f.good ∙ ap is_some e)
 
-  module _ (e : not r.good ≡ false) where
-    rules_got : GotRules ws end r.rules
+  module _ {rules : Rules} (e : r ≡ Some rules) where
+    rules_got : GotRules ws end rules
     rules_got =
-        let g = got_of (rules_at ws end rule_limit 0) (sym f.good ∙ not-false r.good e) in
+        let g = got_of (rules_at ws end rule_limit 0) (sym f.good ∙ ap is_some e) in
         let y = yields_got (rules_sound ws end rule_limit 0 (omega arith)) g.2 in
-        let o = f.rows g.0 g.1 g.2 in
+        let o = f.rows rules g.0 g.1 e g.2 in
         let c = o.count in
         let w = y.few in
         record {
@@ -191,19 +227,18 @@ module _ {ws : List ℕ} {end : ℕ} {r : Rows} (f : RulesRead ws end r) where
           is = g.2 ∙ ap (got g.0) y.ends;
         }
 
-    pub rows_found : FoundRows ws end r.rules
-    rows_found = rules_got.rows
+  pub rows_found : {rules : Rules} → Ok rules ≡ ok_or r BadRecord → FoundRows ws end rules
+  rows_found e = (rules_got (is_given e)).rows
 
 -- the records in front of the trailer
 module _ (bs : List ℕ) {b : Bool} (e : b ≡ is_trailer (words bs)) where
-  pub trailer_refused : {r : Reading} → not b ≡ true → r.answer ≡ Refused bad_trailer → IsEmpty r.rules
-      → ReadAs (read_words (words bs)) r
+  pub trailer_refused : b ≡ false → ReadAs (read_words (words bs)) (Err BadTrailer)
   unfolding read_words
-  trailer_refused h = read_refused (rw (sym e ∙ not-true b h, read_words) refl)
+  trailer_refused h = read_refused BadTrailer (rw (sym e ∙ h, read_words) refl) refl
 
-  module _ (h : not b ≡ false) where
+  module _ (h : b ≡ true) where
     trailer_true : is_trailer (words bs) ≡ true
-    trailer_true = sym e ∙ not-false b h
+    trailer_true = sym e ∙ h
 
     pub trailer_good : least_bytes ≤ length bs → TrailerAt bs (length bs / 4 - trailer_words)
     unfolding is_trailer
@@ -230,24 +265,27 @@ module _ (bs : List ℕ) {b : Bool} (e : b ≡ is_trailer (words bs)) where
           let n : get_or (words bs) (t + 2) 0 ≡ t - end = omega arith in
           rw end_is (rw (here bs k.place, n) refl)
 
-      module _ {r : Rows} (f : RulesRead (words bs) end r) where
-        pub rules_refused : {x : Reading} → not r.good ≡ true → x.answer ≡ Refused bad_record → IsEmpty x.rules
-            → ReadAs (read_words (words bs)) x
+      module _ {r : Option Rules} (f : RulesRead (words bs) end r) where
+        pub rules_refused : {x : Refusal} → Err x ≡ ok_or r BadRecord → ReadAs (read_words (words bs)) (Err x)
         unfolding judge
-        rules_refused g = read_refused (opened ∙ rw (rules_bad f (not-true r.good g)) refl)
+        rules_refused o =
+            let g = not_given o in rw g.1 (read_refused {n = bad_record} BadRecord (opened ∙ rw (rules_bad f g.0) refl) refl)
 
-        module _ (g : not r.good ≡ false) {c : Bool} (i : c ≡ rising (take (t - end) (drop end (words bs)))) where
-          pub rising_refused : {x : Reading} → not c ≡ true → x.answer ≡ Refused bad_record → IsEmpty x.rules
-              → ReadAs (read_words (words bs)) x
+        module _ {rules : Rules} (o : Ok rules ≡ ok_or r BadRecord) {c : Bool} (i : c ≡ rising (take (t - end) (drop end (words bs)))) where
+          g : r ≡ Some rules
+          g = is_given o
+
+          pub rising_refused : c ≡ false → ReadAs (read_words (words bs)) (Err BadRecord)
           unfolding judge
-          rising_refused j = read_refused (opened ∙ rw ((rules_got f g).is, ids_are, sym i ∙ not-true c j) refl)
+          rising_refused j =
+              read_refused BadRecord (opened ∙ rw ((rules_got f g).is, ids_are, sym i ∙ j) refl) refl
 
-          pub goes_on : {x : Reading} → not c ≡ false
-              → ((o : FoundRows (words bs) end r.rules) → ReadAs (judge (words bs) (got o.found.trees end)) x)
+          pub goes_on : {x : Result Reading Refusal} → c ≡ true
+              → ((o : FoundRows (words bs) end rules) → ReadAs (judge (words bs) (got o.found.trees end)) x)
               → ReadAs (read_words (words bs)) x
-          goes_on j o =
+          goes_on j p =
               let z : read_words (words bs) ≡ judge (words bs) (got (rules_got f g).rows.found.trees end) =
-              opened ∙ rw ((rules_got f g).is, ids_are, sym i ∙ not-false c j) refl in
-              rw z (o (rules_got f g).rows)
+              opened ∙ rw ((rules_got f g).is, ids_are, sym i ∙ j) refl in
+              rw z (p (rules_got f g).rows)
 
 pub ruleset examines = (trailer_refused, trailer_good, rules_refused, rows_found, rising_refused, goes_on)

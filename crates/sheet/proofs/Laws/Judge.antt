@@ -2,21 +2,21 @@
 use Prim.Native.Nat.{ℕ, ◌≤◌}
 use mathlib.Core.Path.{◌≡◌, refl, sym, ap, ◌∙◌}
 use mathlib.Core.List.{List}
-use mathlib.Core.Bool.{Bool, true, ◌&&◌}
+use mathlib.Core.Bool.{Bool, true, false, ◌&&◌}
 use native.Mathlib.Omega.{arith}
 use lib.ListN.{length, take, length-map}
 use lib.Seq.{take-append_seam}
-use lib.Dec.{leb}
 use Rattle.grammar.specs.Tree as tree
 use Rattle.grammar.specs.Tree.{Rule}
-use Rattle.grammar.specs.Ids.{rule_ids, rule_names, is_distinct, is_below}
+use Rattle.grammar.specs.Ids.{rule_ids, rule_names, body_ids, is_distinct, is_below}
 use Rattle.grammar.specs.Lists.{distinct}
 use Rattle.grammar.specs.Numbers.{alternative_sort, element_sort, label_sort, action_sort, predicate_sort}
 use Rattle.records.specs.declared.rules.Rules.{Rules}
-use Rattle.writing.specs.declared.counters.Counters.{Counters}
 use Rattle.ids.specs.declared.survey.Survey.{Survey}
-use Rattle.writing.specs.Taken.{counters_of}
-use Rattle.ids.specs.Survey.{RisesApart, Surveyed, SortDistinct, PartsDistinct, BodiesDistinct, BodiesBelow, all_under}
+use Rattle.std.specs.Prelude.{Ok, Err}
+use Rattle.words.specs.declared.numbers.Refusal.TheVariants.{SharedNumber, IdPastCounter}
+use Rattle.sheet.specs.Verdict.{verdict}
+use Rattle.ids.specs.Survey.{RisesApart, Surveyed, SortDistinct, BodiesDistinct, all_under}
 use Rattle.grammar.specs.Found.{FoundRules}
 use Rattle.ids.specs.Ids.{CollectedSort}
 use Rattle.records.specs.Rules.{row, FoundRows}
@@ -33,42 +33,20 @@ module _ {ws : List ℕ} {end n sort : ℕ} where
 
 pub ruleset sorts = (sort_rising, sort_parted)
 
-module _ {ws : List ℕ} {end n : ℕ} where
-  pub parts_distinct : {a b c p r : Bool} → SortDistinct ws end n label_sort a → SortDistinct ws end n action_sort b
-      → SortDistinct ws end n predicate_sort c → p ≡ (b && c) → r ≡ (a && p) → PartsDistinct ws end n r
-  parts_distinct four five six f g = record { is = λ u. g ∙ rw (f, four.is u, five.is u, six.is u) refl }
-
-  pub bodies_distinct : {a b c p r : Bool} → SortDistinct ws end n alternative_sort a → SortDistinct ws end n element_sort b
-      → PartsDistinct ws end n c → p ≡ (b && c) → r ≡ (a && p) → BodiesDistinct ws end n r
-  bodies_distinct two three rest f g = record { is = λ u. g ∙ rw (f, two.is u, three.is u, rest.is u) refl }
-
-  pub bodies_below : (c : tree.Counters) {v : Survey} {r : Bool} → Surveyed ws end n v → r ≡ all_under v c → BodiesBelow ws end n c r
-  unfolding is_below
-  bodies_below c {v} s e =
-      record {
-        is =
-            λ f. e
-            ∙ sym
-            (rw (
-              s.alternative_under.under f c.alternative,
-              s.element_under.under f c.element,
-              s.label_under.under f c.label,
-              s.action_under.under f c.action,
-              s.predicate_under.under f c.predicate,
-            )
-            refl);
-      }
-
-pub ruleset bodies = (parts_distinct, bodies_distinct, bodies_below)
-
-pub all_under_lem : (v : Survey) (x : Counters) {a b c d e p q s r : Bool} → a ≡ leb v.alternative.top x.alternative
-    → b ≡ leb v.element.top x.element → c ≡ leb v.label.top x.label → d ≡ leb v.action.top x.action
-    → e ≡ leb v.predicate.top x.predicate
-    → p ≡ (d && e) → q ≡ (c && p) → s ≡ (b && q) → r ≡ (a && s) → r ≡ all_under v (counters_of x)
-all_under_lem v x f g h i j k l m n = n ∙ rw (m, l, k, f, g, h, i, j) refl
-
-pub both_are : (x y : Bool) {a b r : Bool} → a ≡ x → b ≡ y → r ≡ (a && b) → r ≡ (x && y)
-both_are x y e f g = g ∙ rw (e, f) refl
+all_below : {ws : List ℕ} {end n : ℕ} (c : tree.Counters) {v : Survey} {r : Bool} → Surveyed ws end n v → r ≡ all_under v c
+    → (f : FoundRules ws end n 0) → r ≡ is_below c f.trees
+unfolding is_below
+all_below c s e f =
+    e
+    ∙ sym
+    (rw (
+      s.alternative_under.under f c.alternative,
+      s.element_under.under f c.element,
+      s.label_under.under f c.label,
+      s.action_under.under f c.action,
+      s.predicate_under.under f c.predicate,
+    )
+    refl)
 
 -- the rows of the rules read
 row_front : (xs : List ℕ) (n : ℕ) → n ≡ length xs → take n (row xs) ≡ xs
@@ -80,6 +58,14 @@ ids_front rs {n = n} e f = rw e (row_front (rule_ids rs) n (f ∙ sym (length-ma
 
 pub names_front : (rs : List Rule) {names : List ℕ} {n : ℕ} → names ≡ row (rule_names rs) → n ≡ length rs → take n names ≡ rule_names rs
 names_front rs {n = n} e f = rw e (row_front (rule_names rs) n (f ∙ sym (length-map rs _)))
+
+-- the tests of the bodies
+abbrev bodies : {ws : List ℕ} {end : ℕ} {rules : Rules} → FoundRows ws end rules → Bool
+bodies f =
+    distinct (body_ids alternative_sort f.found.trees)
+    && (distinct (body_ids element_sort f.found.trees)
+    && (distinct (body_ids label_sort f.found.trees)
+    && (distinct (body_ids action_sort f.found.trees) && distinct (body_ids predicate_sort f.found.trees))))
 
 module _ {ws : List ℕ} {end : ℕ} {rules : Rules} (f : FoundRows ws end rules) where
   pub ids_long : rules.n ≤ length rules.ids
@@ -96,18 +82,44 @@ module _ {ws : List ℕ} {end : ℕ} {rules : Rules} (f : FoundRows ws end rules
       let h = f.few in
       rw f.rows.names (let l = row_long (rule_names f.found.trees) (omega arith) in omega arith)
 
-  pub all_distinct : {a c r : Bool} → a ≡ (distinct (take rules.n rules.ids) && distinct (take rules.n rules.names))
-      → BodiesDistinct ws end rules.n c → r ≡ (a && c) → r ≡ is_distinct f.found.trees
-  unfolding is_distinct
-  all_distinct x z h =
-      let i = ids_front f.found.trees f.rows.ids f.rows.count in
-      let n = names_front f.found.trees f.rows.names f.rows.count in
-      h ∙ rw (x, i, n, z.is f.found) (and_assoc (distinct (rule_ids f.found.trees)) (distinct (rule_names f.found.trees)) _)
+  module _ {a : Bool} (x : a ≡ (distinct (take rules.n rules.ids) && distinct (take rules.n rules.names))) where
+    rows_are : a ≡ (distinct (rule_ids f.found.trees) && distinct (rule_names f.found.trees))
+    rows_are =
+        x ∙ rw (ids_front f.found.trees f.rows.ids f.rows.count, names_front f.found.trees f.rows.names f.rows.count) refl
 
-pub all_below : {ws : List ℕ} {end n : ℕ} {c : tree.Counters} {r : Bool} → BodiesBelow ws end n c r
-    → (f : FoundRules ws end n 0) → r ≡ is_below c f.trees
-all_below b f = b.is f
+    rows_shared : a ≡ false → false ≡ is_distinct f.found.trees
+    unfolding is_distinct
+    rows_shared h =
+        ap (λ b. b && bodies f) (sym h ∙ rows_are)
+        ∙ and_assoc (distinct (rule_ids f.found.trees)) (distinct (rule_names f.found.trees)) (bodies f)
+
+    all_distinct : {c : Bool} → a ≡ true → BodiesDistinct ws end rules.n c → c ≡ is_distinct f.found.trees
+    unfolding is_distinct
+    all_distinct h z =
+        z.is f.found
+        ∙ ap (λ b. b && bodies f) (sym h ∙ rows_are)
+        ∙ and_assoc (distinct (rule_ids f.found.trees)) (distinct (rule_names f.found.trees)) (bodies f)
+
+-- the verdict
+module _ {ws : List ℕ} {end : ℕ} {rules : Rules} (c : tree.Counters) {a : Bool}
+    (x : a ≡ (distinct (take rules.n rules.ids) && distinct (take rules.n rules.names))) where
+  pub rows_refused : a ≡ false → (f : FoundRows ws end rules) → Err SharedNumber ≡ verdict (is_distinct f.found.trees) (is_below c f.found.trees)
+  rows_refused h f = rw (sym (rows_shared f x h)) refl
+
+  module _ (h : a ≡ true) {b : Bool} (y : BodiesDistinct ws end rules.n b) where
+    pub bodies_refused : b ≡ false → (f : FoundRows ws end rules)
+        → Err SharedNumber ≡ verdict (is_distinct f.found.trees) (is_below c f.found.trees)
+    bodies_refused k f = rw (sym (all_distinct f x h y) ∙ k) refl
+
+    module _ (k : b ≡ true) {v : Survey} (s : Surveyed ws end rules.n v) {d : Bool} (z : d ≡ all_under v c) where
+      pub below_refused : d ≡ false → (f : FoundRows ws end rules)
+          → Err IdPastCounter ≡ verdict (is_distinct f.found.trees) (is_below c f.found.trees)
+      below_refused l f = rw (sym (all_distinct f x h y) ∙ k, sym (all_below c s z f.found) ∙ l) refl
+
+      pub all_good : d ≡ true → (f : FoundRows ws end rules)
+          → Ok tt ≡ verdict (is_distinct f.found.trees) (is_below c f.found.trees)
+      all_good l f = rw (sym (all_distinct f x h y) ∙ k, sym (all_below c s z f.found) ∙ l) refl
 
 pub ruleset rows = (ids_long, names_long)
 
-pub ruleset verdicts = (all_distinct, all_below)
+pub ruleset verdicts = (rows_refused, bodies_refused, below_refused, all_good)

@@ -2,17 +2,18 @@
 use Prim.Native.Nat.{ℕ, ◌%◌, ◌<◌, ◌≤◌}
 use mathlib.Core.Path.{◌≡◌, refl, sym, ap, ◌∙◌}
 use mathlib.Core.List.{List}
-use mathlib.Core.Bool.{Bool, true, false, not}
+use mathlib.Core.Bool.{Bool, true, false}
 use lib.ListN.{length, replicate}
 use lib.Dec.{leb, eqb}
-use borrow.Author.Tests.{le-leb, lt-leb, leb-true, not-true, not-false}
-use Rattle.grammar.specs.Numbers.{least_bytes, most_bytes, work_bytes, bad_length, short_buffer}
+use borrow.Author.Tests.{le-leb, lt-leb, leb-true}
+use Rattle.grammar.specs.Numbers.{least_bytes, most_bytes, work_bytes}
 use Rattle.grammar.specs.Words.{words}
 use Rattle.grammar.specs.Reading.{read_words, read, is_length}
 use Rattle.grammar.specs.Laws.Parse.{left_true, right_true}
-use Rattle.sheet.specs.declared.answer.Answer.TheVariants.{Refused}
+use Rattle.std.specs.Prelude.{Result, Err}
+use Rattle.words.specs.declared.numbers.Refusal.{Refusal}
+use Rattle.words.specs.declared.numbers.Refusal.TheVariants.{BadLength, ShortBuffer}
 use Rattle.sheet.specs.declared.answer.Reading.{Reading}
-use Rattle.records.specs.Rules.{IsEmpty}
 use Rattle.sheet.specs.Answer.{ReadAs, read_lent, work_after, Lent}
 use Rattle.sheet.proofs.Laws.Answer.{read_refused}
 
@@ -38,35 +39,34 @@ lent_all bs work e h =
     }
 
 module _ (bs work : List ℕ) {b : Bool} (e : b ≡ is_length (length bs)) where
-  module _ (h : not b ≡ true) where
+  module _ (h : b ≡ false) where
     length_false : is_length (length bs) ≡ false
-    length_false = sym e ∙ not-true b h
+    length_false = sym e ∙ h
 
-    pub length_refused : {r : Reading} → r.answer ≡ Refused bad_length → IsEmpty r.rules → ReadAs (read_lent bs work) r
+    pub length_refused : ReadAs (read_lent bs work) (Err BadLength)
     unfolding read_lent
-    length_refused = read_refused (rw (length_false, read_lent) refl)
+    length_refused = read_refused BadLength (rw (length_false, read_lent) refl) refl
 
     pub length_after : work ≡ work_after bs work
     unfolding work_after
     length_after = rw (length_false, work_after) refl
 
-  module _ (h : not b ≡ false) where
+  module _ (h : b ≡ true) where
     length_true : is_length (length bs) ≡ true
-    length_true = sym e ∙ not-false b h
+    length_true = sym e ∙ h
 
     pub lent : work_bytes ≤ length work → Lent bs work
     lent = lent_all bs work length_true
 
-    pub work_refused : {r : Reading} → length work < work_bytes → r.answer ≡ Refused short_buffer → IsEmpty r.rules
-        → ReadAs (read_lent bs work) r
+    pub work_refused : length work < work_bytes → ReadAs (read_lent bs work) (Err ShortBuffer)
     unfolding read_lent
-    work_refused g = read_refused (rw (length_true, lt-leb work_bytes (length work) g, read_lent) refl)
+    work_refused g = read_refused ShortBuffer (rw (length_true, lt-leb work_bytes (length work) g, read_lent) refl) refl
 
     pub work_after_lem : length work < work_bytes → work ≡ work_after bs work
     unfolding work_after
     work_after_lem g = rw (length_true, lt-leb work_bytes (length work) g, work_after) refl
 
-    pub examined : {r : Reading} → work_bytes ≤ length work → ReadAs (read_words (words bs)) r → ReadAs (read_lent bs work) r
+    pub examined : {r : Result Reading Refusal} → work_bytes ≤ length work → ReadAs (read_words (words bs)) r → ReadAs (read_lent bs work) r
     unfolding read_lent read
     examined g a = rw (length_true, le-leb work_bytes (length work) g, read_lent) (rw (length_true, read) a)
 

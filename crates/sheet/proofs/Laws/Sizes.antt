@@ -19,18 +19,18 @@ use Rattle.grammar.specs.Laws.Stands.{stands_self, stands_split, stands_length, 
 use Rattle.grammar.specs.Laws.Whole as Whole
 use Rattle.grammar.specs.Laws.Whole.{words_sound, reads_sheet, parts_valid}
 use Rattle.sheet.specs.declared.answer.Parts.{Parts}
-use Rattle.sheet.specs.declared.answer.Answer.TheVariants.{Refused, Sheet}
+use Rattle.std.specs.Prelude.{Ok, Err}
+use Rattle.words.specs.declared.numbers.Refusal.{Refusal}
+use Rattle.words.specs.Refusal.{refusal_number}
 use Rattle.grammar.specs.Found.{FoundRules, RulesSpan}
 use Rattle.ids.specs.declared.survey.Survey.{Survey}
 use Rattle.ids.specs.Survey.{Surveyed}
 use Rattle.sheet.specs.declared.answer.Reading.{Reading}
-use Rattle.sheet.specs.declared.counts.Summary.{Summary}
 use Rattle.sheet.specs.declared.counts.Sizes.{Sizes}
-use Rattle.sheet.specs.declared.counts.Summary.TheVariants as summary-of
 use Rattle.records.specs.Rules.{RowsOf}
-use Rattle.sheet.specs.Answer.{answer_of, parts_of, number_in, read_lent, work_after, ReadAs, RowsIn, Lent}
-use Rattle.sheet.specs.Sizes.{Standing, Counted, sizes_of, summary_of, numbers_from, numbers_of, ids_of, names_of, places_of}
-use Rattle.sheet.specs.Sizes.{number_of, values_of, values_in, SummedAs}
+use Rattle.sheet.specs.Answer.{answer_of, parts_of, read_lent, work_after, ReadAs, Lent}
+use Rattle.sheet.specs.Sizes.{Standing, Counted, sizes_of, numbers_from, numbers_of, ids_of, names_of, places_of}
+use Rattle.sheet.specs.Sizes.{values_of, SummedAs}
 use Rattle.sheet.specs.Read.{WasRead}
 use Rattle.sheet.proofs.Laws.Lent.{lent_all}
 
@@ -113,49 +113,46 @@ record WasSheet (g : reading.Reading) (p : Parts) : Type 0 where
   is : g ≡ sheet tree
   parts : p ≡ parts_of tree
 
-was_sheet : (g : reading.Reading) (p : Parts) → answer_of g ≡ Sheet p → WasSheet g p
+was_sheet : (g : reading.Reading) (p : Parts) → answer_of g ≡ Ok p → WasSheet g p
 was_sheet (refused n) p e = absurd (let z : ◌≡◌ {A = ℕ} 0 1 = cc in omega arith)
 was_sheet (sheet s) p e = record { tree = s; is = refl; parts = cc }
 
-was_refused : (g : reading.Reading) (n : ℕ) → answer_of g ≡ Refused n → g ≡ refused n
+was_refused : (g : reading.Reading) (n : ℕ) → answer_of g ≡ Err n → g ≡ refused n
 was_refused (refused m) n e = let z : m ≡ n = cc in ap refused z
 was_refused (sheet s) n e = absurd (let z : ◌≡◌ {A = ℕ} 0 1 = cc in omega arith)
 
--- the number and the sizes go with the summary
-summed_as : (g : reading.Reading) {r : Summary} → r ≡ summary_of g → SummedAs g r
-summed_as g e = record { summary = e; number = ap number_of e ∙ number_same g; values = ap values_of e ∙ values_same g }
-  where
-    number_same : (g : reading.Reading) → number_of (summary_of g) ≡ number_in g
-    number_same (refused n) = refl
-    number_same (sheet s) = refl
-
-    values_same : (g : reading.Reading) → values_of (summary_of g) ≡ values_in g
-    values_same (refused n) = refl
-    values_same (sheet s) = refl
-
 -- a refusal
-module _ (bs work : List ℕ) {r : Reading} (a : ReadAs (read_lent bs work) r) {n : ℕ} (e : r.answer ≡ Refused n) where
-  pub is_refused : read_lent bs work ≡ refused n
-  is_refused = was_refused (read_lent bs work) n (sym a.answer ∙ e)
+module _ (bs work : List ℕ) {e : Refusal} (a : ReadAs (read_lent bs work) (Err e)) where
+  pub is_refused : read_lent bs work ≡ refused (refusal_number e)
+  is_refused = was_refused (read_lent bs work) (refusal_number e) (sym a.answer)
 
-  pub summary_refused : SummedAs (read_lent bs work) (summary-of.Refused n)
-  summary_refused = summed_as (read_lent bs work) (sym (ap summary_of is_refused))
+  pub summary_refused : SummedAs (read_lent bs work) (Err e)
+  summary_refused = rw is_refused (record { summary = refl; number = refl; values = refl })
 
-  pub numbers_refused : {ns : List ℕ} → ns ≡ n ∷ replicate 11 0 → ns ≡ numbers_of (read_lent bs work)
-  numbers_refused f = f ∙ sym (ap numbers_of is_refused)
+  pub numbers_refused : {n : ℕ} {ns : List ℕ} → n ≡ refusal_number e → ns ≡ n ∷ replicate 11 0 → ns ≡ numbers_of (read_lent bs work)
+  numbers_refused k f = f ∙ ap (λ n. n ∷ replicate 11 0) k ∙ sym (ap numbers_of is_refused)
+
+  pub ids_refused : replicate rule_limit 0 ≡ ids_of (read_lent bs work)
+  ids_refused = sym (ap ids_of is_refused)
+
+  pub names_refused : replicate rule_limit 0 ≡ names_of (read_lent bs work)
+  names_refused = sym (ap names_of is_refused)
+
+  pub places_refused : replicate rule_limit 0 ≡ places_of (read_lent bs work)
+  places_refused = sym (ap places_of is_refused)
 
 -- a sheet that was read, as its walks need it
-module _ (bs work : List ℕ) {r : Reading} (a : ReadAs (read_lent bs work) r) {p : Parts} (e : r.answer ≡ Sheet p) where
-  was : WasSheet (read_lent bs work) p
-  was = was_sheet (read_lent bs work) p (sym a.answer ∙ e)
+module _ (bs work : List ℕ) {x : Reading} (a : ReadAs (read_lent bs work) (Ok x)) where
+  was : WasSheet (read_lent bs work) x.parts
+  was = was_sheet (read_lent bs work) x.parts (sym a.answer)
 
-  rows_of : RowsOf was.tree.rules r.rules
-  rows_of = rw was.is at a.rows
+  rows_of : RowsOf was.tree.rules x.rules
+  rows_of = a.rows was.tree x was.is refl
 
-  found_rules : FoundRules (words bs) p.preserved r.rules.n 0
+  found_rules : FoundRules (words bs) x.parts.preserved x.rules.n 0
   found_rules =
       let g = good bs work was.tree was.is in
-      let k : p.preserved ≡ length (encode_rules was.tree.rules) = ap (λ q. q.preserved) was.parts in
+      let k : x.parts.preserved ≡ length (encode_rules was.tree.rules) = ap (λ q. q.preserved) was.parts in
       record {
         trees = was.tree.rules;
         next = g.0.next;
@@ -163,19 +160,19 @@ module _ (bs work : List ℕ) {r : Reading} (a : ReadAs (read_lent bs work) r) {
         count = sym rows_of.count;
       }
 
-  pub standing : Standing bs p.preserved r.rules.n
+  pub standing : Standing bs x.parts.preserved x.rules.n
   standing =
       let g = good bs work was.tree was.is in
-      let k : p.preserved ≡ length (encode_rules was.tree.rules) = ap (λ q. q.preserved) was.parts in
+      let k : x.parts.preserved ≡ length (encode_rules was.tree.rules) = ap (λ q. q.preserved) was.parts in
       let y = g.0.room in
       let z = g.1.most in
       record { room = record { trailer = omega arith; low = omega arith }; found = found_rules }
 
-  pub was_read : WasRead bs work p.preserved r.rules
+  pub was_read : WasRead bs work x.parts.preserved x.rules
   unfolding found_rules work_after
   was_read =
       let g = good bs work was.tree was.is in
-      let k : p.preserved ≡ length (encode_rules was.tree.rules) = ap (λ q. q.preserved) was.parts in
+      let k : x.parts.preserved ≡ length (encode_rules was.tree.rules) = ap (λ q. q.preserved) was.parts in
       let few : length was.tree.rules ≤ rule_limit = leb-true (length was.tree.rules) rule_limit g.0.parts.few in
       let count = rows_of.count in
       record {
@@ -190,7 +187,7 @@ module _ (bs work : List ℕ) {r : Reading} (a : ReadAs (read_lent bs work) r) {
       }
 
   module _ {z : Sizes}
-      (c : (f : FoundRules (words bs) p.preserved r.rules.n 0) → Counted f.trees r.rules.n p.count z) where
+      (c : (f : FoundRules (words bs) x.parts.preserved x.rules.n 0) → Counted f.trees x.rules.n x.parts.count z) where
     sizes_are : z ≡ sizes_of was.tree
     unfolding found_rules
     sizes_are i =
@@ -202,35 +199,22 @@ module _ (bs work : List ℕ) {r : Reading} (a : ReadAs (read_lent bs work) r) {
           preserved = (o.kept ∙ ap (λ q. q.count) was.parts) i;
         }
 
-    pub summary_sheet : SummedAs (read_lent bs work) (summary-of.Sheet z)
-    summary_sheet = summed_as (read_lent bs work) (ap summary-of.Sheet sizes_are ∙ sym (ap summary_of was.is))
+    pub summary_sheet : SummedAs (read_lent bs work) (Ok z)
+    summary_sheet =
+        rw was.is (record { summary = ap Ok sizes_are; number = refl; values = ap (λ y. values_of (Ok y)) sizes_are })
 
-    pub numbers_sheet : {ns : List ℕ} → ns ≡ numbers_from p z → ns ≡ numbers_of (read_lent bs work)
+    pub numbers_sheet : {ns : List ℕ} → ns ≡ numbers_from x.parts z → ns ≡ numbers_of (read_lent bs work)
     numbers_sheet f = f ∙ ap₂ numbers_from was.parts sizes_are ∙ sym (ap numbers_of was.is)
 
--- the rows
-module _ {g : reading.Reading} {r : Reading} (a : ReadAs g r) where
-  pub ids_out : r.rules.ids ≡ ids_of g
-  ids_out = go g a.rows
-    where
-      go : (g : reading.Reading) → RowsIn g r.rules → r.rules.ids ≡ ids_of g
-      go (refused n) o = o.ids
-      go (sheet s) o = o.ids
+  pub ids_sheet : x.rules.ids ≡ ids_of (read_lent bs work)
+  ids_sheet = rows_of.ids ∙ sym (ap ids_of was.is)
 
-  pub names_out : r.rules.names ≡ names_of g
-  names_out = go g a.rows
-    where
-      go : (g : reading.Reading) → RowsIn g r.rules → r.rules.names ≡ names_of g
-      go (refused n) o = o.names
-      go (sheet s) o = o.names
+  pub names_sheet : x.rules.names ≡ names_of (read_lent bs work)
+  names_sheet = rows_of.names ∙ sym (ap names_of was.is)
 
-  pub places_out : r.rules.places ≡ places_of g
-  places_out = go g a.rows
-    where
-      go : (g : reading.Reading) → RowsIn g r.rules → r.rules.places ≡ places_of g
-      go (refused n) o = o.places
-      go (sheet s) o = o.places
+  pub places_sheet : x.rules.places ≡ places_of (read_lent bs work)
+  places_sheet = rows_of.places ∙ sym (ap places_of was.is)
 
 pub ruleset summaries = (summary_refused, numbers_refused, standing, summary_sheet, numbers_sheet)
 
-pub ruleset rows_out = (ids_out, names_out, places_out)
+pub ruleset rows_out = (ids_refused, names_refused, places_refused, ids_sheet, names_sheet, places_sheet)

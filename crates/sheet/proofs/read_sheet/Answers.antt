@@ -1,11 +1,14 @@
-use Rattle.std.proofs.Common.{rules}
 use Rattle.sheet.proofs.read_sheet.Goals as goal
-use Rattle.sheet.proofs.Laws.Sizes.{rows_out, summaries}
+use Rattle.sheet.proofs.Laws.Sizes.{standing, numbers_sheet, names_sheet, places_sheet}
 
--- src/lib.rt:83:17
 pub counted-sizes-requires : goal.counted-sizes-requires
-counted-sizes-requires c = search (rules, rows_out, summaries)
+counted-sizes-requires c = standing _ _ c.in-Ok.ensures.read_as
 
--- src/lib.rt:53:1
-pub returns-in-Sheet-clause-numbers_after : goal.returns-in-Sheet-clause-numbers_after
-returns-in-Sheet-clause-numbers_after c = search (rules, rows_out, summaries)
+pub returns-in-Ok-clause-numbers_after : goal.returns-in-Ok-clause-numbers_after
+returns-in-Ok-clause-numbers_after c = numbers_sheet _ _ c.in-Ok.ensures.read_as c.counted-sizes.ensures c.sheet_numbers.ensures
+
+pub returns-in-Ok-clause-names_after : goal.returns-in-Ok-clause-names_after
+returns-in-Ok-clause-names_after c = names_sheet _ _ c.in-Ok.ensures.read_as
+
+pub returns-in-Ok-clause-places_after : goal.returns-in-Ok-clause-places_after
+returns-in-Ok-clause-places_after c = places_sheet _ _ c.in-Ok.ensures.read_as

@@ -1,27 +1,29 @@
 use Rattle.std.proofs.Common.{rules}
+use Rattle.std.proofs.lemmas.Result.{err_from_is_err_and}
 use Rattle.sheet.proofs.answer.examine.Goals as goal
-use Rattle.sheet.proofs.Laws.Answer.{examines}
+use Rattle.sheet.proofs.Laws.Answer.{examines, rules_refused, rising_refused, rows_found, goes_on}
 
--- src/answer.rt:137:9
 pub returns-then-not-is_trailer-clause-read_as : goal.returns-then-not-is_trailer-clause-read_as
 returns-then-not-is_trailer-clause-read_as c = search (rules, examines)
 
--- src/answer.rt:139:9
 pub rules_end-end-requires : goal.rules_end-end-requires
 rules_end-end-requires c = search (rules, examines)
 
--- src/answer.rt:144:9
-pub returns-then-not-good-clause-read_as : goal.returns-then-not-good-clause-read_as
-returns-then-not-good-clause-read_as c = search (rules, examines)
+pub returns-in_err-rules-clause-read_as : goal.returns-in_err-rules-clause-read_as
+returns-in_err-rules-clause-read_as c =
+    let p = err_from_is_err_and c.from_residual.result c.from_residual.ensures.1 in
+    rw (p.1, p.2)
+    (rules_refused _ c.is_trailer.ensures c.if-not-is_trailer.false c.rules_end-end.ensures c.read_rules.ensures c.in_err-rules.ensures.value)
 
--- src/answer.rt:147:9
 pub returns-then-not-is_rising-clause-read_as : goal.returns-then-not-is_rising-clause-read_as
-returns-then-not-is_rising-clause-read_as c = search (rules, examines)
+returns-then-not-is_rising-clause-read_as c =
+    rising_refused _ c.is_trailer.ensures c.if-not-is_trailer.false c.rules_end-end.ensures c.read_rules.ensures c.in_ok-rules.ensures.value
+    c.is_rising.ensures c.if-not-is_rising.true
 
--- src/answer.rt:149:5
 pub judged-requires-clause-found_rows : goal.judged-requires-clause-found_rows
-judged-requires-clause-found_rows c = search (rules, examines)
+judged-requires-clause-found_rows c = rows_found c.read_rules.ensures c.in_ok-rules.ensures.value
 
--- src/answer.rt:130:1
 pub returns-clause-read_as : goal.returns-clause-read_as
-returns-clause-read_as c = search (rules, examines)
+returns-clause-read_as c =
+    goes_on _ c.is_trailer.ensures c.if-not-is_trailer.false c.rules_end-end.ensures c.read_rules.ensures c.in_ok-rules.ensures.value
+    c.is_rising.ensures c.if-not-is_rising.false c.judged.ensures

@@ -1,15 +1,11 @@
-use Rattle.std.proofs.Common.{rules}
+use Rattle.std.proofs.lemmas.Result.{err_from_is_err_and}
 use Rattle.sheet.proofs.answer.judged.Goals as goal
-use Rattle.sheet.proofs.Laws.Answer.{judges}
+use Rattle.sheet.proofs.Laws.Answer.{ids_refused, sheet_read}
 
--- src/answer.rt:112:9
-pub returns-then-not-verdict : goal.returns-then-not-verdict
-returns-then-not-verdict c = search (rules, judges)
+pub returns-in_err-judge : goal.returns-in_err-judge
+returns-in_err-judge c =
+    let p = err_from_is_err_and c.from_residual.result c.from_residual.ensures.1 in
+    rw (p.1, p.2) (ids_refused _ c.requires.lent.1 c.counters_at-counters.ensures c.in_err-judge.ensures)
 
--- src/answer.rt:115:9
-pub returns-then-not-verdict-2 : goal.returns-then-not-verdict-2
-returns-then-not-verdict-2 c = search (rules, judges)
-
--- src/answer.rt:103:1
 pub returns : goal.returns
-returns c = search (rules, judges)
+returns c = sheet_read _ c.requires.lent.1 c.counters_at-counters.ensures c.in_ok-judge.ensures c.word.ensures c.word-2.ensures
