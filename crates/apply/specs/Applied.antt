@@ -1,5 +1,5 @@
 -- A plan applied to the sheet that stands in the result, against the definition (SPECIFICATION 4.8, 4.9 and 11).
-use Rattle.std.specs.Prelude.{ℕ, ◌+◌, ◌*◌, ◌≤◌, ◌≡◌, List, true, false, length}
+use Rattle.std.specs.Prelude.{ℕ, ◌+◌, ◌*◌, ◌≤◌, ◌≡◌, List, true, false, length, Result, IfOk}
 use Rattle.grammar.specs.Numbers.{trailer_words, most_words, result_bytes, trail_bytes, work_bytes}
 use Rattle.grammar.specs.Tree.{Rule, Sheet, inner_depth}
 use Rattle.grammar.specs.Words.{words}
@@ -17,7 +17,9 @@ use Rattle.records.specs.Rules.{RowsOf}
 use Rattle.records.specs.declared.rules.Rules.{Rules}
 use Rattle.plan.specs.declared.plan.Plan.{Plan}
 use Rattle.plan.specs.Decision.{PlanAs}
+use Rattle.words.specs.declared.numbers.Refusal.{Refusal}
 use Rattle.apply.specs.Held.{Held}
+use Rattle.apply.specs.Judged.{number_in}
 use Rattle.apply.specs.declared.apply.Applied.{Applied}
 
 -- The buffers are long enough (SPECIFICATION 4.2).
@@ -42,9 +44,9 @@ abbrev pub after_of : {result work : List ℕ} {end to : ℕ} {rules : Rules} {p
     → Fresh (List Rule)
 after_of x counters = apply_plan inner_depth x.sheet.rules x.plan (counters_of counters)
 
-module _ (kind : ℕ) (preserved : List ℕ) (after : Fresh (List Rule)) (recorded : ℕ) (result trail trail' : List ℕ) (r : Applied) where
+module _ (kind : ℕ) (preserved : List ℕ) (after : Fresh (List Rule)) (recorded : ℕ) (result trail trail' : List ℕ) where
   -- The new sheet in the result, with its rules and counters, and its entries behind those that were recorded.
-  pub record Done : Type 0 where
+  pub record Done (r : Applied) : Type 0 where
     pub held : Held result (sheet_with kind preserved after) r.end r.to
     pub rows : RowsOf after.node r.rules
     pub counters_are : counters_of r.counters ≡ after.counters
@@ -52,13 +54,13 @@ module _ (kind : ℕ) (preserved : List ℕ) (after : Fresh (List Rule)) (record
     pub entries : r.entries ≡ recorded + length after.entries
     pub room : 4 * (entry_words * r.entries) ≤ length trail
 
-  pub record AppliedAs : Type 0 where
-    pub number : r.number ≡ refusal_of kind preserved after recorded
-    pub done : r.number ≡ 0 → Done
+  pub record AppliedAs (r : Result Applied Refusal) : Type 0 where
+    pub number : number_in r ≡ refusal_of kind preserved after recorded
+    pub done : IfOk r Done
 
 -- So it is for every such sheet and plan.
 pub record AppliedOf (result work : List ℕ) (end to : ℕ) (rules : Rules) (counters : Counters) (p : Plan) (recorded : ℕ)
-    (result' trail trail' : List ℕ) (r : Applied) : Type 0 where
+    (result' trail trail' : List ℕ) (r : Result Applied Refusal) : Type 0 where
   pub is : (x : Applicable result work end to rules p)
       → AppliedAs x.sheet.kind x.sheet.preserved (after_of x counters) recorded result' trail trail' r
 

@@ -1,5 +1,5 @@
 -- Whether a plan may be applied, by its sizes (SPECIFICATION 4.8 and 4.9).
-use Rattle.std.specs.Prelude.{ℕ, ◌+◌, ◌≡◌, Bool, true, false, ◌&&◌, leb}
+use Rattle.std.specs.Prelude.{ℕ, ◌+◌, ◌≡◌, Bool, true, false, ◌&&◌, leb, Result, Ok, Err}
 use Rattle.grammar.specs.Tree.{Counters}
 use Rattle.grammar.specs.Numbers.{counter_past_end, result_too_long}
 use Rattle.reference.specs.Numbers.{most_entries}
@@ -7,6 +7,13 @@ use Rattle.reference.specs.Run.{are_words}
 use Rattle.sizes.specs.Sized.{tally_of}
 use Rattle.sizes.specs.Tally.{behind, ids_in}
 use Rattle.sizes.specs.declared.sums.Measure.{Measure}
+use Rattle.words.specs.Refusal.{refusal_number}
+use Rattle.words.specs.declared.numbers.Refusal.{Refusal}
+
+-- The number of a refusal; 0 is none.
+abbrev pub number_in : {A : Type 0} → Result A Refusal → ℕ
+number_in (Ok x) = 0
+number_in (Err e) = refusal_number e
 
 -- The refusal, or 0: of the counters behind, the words of the new sheet and its room, and all entries then.
 unfoldable pub verdict_on : Counters → (words room entries : ℕ) → ℕ
@@ -24,5 +31,5 @@ verdict c m words room recorded = verdict_on (behind c (tally_of m)) words room 
 pub record AllLast (c : Counters) (m : Measure) (r : Bool) : Type 0 where
   pub is : r ≡ are_words (behind c (tally_of m))
 
-pub record Judged (c : Counters) (m : Measure) (words room recorded r : ℕ) : Type 0 where
-  pub is : r ≡ verdict c m words room recorded
+pub record Judged (c : Counters) (m : Measure) (words room recorded : ℕ) (r : Result (Unit {0}) Refusal) : Type 0 where
+  pub is : number_in r ≡ verdict c m words room recorded

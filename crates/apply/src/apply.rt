@@ -17,15 +17,13 @@ use plan::plan::Plan;
 use records::rules::Rules;
 use sizes::measure::measure;
 use sizes::sums::Measure;
-use words::numbers::Sheet;
+use words::numbers::{Refusal, Sheet};
 use writing::copy::copy_words;
 use writing::counters::Counters;
 
-// A refusal's number, or 0; then the rules and counters of the new sheet, where its rules and its preserved ids end, in words, and
-// how many entries the trail has.
+// The rules and counters of the new sheet, where its rules and its preserved ids end, in words, and how many entries the trail has.
 #[derive(Clone, Copy)]
 pub struct Applied {
-    pub number: u32,
     pub rules: Rules,
     pub counters: Counters,
     pub end: usize,
@@ -85,7 +83,7 @@ fn put(
     requires words_after { WordsAfter res.old work.old end to rules p n
         × EntriesAfter res.old work.old end to rules p recorded entries }
     ensures applied_of { AppliedOf res.old work.old end to rules counters p recorded
-        res.new trail.old trail.new result }
+        res.new trail.old trail.new (Ok result) }
     ensures res_len_unchanged { (length res.new ≡ length res.old)
         × (length trail.new ≡ length trail.old) × (length work.new ≡ length work.old) }
 {
@@ -100,7 +98,6 @@ fn put(
     let left = k.rules;
     let behind = k.pen.counters;
     Applied {
-        number: 0,
         rules: left,
         counters: behind,
         end: k.end,
@@ -122,7 +119,7 @@ pub fn apply(
     recorded: usize,
     room: usize,
     p: Plan,
-) -> Applied
+) -> Result<Applied, Refusal>
     requires buffers { Buffers res.old trail.old work.old × (recorded ≤ most_entries) × (room ≡ most_words) }
     requires applicable { Applicable res.old work.old end to rules p }
     ensures applied_of { AppliedOf res.old work.old end to rules counters p recorded
@@ -133,19 +130,9 @@ pub fn apply(
     let l = p.l;
     let m = measure(res, end, work, l);
     let n = words_after(res, end, to, rules, p, work, m);
-    let number = judge(counters, m, n, room, recorded);
-    if number != 0 {
-        return Applied {
-            number,
-            rules,
-            counters,
-            end,
-            to,
-            entries: recorded,
-        };
-    }
+    judge(counters, m, n, room, recorded)?;
     let entries = recorded + ids_in(m) + 1;
-    put(
+    Ok(put(
         res, trail, work, end, to, rules, counters, recorded, p, n, entries,
-    )
+    ))
 }

@@ -1,5 +1,5 @@
 // Whether a plan may be applied (SPECIFICATION 4.8, then 4.9): counters, then words and entries.
-ghost use Rattle.std.specs.Prelude.{◌≡◌, ◌&&◌, ◌+◌, ◌<◌, ◌≤◌, ◌^◌, ltb};
+ghost use Rattle.std.specs.Prelude.{◌≡◌, ◌+◌, ◌≤◌, ◌^◌, ltb};
 ghost use Rattle.reference.specs.Numbers.{counter_end, most_entries};
 ghost use Rattle.sizes.specs.Sized.{tally_of, Under};
 ghost use Rattle.sizes.specs.Tally.{ids_in};
@@ -7,6 +7,7 @@ ghost use Rattle.writing.specs.Taken.{counters_of};
 ghost use Rattle.apply.specs.Judged.{AllLast, Judged};
 
 use sizes::sums::Measure;
+use words::numbers::Refusal;
 use writing::counters::Counters;
 
 // What refusals 8 and 9 exclude.
@@ -21,36 +22,12 @@ impl Limit {
     pub const ENTRIES: usize = 4096;
 }
 
-// Why a run stops.
-#[derive(Drop)]
-pub struct Stop;
-
-impl Stop {
-    pub const PLAN_TOO_LARGE: u32 = 7;
-
-    pub const COUNTER_PAST_END: u32 = 8;
-
-    pub const RESULT_TOO_LONG: u32 = 9;
-}
-
-fn wide(x: u32) -> usize
-    ensures { (result ≡ x) × (result < 2 ^ 32) }
-{
-    x as usize
-}
-
 // Whether a counter stays below its end.
 fn lasts(counter: u32, more: usize) -> bool
     requires { more ≤ 2 ^ 27 }
     ensures { result ≡ ltb (counter + more) counter_end }
 {
-    wide(counter) + more < Limit::COUNTER
-}
-
-fn both(a: bool, b: bool) -> bool
-    ensures { result ≡ (a && b) }
-{
-    a && b
+    counter as usize + more < Limit::COUNTER
 }
 
 // Whether all do.
@@ -58,12 +35,11 @@ fn all_last(c: Counters, m: Measure) -> bool
     requires { Under m (2 ^ 27) }
     ensures { AllLast (counters_of c) m result }
 {
-    let a = lasts(c.alternative, m.alternatives);
-    let e = lasts(c.element, m.elements);
-    let l = lasts(c.label, m.labels);
-    let n = lasts(c.action, m.actions);
-    let p = lasts(c.predicate, m.predicates);
-    both(a, both(e, both(l, both(n, p))))
+    lasts(c.alternative, m.alternatives)
+        & lasts(c.element, m.elements)
+        & lasts(c.label, m.labels)
+        & lasts(c.action, m.actions)
+        & lasts(c.predicate, m.predicates)
 }
 
 // How many fresh ids there are.
@@ -74,19 +50,25 @@ pub fn ids_in(m: Measure) -> usize
     m.alternatives + m.elements + m.labels + m.actions + m.predicates
 }
 
-// 8, 9 or 0: of the counters, of the words that the new sheet has and may have, and of the entries recorded already.
-pub fn judge(c: Counters, m: Measure, words: usize, room: usize, recorded: usize) -> u32
+// Refusal 8 or 9, or none: of the counters, of the words that the new sheet has and may have, and of the entries recorded already.
+pub fn judge(
+    c: Counters,
+    m: Measure,
+    words: usize,
+    room: usize,
+    recorded: usize,
+) -> Result<(), Refusal>
     requires { Under m (2 ^ 27) × (recorded ≤ most_entries) }
     ensures { Judged (counters_of c) m words room recorded result }
 {
     if !all_last(c, m) {
-        return Stop::COUNTER_PAST_END;
+        return Err(Refusal::CounterPastEnd);
     }
     if room < words {
-        return Stop::RESULT_TOO_LONG;
+        return Err(Refusal::ResultTooLong);
     }
     if Limit::ENTRIES < recorded + ids_in(m) + 1 {
-        return Stop::RESULT_TOO_LONG;
+        return Err(Refusal::ResultTooLong);
     }
-    0
+    Ok(())
 }

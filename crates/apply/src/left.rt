@@ -23,13 +23,11 @@ pub fn words_left(
     ensures { LeftTake (words s.now) end rules row from until result × (result ≤ 2 ^ 20) }
 {
     let places = rules.places;
-    let mut i = from;
     let mut total: usize = 0;
-    while i < until {
+    for i in from..until {
         if !has(row, i) {
             total += rule_end(&places, rules.n as usize, i, end) - index(places[i]);
         }
-        i += 1;
     }
     total
 }

@@ -2,4 +2,3 @@
 pub mod Bytes
 pub mod Read
 pub mod Outcome
-pub mod Told

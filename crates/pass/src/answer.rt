@@ -2,8 +2,10 @@
 ghost use Rattle.std.specs.Prelude.{◌≡◌};
 ghost use Rattle.pass.specs.Handed.{numbers};
 
+use words::numbers::Refusal;
+
 // Plans and steps, and how many bytes of the result and of the trail are taken.
-#[derive(Clone, Copy)]
+#[derive(Clone, Copy, Debug, PartialEq, Eq)]
 pub struct Totals {
     pub plans: u32,
     pub steps: u32,
@@ -11,18 +13,12 @@ pub struct Totals {
     pub trail: u32,
 }
 
-#[derive(Clone, Copy)]
-pub enum Answer {
-    Refused(u32),
-    Joined(Totals),
-}
-
 // An answer in numbers.
-pub fn told(a: Answer) -> [u32; 5]
-    ensures { result ≡ numbers a }
+pub fn told(answer: Result<Totals, Refusal>) -> [u32; 5]
+    ensures { result ≡ numbers answer }
 {
-    match a {
-        Answer::Refused(number) => [number, 0, 0, 0, 0],
-        Answer::Joined(t) => [0, t.plans, t.steps, t.result, t.trail],
+    match answer {
+        Err(refusal) => [u32::from(refusal), 0, 0, 0, 0],
+        Ok(t) => [0, t.plans, t.steps, t.result, t.trail],
     }
 }

@@ -3,13 +3,12 @@ ghost use Rattle.std.specs.Prelude.{◌≡◌, length};
 ghost use Rattle.grammar.specs.Laws.Words.{AreBytes};
 ghost use Rattle.pass.specs.Handed.{Lent, Answered, WasSheet};
 
-use records::rules::Rules;
 use run::state::{Ended, Trail};
 use run::unit::run_unit;
+use sheet::Reading;
 use sheet::answer::examine;
-use sheet::{Answer, Parts};
 use turns::state::Limits;
-use words::numbers::{Sheet, UnitKind};
+use words::numbers::{Refusal, Sheet, UnitKind};
 use writing::copy::copy_words;
 
 // A sheet that was read is copied to the result, and the run of a parser's unit is made there; other units come back as they are.
@@ -19,24 +18,24 @@ fn deliver_sheet(
     trail: &mut [u8],
     work: &mut [u8],
     past: bool,
-    rules: Rules,
-    parts: Parts,
-) -> Ended
-    requires { Lent sheet.now res.old trail.old work.old × AreBytes sheet.now × WasSheet sheet.now rules parts }
+    read: Reading,
+) -> Result<Ended, Refusal>
+    requires { Lent sheet.now res.old trail.old work.old × AreBytes sheet.now × WasSheet sheet.now read }
     ensures answered { Answered past sheet.now res.new trail.new result }
     ensures res_len_unchanged { (length res.new ≡ length res.old)
         × (length trail.new ≡ length trail.old) × (length work.new ≡ length work.old) }
 {
+    let rules = read.rules;
+    let parts = read.parts;
     let n = sheet.len() / 4;
     copy_words(sheet, 0, res, 0, n);
     if parts.kind != UnitKind::PARSER {
-        return Ended {
-            number: 0,
+        return Ok(Ended {
             plans: 0,
             steps: 0,
             words: n,
             entries: 0,
-        };
+        });
     }
     let end = parts.preserved as usize;
     let to = end + parts.count as usize;
@@ -58,23 +57,20 @@ fn deliver_sheet(
     )
 }
 
-pub fn deliver(sheet: &[u8], res: &mut [u8], trail: &mut [u8], work: &mut [u8], past: bool) -> Ended
+// The answer to all lent: the reader first, which alone refuses a sheet that is no tree. Each item of result and trail is a byte.
+pub fn deliver(
+    sheet: &[u8],
+    res: &mut [u8],
+    trail: &mut [u8],
+    work: &mut [u8],
+    past: bool,
+) -> Result<Ended, Refusal>
     requires { Lent sheet.now res.old trail.old work.old × AreBytes sheet.now }
     ensures answered { Answered past sheet.now res.new trail.new result }
+    ensures are_bytes { AreBytes res.new × AreBytes trail.new }
     ensures res_len_unchanged { (length res.new ≡ length res.old)
         × (length trail.new ≡ length trail.old) × (length work.new ≡ length work.old) }
 {
-    let r = examine(sheet, work);
-    let rules = r.rules;
-    let answer = r.answer;
-    match answer {
-        Answer::Refused(number) => Ended {
-            number,
-            plans: 0,
-            steps: 0,
-            words: 0,
-            entries: 0,
-        },
-        Answer::Sheet(parts) => deliver_sheet(sheet, res, trail, work, past, rules, parts),
-    }
+    let read = examine(sheet, work)?;
+    deliver_sheet(sheet, res, trail, work, past, read)
 }

@@ -5,12 +5,12 @@ ghost use Rattle.grammar.specs.Laws.Words.{AreBytes};
 ghost use Rattle.analysis.specs.Survey.{reading};
 ghost use Rattle.pass.specs.Handed.{ClearedFrom, Handed, Lent};
 
-use crate::answer::{Answer, Totals};
-use crate::clearing::{clear_from, first_byte};
+use crate::answer::Totals;
+use crate::clearing::clear_from;
 use crate::deliver::deliver;
 use crate::lent::are_lent;
 use sheet::answer::is_length;
-use words::numbers::OldRefusal;
+use words::numbers::Refusal;
 
 // The bytes of a word, and of an entry.
 #[derive(Drop)]
@@ -36,46 +36,63 @@ fn wipe(res: &mut [u8], trail: &mut [u8], work: &mut [u8], at: usize, to: usize)
 // The answer to a sheet of good length, with zeros behind what the buffers hold. Not to be inlined: where a function tests its
 // arguments in front of a large frame, LLVM's stack probe overwrites a register that still holds one of them.
 #[inline(never)]
-fn hand(sheet: &[u8], res: &mut [u8], trail: &mut [u8], work: &mut [u8], past: bool) -> Answer
+fn hand(
+    sheet: &[u8],
+    res: &mut [u8],
+    trail: &mut [u8],
+    work: &mut [u8],
+    past: bool,
+) -> Result<Totals, Refusal>
     requires { Lent sheet.now res.old trail.old work.old × AreBytes sheet.now }
     ensures { Handed (reading past) sheet.now res.old trail.old work.old result
         res.new trail.new work.new }
 {
-    let e = deliver(sheet, res, trail, work, past);
-    if e.number != 0 {
-        wipe(res, trail, work, 0, 0);
-        return Answer::Refused(e.number);
+    match deliver(sheet, res, trail, work, past) {
+        Err(refusal) => {
+            wipe(res, trail, work, 0, 0);
+            Err(refusal)
+        }
+        Ok(e) => {
+            let at = Bytes::WORD * e.words;
+            let to = Bytes::ENTRY * e.entries;
+            wipe(res, trail, work, at, to);
+            Ok(Totals {
+                plans: e.plans,
+                steps: e.steps,
+                result: at as u32,
+                trail: to as u32,
+            })
+        }
     }
-    first_byte(res);
-    first_byte(trail);
-    let at = Bytes::WORD * e.words;
-    let to = Bytes::ENTRY * e.entries;
-    wipe(res, trail, work, at, to);
-    Answer::Joined(Totals {
-        plans: e.plans,
-        steps: e.steps,
-        result: at as u32,
-        trail: to as u32,
-    })
 }
 
 // Lengths first: under refusals 1 and 2 nothing is touched.
-fn call(sheet: &[u8], res: &mut [u8], trail: &mut [u8], work: &mut [u8], past: bool) -> Answer
+fn call(
+    sheet: &[u8],
+    res: &mut [u8],
+    trail: &mut [u8],
+    work: &mut [u8],
+    past: bool,
+) -> Result<Totals, Refusal>
     ensures { Handed (reading past) sheet.now res.old trail.old work.old result
         res.new trail.new work.new }
 {
-    first_byte(sheet);
     if !is_length(sheet.len()) {
-        return Answer::Refused(OldRefusal::BAD_LENGTH);
+        return Err(Refusal::BadLength);
     }
     if !are_lent(res.len(), trail.len(), work.len()) {
-        return Answer::Refused(OldRefusal::SHORT_BUFFER);
+        return Err(Refusal::ShortBuffer);
     }
     hand(sheet, res, trail, work, past)
 }
 
 // The pass by the original's reading of left corners.
-pub fn pass(sheet: &[u8], res: &mut [u8], trail: &mut [u8], work: &mut [u8]) -> Answer
+pub fn pass(
+    sheet: &[u8],
+    res: &mut [u8],
+    trail: &mut [u8],
+    work: &mut [u8],
+) -> Result<Totals, Refusal>
     ensures { Handed rust sheet.now res.old trail.old work.old result
         res.new trail.new work.new }
 {
@@ -83,7 +100,12 @@ pub fn pass(sheet: &[u8], res: &mut [u8], trail: &mut [u8], work: &mut [u8]) -> 
 }
 
 // The pass by the textbook's reading.
-pub fn pass_textbook(sheet: &[u8], res: &mut [u8], trail: &mut [u8], work: &mut [u8]) -> Answer
+pub fn pass_textbook(
+    sheet: &[u8],
+    res: &mut [u8],
+    trail: &mut [u8],
+    work: &mut [u8],
+) -> Result<Totals, Refusal>
     ensures { Handed textbook sheet.now res.old trail.old work.old result
         res.new trail.new work.new }
 {

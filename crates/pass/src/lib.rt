@@ -1,4 +1,4 @@
-// The pass over one sheet (SPECIFICATION 1): the entries, as functions with an enum for an answer, and for callers in other languages.
+// The pass over one sheet (SPECIFICATION 1): the entries, as functions with a Result for an answer, and for callers in other languages.
 #![tactic(auto)]
 
 mod answer;
@@ -10,8 +10,8 @@ mod lent;
 ghost use Rattle.grammar.specs.Corners.{rust, textbook};
 ghost use Rattle.pass.specs.Handed.{HandedOver};
 
+pub use answer::Totals;
 use answer::told;
-pub use answer::{Answer, Totals};
 
 // The pass by the original's reading of left corners. The numbers are the refusal's or 0, plans, steps, and the bytes of result and
 // trail.

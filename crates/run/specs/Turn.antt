@@ -1,5 +1,5 @@
 -- One turn of the loop over plans (SPECIFICATION 5.2): one plan more, or the run is over.
-use Rattle.std.specs.Prelude.{ℕ, suc, ◌+◌, ◌<◌, ◌≤◌, ◌^◌, ◌≡◌, List, [], ◌∷◌, Bool, true, false, length}
+use Rattle.std.specs.Prelude.{ℕ, suc, ◌+◌, ◌<◌, ◌≤◌, ◌^◌, ◌≡◌, List, [], ◌∷◌, Bool, length, Option, Some, None, Result, Ok, Err, IfOk, MatchResult}
 use Rattle.grammar.specs.Numbers.{trailer_words}
 use Rattle.grammar.specs.Tree.{Sheet, inner_depth}
 use Rattle.grammar.specs.Words.{words}
@@ -15,9 +15,9 @@ use Rattle.plan.specs.Decision.{PlanAs}
 use Rattle.apply.specs.declared.apply.Applied.{Applied}
 use Rattle.renew.specs.Renewed.{RenewedOf}
 use Rattle.renew.specs.declared.renew.Renewed.{Renewed}
+use Rattle.words.specs.declared.numbers.Refusal.{Refusal}
 use Rattle.run.specs.declared.state.State.{State}
 use Rattle.run.specs.declared.state.Ended.{Ended}
-use Rattle.run.specs.declared.turn.Turn.{Turn}
 use Rattle.run.specs.Ended.{Short, AnswerIs}
 use Rattle.run.specs.Midst.{Begun, Midst}
 
@@ -25,9 +25,9 @@ use Rattle.run.specs.Midst.{Begun, Midst}
 pub record Small (limits : Limits) : Type 0 where
   pub floor : limits.floor ≤ 2 ^ 24
 
--- Where a run is over: the number, and what the state has.
-abbrev pub ended_with : ℕ → State → Ended
-ended_with number st = record { number = number; plans = st.plans; steps = st.steps; words = st.to + trailer_words; entries = st.entries }
+-- Where a run is over: what the state has.
+abbrev pub ended_with : State → Ended
+ended_with st = record { plans = st.plans; steps = st.steps; words = st.to + trailer_words; entries = st.entries }
 
 -- The state behind a plan that was applied.
 abbrev pub behind_plan : State → Applied → Plan → Renewed → State
@@ -44,22 +44,27 @@ behind_plan st a p r =
       steps = st.steps + p.steps;
     }
 
+-- The run is over, with the definition's answer.
+pub record Over (limits : R.Limits) (past : Bool) (s : Sheet) (result trail : List ℕ) (r : Result Ended Refusal) : Type 0 where
+  pub short : IfOk r Short
+  pub is : AnswerIs result trail r (answer_run s (eliminate_mutual_left_recursion limits (reading past) s))
+
 module _ (limits : R.Limits) (past : Bool) (s : Sheet) (result trail : List ℕ) (calls corners : List (List ℕ)) where
   -- One plan more, and it is not the last rule's: so many plans there may be.
-  pub record OneMore (before : State) (r : Turn) : Type 0 where
-    pub midst : Midst limits past s result trail calls corners r.st
-    pub counted : r.st.plans ≡ suc before.plans
+  pub record OneMore (before next : State) : Type 0 where
+    pub short : Short (ended_with next)
+    pub midst : Midst limits past s result trail calls corners next
+    pub counted : next.plans ≡ suc before.plans
     pub few : before.plans < length s.rules
 
-  pub record TurnedTo (before : State) (r : Turn) : Type 0 where
-    pub short : Short (ended_with r.number r.st)
-    pub more : r.more ≡ true → OneMore before r
-    pub over : r.more ≡ false
-        → AnswerIs result trail (ended_with r.number r.st) (answer_run s (eliminate_mutual_left_recursion limits (reading past) s))
+  abbrev pub TurnedTo : State → Result (Option State) Refusal → Type 0
+  TurnedTo before (Ok (Some next)) = OneMore before next
+  TurnedTo before (Ok None) = Over limits past s result trail (Ok (ended_with before))
+  TurnedTo before (Err e) = Over limits past s result trail (Err e)
 
 -- So it is for every sheet handed in.
 pub record TurnedOf (limits : R.Limits) (past : Bool) (result trail : List ℕ) (calls corners : List (List ℕ)) (before : State)
-    (result' trail' : List ℕ) (calls' corners' : List (List ℕ)) (r : Turn) : Type 0 where
+    (result' trail' : List ℕ) (calls' corners' : List (List ℕ)) (r : Result (Option State) Refusal) : Type 0 where
   pub is : (s : Sheet) → Midst limits past s result trail calls corners before
       → TurnedTo limits past s result' trail' calls' corners' before r
 
@@ -81,13 +86,14 @@ module _ (limits : R.Limits) (past : Bool) (result trail work : List ℕ) (calls
     pub found : find_plan limits (reading past) sheet.preserved midst.now.rules ≡ planned cycle plan
     pub same : PlanAs (words result) st.end st.rules.ids st.rules.n work plan p
 
-  pub record AdvancedOf (result' trail' : List ℕ) (calls' corners' : List (List ℕ)) (r : Turn) : Type 0 where
-    pub is : (x : Advancing) → TurnedTo limits past x.sheet result' trail' calls' corners' st r
+  pub record AdvancedOf (result' trail' : List ℕ) (calls' corners' : List (List ℕ)) (r : Result State Refusal) : Type 0 where
+    pub is : (x : Advancing) → MatchResult r (OneMore limits past x.sheet result' trail' calls' corners' st)
+        (λ e. Over limits past x.sheet result' trail' (Err e))
 
 -- The whole run of a unit: for the sheet that stands in the result, the definition's answer.
 pub record RunOf (limits : R.Limits) (past : Bool) (result : List ℕ) (end to : ℕ) (rules : Rules) (counters : Counters)
-    (result' trail' : List ℕ) (r : Ended) : Type 0 where
-  pub short : Short r
+    (result' trail' : List ℕ) (r : Result Ended Refusal) : Type 0 where
+  pub short : IfOk r Short
   pub is : (x : Begun result end to rules counters)
       → AnswerIs result' trail' r (answer_run x.sheet (eliminate_mutual_left_recursion limits (reading past) x.sheet))
 

@@ -8,7 +8,7 @@ use records::rules::Rules;
 use writing::counters::Counters;
 
 // How many entries the trail has.
-#[derive(Clone, Copy)]
+#[derive(Clone, Copy, Debug, PartialEq, Eq)]
 pub struct Trail {
     pub entries: usize,
 }
@@ -63,10 +63,9 @@ impl State {
     }
 }
 
-// A refusal's number or 0; then plans and steps, the words of the new sheet, and the entries of the trail.
-#[derive(Clone, Copy)]
+// Plans and steps, the words of the new sheet, and the entries of the trail.
+#[derive(Clone, Copy, Debug, PartialEq, Eq)]
 pub struct Ended {
-    pub number: u32,
     pub plans: u32,
     pub steps: u32,
     pub words: usize,

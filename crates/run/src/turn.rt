@@ -11,20 +11,12 @@ ghost use Rattle.run.specs.Turn.{Small, UpToDate, Advancing, AdvancedOf, TurnedO
 
 use crate::state::State;
 use apply::apply::{Applied, apply};
-use apply::judge::Stop;
 use plan::plan::Plan;
 use plan::search::{Search, find_plan};
 use reach::rows::Row;
 use renew::renew::renew;
 use turns::state::Limits;
-
-// Whether there was one plan more; else the refusal's number, or 0 where no cycle has a plan.
-#[derive(Clone, Copy)]
-pub struct Turn {
-    pub more: bool,
-    pub number: u32,
-    pub st: State,
-}
+use words::numbers::Refusal;
 
 // What is known after a plan that was applied: the rows of the rules that stay, the hub surveyed anew, one plan more.
 fn bring_up(
@@ -85,7 +77,7 @@ fn advance(
     room: usize,
     st: State,
     p: Plan,
-) -> Turn
+) -> Result<State, Refusal>
     requires buffers { Buffers res.old trail.old work.old × Small limits × (room ≡ most_words) }
     requires calls_len { (length calls.old ≡ rule_limit) × (length corners.old ≡ rule_limit) }
     requires advancing { Advancing (limits_of limits) past res.old trail.old work.old calls.old corners.old st p }
@@ -99,23 +91,11 @@ fn advance(
     let counters = st.counters;
     let a = apply(
         res, trail, work, st.end, st.to, rules, counters, st.entries, room, p,
-    );
-    if a.number != 0 {
-        return Turn {
-            more: false,
-            number: a.number,
-            st,
-        };
-    }
-    let next = bring_up(res, work, calls, corners, past, st, a, p);
-    Turn {
-        more: true,
-        number: 0,
-        st: next,
-    }
+    )?;
+    Ok(bring_up(res, work, calls, corners, past, st, a, p))
 }
 
-// The first cycle with a plan, and the plan applied.
+// The first cycle with a plan, and the plan applied; none where no cycle has one.
 pub fn take_turn(
     res: &mut [u8],
     trail: &mut [u8],
@@ -126,7 +106,7 @@ pub fn take_turn(
     past: bool,
     room: usize,
     st: State,
-) -> Turn
+) -> Result<Option<State>, Refusal>
     requires buffers { Buffers res.old trail.old work.old × LimitsFit limits × Small limits × (room ≡ most_words) }
     requires calls_len { (length calls.old ≡ rule_limit) × (length corners.old ≡ rule_limit) }
     requires going { Going (limits_of limits) past res.old trail.old calls.old corners.old st }
@@ -144,19 +124,12 @@ pub fn take_turn(
     );
     let answer = found.answer;
     match answer {
-        Search::NoPlan => Turn {
-            more: false,
-            number: 0,
-            st,
-        },
-        Search::TooLarge => Turn {
-            more: false,
-            number: Stop::PLAN_TOO_LARGE,
-            st,
-        },
+        Search::NoPlan => Ok(None),
+        Search::TooLarge => Err(Refusal::PlanTooLarge),
         Search::Planned(f) => {
             let p = f.plan;
-            advance(res, trail, work, calls, corners, limits, past, room, st, p)
+            let next = advance(res, trail, work, calls, corners, limits, past, room, st, p)?;
+            Ok(Some(next))
         }
     }
 }

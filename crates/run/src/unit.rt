@@ -7,12 +7,12 @@ ghost use Rattle.run.specs.Midst.{Begun};
 ghost use Rattle.run.specs.Turn.{Small, RunOf};
 
 use crate::state::{Ended, State, Trail};
-use crate::turn::{Turn, take_turn};
+use crate::turn::take_turn;
 use plan::ground::find_out;
 use reach::rows::Row;
 use records::rules::Rules;
 use turns::state::Limits;
-use words::numbers::Sheet;
+use words::numbers::{Refusal, Sheet};
 use writing::counters::Counters;
 
 // The sheet stands in the result, where the new one stands then; `room` are the words that it may have, and `recorded` what the trail
@@ -29,7 +29,7 @@ pub fn run_unit(
     past: bool,
     room: usize,
     recorded: Trail,
-) -> Ended
+) -> Result<Ended, Refusal>
     requires buffers { Buffers res.old trail.old work.old × LimitsFit limits × Small limits × (room ≡ most_words)
         × (recorded.entries ≡ 0) }
     requires begun { Begun res.old end to rules counters }
@@ -43,28 +43,23 @@ pub fn run_unit(
     let marks = ground.marks;
     let kept = ground.kept;
     let mut st = State::begin(rules, marks, kept, counters, end, to, recorded);
-    loop {
-        let t = take_turn(
-            res,
-            trail,
-            work,
-            &mut calls,
-            &mut corners,
-            limits,
-            past,
-            room,
-            st,
-        );
-        let next = t.st;
-        if !t.more {
-            return Ended {
-                number: t.number,
-                plans: next.plans,
-                steps: next.steps,
-                words: next.to + Sheet::TRAILER_WORDS,
-                entries: next.entries,
-            };
-        }
+    while let Some(next) = take_turn(
+        res,
+        trail,
+        work,
+        &mut calls,
+        &mut corners,
+        limits,
+        past,
+        room,
+        st,
+    )? {
         st = next;
     }
+    Ok(Ended {
+        plans: st.plans,
+        steps: st.steps,
+        words: st.to + Sheet::TRAILER_WORDS,
+        entries: st.entries,
+    })
 }

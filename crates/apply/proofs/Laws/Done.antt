@@ -1,5 +1,6 @@
 -- A plan that is not refused: the new sheet may be composed, and stands in the result then.
 use Prim.Native.Nat.{ℕ, ◌+◌, ◌-◌, ◌*◌, ◌<◌, ◌≤◌}
+use Rattle.std.specs.Prelude.{Ok, Err}
 use mathlib.Core.Path.{◌≡◌, refl, sym, ap, ap₂, ◌∙◌, subst}
 use mathlib.Core.List.{List, [], ◌∷◌}
 use mathlib.Core.Bool.{Bool, true, false}
@@ -38,7 +39,7 @@ use Rattle.sizes.specs.declared.sums.Measure.{Measure}
 use Rattle.apply.specs.Judged.{Judged}
 use Rattle.apply.specs.Laws.Held.{encode_long, held_kind, held_preserved, held_standing}
 use Rattle.apply.specs.Applied.{Applicable, after_of, Done, AppliedOf, WordsAfter, EntriesAfter, RefusedBy}
-use Rattle.apply.specs.declared.apply.Applied.{Applied}
+use Rattle.words.specs.declared.numbers.Refusal.{Refusal}
 use Rattle.apply.proofs.Laws.Sizes.{refused_by}
 
 entries_long : (es : List Entry) → length (each encode_entry es) ≡ entry_words * length es
@@ -107,7 +108,7 @@ module _ {result work : List ℕ} {end to : ℕ} {rules : Rules} {p : Plan} (x :
           subst (λ ys. Wrote result result' 0 ys) (ap (λ j. take j (drop compose_at (words work'))) h ∙ s) u
 
       done : Done x.sheet.kind x.sheet.preserved (after_of x c) recorded result' trail trail'
-          (record { number = 0; rules = k.rules; counters = k.pen.counters; end = k.end; to = k.end + (to - end); entries = es })
+          (record { rules = k.rules; counters = k.pen.counters; end = k.end; to = k.end + (to - end); entries = es })
       unfolding applies held_standing
       done =
           let y = applies l in
@@ -162,32 +163,30 @@ module _ {result work : List ℕ} {end to : ℕ} {rules : Rules} {p : Plan} {c :
         → Wrote result result' 0 (take n (drop compose_at (words work'))) → WordsAfter result work end to rules p n
         → EntriesAfter result work end to rules p recorded es
         → AppliedOf result work end to rules c p recorded result' trail trail'
-        (record { number = 0; rules = k.rules; counters = k.pen.counters; end = k.end; to = k.end + (to - end); entries = es })
+        (Ok (record { rules = k.rules; counters = k.pen.counters; end = k.end; to = k.end + (to - end); entries = es }))
     applied_done l b o w u h i =
         record {
           is = λ x.
               record {
                 number = sym z ∙ f.is x;
-                done = λ _. done x c recorded (fine_by x) l b o w u (h.is x c) (i.is x c);
+                done = done x c recorded (fine_by x) l b o w u (h.is x c) (i.is x c);
               };
         }
 
 -- By what was judged.
-module _ {result work : List ℕ} {end to : ℕ} {rules : Rules} {p : Plan} {m : Measure} {c : Counters} {n room recorded r : ℕ}
-    (j : Judged (counters_of c) m n room recorded r) (a : WordsAfter result work end to rules p n)
+module _ {result work : List ℕ} {end to : ℕ} {rules : Rules} {p : Plan} {m : Measure} {c : Counters} {n room recorded : ℕ}
+    (a : WordsAfter result work end to rules p n)
     (w : Measured inner_depth (settled (words result) end inner_depth work p.l) m) (e : room ≡ most_words) where
-  pub judged_refused : (r ≡ 0 → ⊥) → {result' trail trail' : List ℕ} {b : Applied} → b.number ≡ r
-      → AppliedOf result work end to rules c p recorded result' trail trail' b
-  judged_refused h i =
-      let f = refused_by w a e j in
-      record { is = λ x. record { number = i ∙ f.is x; done = λ z. absurd (h (sym i ∙ z)) } }
+  pub judged_refused : {f : Refusal} → Judged (counters_of c) m n room recorded (Err f) → {result' trail trail' : List ℕ}
+      → AppliedOf result work end to rules c p recorded result' trail trail' (Err f)
+  judged_refused j = record { is = λ x. record { number = (refused_by w a e j).is x; done = tt } }
 
-  module _ (z : r ≡ 0) where
+  module _ {u : Unit {0}} (j : Judged (counters_of c) m n room recorded (Ok u)) where
     pub judged_none : RefusedBy result work end to rules p c recorded 0
-    judged_none = record { is = λ x. sym z ∙ (refused_by w a e j).is x }
+    judged_none = refused_by w a e j
 
     pub judged_few : Applicable result work end to rules p → n ≤ most_words
-    judged_few x = let i = a.is x c in let l = (fine_by (refused_by w a e j) z x).words in omega arith
+    judged_few x = let i = a.is x c in let l = (fine_by judged_none refl x).words in omega arith
 
 pub applicable_room : {result work : List ℕ} {end to : ℕ} {rules : Rules} {p : Plan} → Applicable result work end to rules p
     → Room result to

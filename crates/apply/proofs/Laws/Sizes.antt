@@ -1,5 +1,6 @@
 -- The sizes that were measured are those of what applying the plan leaves.
 use Prim.Native.Nat.{ℕ, ◌+◌, ◌-◌}
+use Rattle.std.specs.Prelude.{Result}
 use mathlib.Core.Path.{◌≡◌, sym, ap, ap₂, ◌∙◌, subst}
 use mathlib.Core.List.{List, [], ◌∷◌, ◌++◌, map, append-nil}
 use mathlib.Core.Bool.{false, not}
@@ -23,10 +24,11 @@ use Rattle.planned.specs.Layout.{settled}
 use Rattle.sizes.specs.Sized.{Measured, tally_of}
 use Rattle.sizes.specs.Tally.{behind, ids_in}
 use Rattle.sizes.specs.declared.sums.Measure.{Measure}
+use Rattle.words.specs.declared.numbers.Refusal.{Refusal}
 use Rattle.plan.specs.declared.plan.Plan.{Plan}
 use Rattle.drafts.specs.Kept.{kept_of}
 use Rattle.apply.specs.Laws.Held.{encode_long, held_standing}
-use Rattle.apply.specs.Judged.{verdict_on, verdict, Judged}
+use Rattle.apply.specs.Judged.{number_in, verdict_on, verdict, Judged}
 use Rattle.apply.specs.Left.{LeftTake}
 use Rattle.apply.specs.Applied.{Applicable, after_of, WordsAfter, EntriesAfter, RefusedBy}
 use Rattle.apply.proofs.Laws.After.{after_rules}
@@ -58,10 +60,10 @@ module _ {result work : List ℕ} {end to : ℕ} {rules : Rules} {p : Plan} {m :
   body_words_lem = ap (λ f. length (each (encode_alternative (encode_block inner_depth)) f.node)) same_list ∙ w.is.words (counters_of c)
 
   -- What was judged is the definition's refusal.
-  pub refusal_is : {n room recorded r : ℕ}
+  pub refusal_is : {n room recorded : ℕ} {r : Result (Unit {0}) Refusal}
       → n ≡ length (encode (sheet_with x.sheet.kind x.sheet.preserved (after_of x c))) → room ≡ most_words
       → Judged (counters_of c) m n room recorded r
-      → r ≡ refusal_of x.sheet.kind x.sheet.preserved (after_of x c) recorded
+      → number_in r ≡ refusal_of x.sheet.kind x.sheet.preserved (after_of x c) recorded
   unfolding refusal_of is_short verdict verdict_on
   refusal_is {n} {room} {recorded} {r} e f j =
       let es = recorded + (ids_in (tally_of m) + 1) in
@@ -120,9 +122,9 @@ words_after_lem {result} {work} {end} {to} {rules} {p} {m} {front} {rest} {n} w 
           omega arith;
     }
 
-pub refused_by : {result work : List ℕ} {end to : ℕ} {rules : Rules} {p : Plan} {m : Measure} {c : Counters} {n room recorded r : ℕ}
-    → Measured inner_depth (settled (words result) end inner_depth work p.l) m → WordsAfter result work end to rules p n
-    → room ≡ most_words → Judged (counters_of c) m n room recorded r → RefusedBy result work end to rules p c recorded r
+pub refused_by : {result work : List ℕ} {end to : ℕ} {rules : Rules} {p : Plan} {m : Measure} {c : Counters} {n room recorded : ℕ}
+    {r : Result (Unit {0}) Refusal} → Measured inner_depth (settled (words result) end inner_depth work p.l) m → WordsAfter result work end to rules p n
+    → room ≡ most_words → Judged (counters_of c) m n room recorded r → RefusedBy result work end to rules p c recorded (number_in r)
 refused_by {c = c} w a e j = record { is = λ x. refusal_is w x c (a.is x c) e j }
 
 pub entries_after : {result work : List ℕ} {end to : ℕ} {rules : Rules} {p : Plan} {m : Measure} {recorded i n : ℕ}

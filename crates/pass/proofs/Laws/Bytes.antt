@@ -1,11 +1,10 @@
 -- What stands in a buffer at exit: words from the front, zeros behind them.
 use Prim.Native.Nat.{ℕ, zero, suc, ◌-◌, ◌*◌, ◌≤◌}
 use mathlib.Core.Path.{◌≡◌, refl, sym, ap, ap₂, ◌∙◌}
-use mathlib.Core.List.{List, [], ◌∷◌, ◌++◌, append-nil}
+use mathlib.Core.List.{List, [], ◌∷◌, ◌++◌}
 use native.Mathlib.Omega.{arith}
-use lib.ListN.{length, take, drop, replicate, length-drop}
-use lib.Seq.{length-take-le, drop-length}
-use borrow.Rule.Slice.PartMut.{mid_of, put_mid}
+use lib.ListN.{length, take, replicate}
+use lib.Seq.{length-take-le}
 use Rattle.grammar.specs.Words.{words, word_of, bytes}
 use Rattle.grammar.specs.Laws.Words.{AreBytes, length_words, length_bytes, bytes_words}
 use Rattle.grammar.specs.Laws.Stands.{stands_slice, stands_length}
@@ -57,14 +56,3 @@ pub none_filled : {bs after : List ℕ} {at : ℕ} (buffer : List ℕ) → at �
 unfolding filled
 none_filled {bs} {after} {at} buffer e z l =
     let m : length bs - 0 ≡ length buffer - 0 = omega arith in z.is ∙ rw e (ap (λ k. replicate k 0) m)
-
--- The bytes from a place on are zeros now.
-pub rest_cleared : {xs ys : List ℕ} {at : ℕ} → at ≤ length xs → ys ≡ replicate (length (mid_of at (length xs - at) xs)) 0
-    → ClearedFrom xs (put_mid at (length xs - at) xs ys) at
-rest_cleared {xs} {ys} {at} h z =
-    let d = length-drop at xs in
-    let k = length xs - at in
-    let m : length (mid_of at k xs) ≡ k = length-take-le k (drop at xs) (omega arith) in
-    let n : k ≡ length (drop at xs) = omega arith in
-    let p : drop k (drop at xs) ≡ [] = rw n (drop-length (drop at xs)) in
-    record { is = ap (λ l. take at xs ++ l) (ap₂ ◌++◌ (z ∙ ap (λ i. replicate i 0) m) p ∙ append-nil (replicate k 0)) }

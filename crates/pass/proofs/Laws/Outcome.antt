@@ -1,4 +1,5 @@
 -- The returns of a call: each hands back the definition's outcome.
+use Rattle.std.specs.Prelude.{Result, Ok, Err}
 use Prim.Native.Nat.{ℕ, ◌*◌}
 use mathlib.Core.Path.{◌≡◌, refl, sym, ◌∙◌, subst}
 use mathlib.Core.List.{List}
@@ -7,41 +8,26 @@ use native.Mathlib.Omega.{arith}
 use lib.ListN.{length}
 use lib.Dec.{leb}
 use borrow.Author.Tests.{leb-true, le-leb, not-true, not-false}
-use Rattle.grammar.specs.Numbers.{bad_length, short_buffer, result_bytes, trail_bytes, work_bytes}
+use Rattle.grammar.specs.Numbers.{result_bytes, trail_bytes, work_bytes}
 use Rattle.grammar.specs.Corners.{Corners}
-use Rattle.grammar.specs.Lists.{member}
 use Rattle.grammar.specs.Reading.{is_length}
 use Rattle.grammar.specs.Laws.Words.{AreBytes}
 use Rattle.grammar.specs.Laws.Stands.{stands_length}
-use Rattle.grammar.specs.Laws.Codec.{refuses_only}
 use Rattle.reference.specs.Numbers.{entry_words}
 use Rattle.reference.specs.Substitute.{standard}
 use Rattle.reference.specs.Run as R
 use Rattle.reference.specs.Run.{Outcome, outcome, untouched, delivered, filled, refused_with, are_lent, answer_to, refusal, answer}
 use Rattle.laws.specs.Demands.Kept.{EveryCall}
-use Rattle.laws.specs.Demands.Refusals.{RefusedSo, by_reader, by_run, Stops, too_large, no_id_left, too_long}
 use Rattle.laws.specs.Proved.Kept.{every_call_lem}
-use Rattle.laws.specs.Proved.All.{theorems}
 use Rattle.run.specs.Ended.{AnswerIs}
 use Rattle.run.specs.declared.state.Ended.{Ended}
 use Rattle.apply.specs.Applied.{Buffers}
-use Rattle.pass.specs.declared.answer.Answer.{Answer}
-use Rattle.pass.specs.declared.answer.Answer.TheVariants.{Refused, Joined}
+use Rattle.pass.specs.declared.answer.Totals.{Totals}
+use Rattle.words.specs.declared.numbers.Refusal.{Refusal}
+use Rattle.words.specs.declared.numbers.Refusal.TheVariants.{BadLength, ShortBuffer}
 use Rattle.grammar.specs.Laws.Parse.{left_true, right_true}
 use Rattle.pass.specs.Handed.{outcome_of, Handed, ClearedFrom, lent_by, Lent}
 use Rattle.pass.proofs.Laws.Bytes.{front_filled, none_filled}
-
--- No refusal has the number 0.
-stops_positive : {s : _} {limits : _} {c : Corners} {stages : List R.Stage} {n : ℕ} → Stops s limits c stages n → n ≡ 0 → ⊥
-stops_positive (too_large x d) e = omega arith
-stops_positive (no_id_left x d) e = omega arith
-stops_positive (too_long x d y) e = omega arith
-
-refused_positive : {c : Corners} {bs : List ℕ} {n : ℕ} → RefusedSo standard c bs n → n ≡ 0 → ⊥
-unfolding member
-refused_positive {bs = bs} {n = n} (by_reader e) z =
-    let m = refuses_only bs n e in let k : false ≡ true = rw z at m in absurd (let u : ◌≡◌ {A = ℕ} 0 1 = cc in omega arith)
-refused_positive (by_run r k e s x) z = stops_positive x z
 
 -- The buffers, by their lengths.
 pub buffers_lent : {result trail work : List ℕ} → Buffers result trail work → are_lent result trail work ≡ true
@@ -73,7 +59,7 @@ module _ (c : Corners) (bs result trail work : List ℕ) (are : AreBytes bs) whe
   abbrev asked : Outcome
   asked = outcome standard c bs result trail work
 
-  handed : (a : Answer) (result' trail' work' : List ℕ) → outcome_of a result' trail' work' ≡ asked
+  handed : (a : Result Totals Refusal) (result' trail' work' : List ℕ) → outcome_of a result' trail' work' ≡ asked
       → Handed c bs result trail work a result' trail' work'
   handed a result' trail' work' e =
       record {
@@ -83,55 +69,54 @@ module _ (c : Corners) (bs result trail work : List ℕ) (are : AreBytes bs) whe
 
   -- Refusals 1 and 2 touch nothing.
   pub handed_length : {r : Bool} → r ≡ is_length (length bs) → not r ≡ true
-      → Handed c bs result trail work (Refused bad_length) result trail work
+      → Handed c bs result trail work (Err BadLength) result trail work
   unfolding outcome untouched
-  handed_length i n = let e = sym i ∙ not-true _ n in handed (Refused bad_length) result trail work (rw (e, outcome) refl)
+  handed_length i n = let e = sym i ∙ not-true _ n in handed (Err BadLength) result trail work (rw (e, outcome) refl)
 
   pub handed_short : {r q : Bool} → r ≡ is_length (length bs) → not r ≡ false
       → q ≡ lent_by (length result) (length trail) (length work) → not q ≡ true
-      → Handed c bs result trail work (Refused short_buffer) result trail work
+      → Handed c bs result trail work (Err ShortBuffer) result trail work
   unfolding outcome untouched are_lent
   handed_short i n j m =
       let e = sym i ∙ not-false _ n in
       let f : are_lent result trail work ≡ false = sym j ∙ not-true _ m in
-      handed (Refused short_buffer) result trail work (rw (e, f, outcome) refl)
+      handed (Err ShortBuffer) result trail work (rw (e, f, outcome) refl)
 
   module _ (l : Lent bs result trail work) where
     delivers : asked ≡ delivered result trail work (answer_to standard c bs)
     unfolding outcome
     delivers = rw (l.long, buffers_lent l.buffers, outcome) refl
 
-    module _ {result₁ trail₁ work₁ result' trail' work' : List ℕ} {r : Ended}
-        (a : AnswerIs result₁ trail₁ r (answer_to standard c bs))
-        (same_result : length result₁ ≡ length result) (same_trail : length trail₁ ≡ length trail) (same_work : length work₁ ≡ length work)
+    module _ {result₁ trail₁ work₁ result' trail' work' : List ℕ} (same_result : length result₁ ≡ length result) (same_trail : length trail₁ ≡ length trail) (same_work : length work₁ ≡ length work)
         (z : ClearedFrom work₁ work' 0) where
-      pub handed_refused : (r.number ≡ 0 → ⊥) → ClearedFrom result₁ result' 0 → ClearedFrom trail₁ trail' 0
-          → Handed c bs result trail work (Refused r.number) result' trail' work'
+      pub handed_refused : {f : Refusal} → AnswerIs result₁ trail₁ (Err f) (answer_to standard c bs)
+          → ClearedFrom result₁ result' 0 → ClearedFrom trail₁ trail' 0
+          → Handed c bs result trail work (Err f) result' trail' work'
       unfolding delivered
-      handed_refused h x y = handed (Refused r.number) result' trail' work' (go (answer_to standard c bs) refl ∙ sym delivers)
+      handed_refused {f} a x y = handed (Err f) result' trail' work' (go (answer_to standard c bs) refl ∙ sym delivers)
         where
           go : (o : R.Answer) → answer_to standard c bs ≡ o
-              → outcome_of (Refused r.number) result' trail' work' ≡ delivered result trail work (answer_to standard c bs)
+              → outcome_of (Err f) result' trail' work' ≡ delivered result trail work (answer_to standard c bs)
           go (refusal n) e =
               let k = a.refused n e in
               let u = none_filled result refl x same_result in
               let v = none_filled trail refl y same_trail in
               let w = none_filled work refl z same_work in
               rw (e, k, u, v, w, delivered) refl
-          go (answer p s ws ts) e = absurd (h (a.delivered p s ws ts e).number)
+          go (answer p s ws ts) e = absurd (a.delivered p s ws ts e)
 
       module _ (known₁ : AreBytes result₁) (known₂ : AreBytes trail₁) where
-        pub handed_joined : {at to : ℕ} → r.number ≡ 0 → ClearedFrom result₁ result' at → ClearedFrom trail₁ trail' to
+        pub handed_joined : {r : Ended} {at to : ℕ} → AnswerIs result₁ trail₁ (Ok r) (answer_to standard c bs) → ClearedFrom result₁ result' at → ClearedFrom trail₁ trail' to
             → at ≡ 4 * r.words → to ≡ 16 * r.entries
-            → Handed c bs result trail work (Joined (record { plans = r.plans; steps = r.steps; result = at; trail = to }))
+            → Handed c bs result trail work (Ok (record { plans = r.plans; steps = r.steps; result = at; trail = to }))
             result' trail' work'
         unfolding delivered
-        handed_joined {at} {to} h x y i j = handed _ result' trail' work' (go (answer_to standard c bs) refl ∙ sym delivers)
+        handed_joined {r} {at} {to} a x y i j = handed _ result' trail' work' (go (answer_to standard c bs) refl ∙ sym delivers)
           where
             go : (o : R.Answer) → answer_to standard c bs ≡ o
-                → outcome_of (Joined (record { plans = r.plans; steps = r.steps; result = at; trail = to })) result' trail' work'
+                → outcome_of (Ok (record { plans = r.plans; steps = r.steps; result = at; trail = to })) result' trail' work'
                 ≡ delivered result trail work (answer_to standard c bs)
-            go (refusal n) e = absurd (refused_positive (theorems.refused_so standard c bs are n e) (sym (a.refused n e) ∙ h))
+            go (refusal n) e = absurd (a.refused n e)
             go (answer p s ws ts) e =
                 let d = a.delivered p s ws ts e in
                 let u = front_filled result known₁ d.sheet i x same_result in

@@ -1,4 +1,5 @@
 -- From what the reader answers to the run: a refusal, a unit of another kind, or a parser's sheet in the result.
+use Rattle.std.specs.Prelude.{Result, Ok, Err}
 use Prim.Native.Nat.{ℕ, ◌+◌, ◌*◌, ◌/◌, ◌≤◌}
 use mathlib.Core.Path.{◌≡◌, refl, sym, ap, ◌∙◌, subst}
 use mathlib.Core.List.{List, []}
@@ -27,13 +28,12 @@ use Rattle.writing.specs.Laws.Wrote.{wrote_stands}
 use Rattle.writing.specs.Taken.{counters_of}
 use Rattle.writing.specs.declared.counters.Counters.{Counters}
 use Rattle.records.specs.Rules.{RowsOf}
-use Rattle.records.specs.declared.rules.Rules.{Rules}
 use Rattle.analysis.specs.Survey as survey
 use Rattle.sheet.specs.Answer as reader
-use Rattle.sheet.specs.Answer.{answer_of, parts_of, ReadAs, RowsIn}
+use Rattle.sheet.specs.Answer.{answer_of, parts_of, ReadAs}
 use Rattle.sheet.specs.declared.answer.Reading.{Reading}
-use Rattle.sheet.specs.declared.answer.Parts.{Parts}
-use Rattle.sheet.specs.declared.answer.Answer.TheVariants.{Refused, Sheet}
+use Rattle.words.specs.Refusal.{refusal_number}
+use Rattle.words.specs.declared.numbers.Refusal.{Refusal}
 use Rattle.sheet.proofs.Laws.Lent.{lent_all}
 use Rattle.apply.specs.Applied.{Buffers}
 use Rattle.apply.specs.Laws.Held.{encode_long}
@@ -45,47 +45,47 @@ use Rattle.turns.specs.Midway.{limits_of, IsStandard}
 use Rattle.turns.specs.declared.state.Limits.{Limits}
 use Rattle.pass.specs.Handed.{Answered, Lent, WasSheet}
 
-was_sheet : (g : reading.Reading) {r : Reading} {p : Parts} → ReadAs g r → r.answer ≡ Sheet p
-    → (t : tree.Sheet) × (g ≡ sheet t) × (p ≡ parts_of t) × RowsOf t.rules r.rules
-was_sheet (refused n) a e = absurd (let x = sym a.answer ∙ e in let z : ◌≡◌ {A = ℕ} 0 1 = cc in omega arith)
-was_sheet (sheet s) a e = let x = sym a.answer ∙ e in (s, refl, cc, a.rows)
+was_sheet : (g : reading.Reading) {r : Reading} → ReadAs g (Ok r)
+    → (t : tree.Sheet) × (g ≡ sheet t) × (r.parts ≡ parts_of t) × RowsOf t.rules r.rules
+was_sheet (refused n) a = absurd (let x = a.answer in let z : ◌≡◌ {A = ℕ} 0 1 = cc in omega arith)
+was_sheet (sheet s) {r} a = let x = a.answer in (s, refl, cc, a.rows s r refl refl)
 
-was_refused : (g : reading.Reading) {r : Reading} {n : ℕ} → ReadAs g r → r.answer ≡ Refused n → g ≡ refused n
-was_refused (refused m) a e = let x = sym a.answer ∙ e in ap refused cc
-was_refused (sheet s) a e = absurd (let x = sym a.answer ∙ e in let z : ◌≡◌ {A = ℕ} 0 1 = cc in omega arith)
+was_refused : (g : reading.Reading) {f : Refusal} → ReadAs g (Err f) → g ≡ refused (refusal_number f)
+was_refused (refused m) a = let x = a.answer in ap refused cc
+was_refused (sheet s) a = absurd (let x = a.answer in let z : ◌≡◌ {A = ℕ} 0 1 = cc in omega arith)
 
 read_is : (bs : List ℕ) → is_length (length bs) ≡ true → read bs ≡ read_words (words bs)
 unfolding read
 read_is bs e = rw (e, read) refl
 
-module _ (past : Bool) (bs : List ℕ) (long : is_length (length bs) ≡ true) {r : Reading} (a : ReadAs (read_words (words bs)) r) where
+module _ (past : Bool) (bs : List ℕ) (long : is_length (length bs) ≡ true) where
   -- A refusal of the reader.
-  pub answered_refused : {n : ℕ} (result trail : List ℕ) → r.answer ≡ Refused n
-      → Answered past bs result trail (record { number = n; plans = 0; steps = 0; words = 0; entries = 0 })
+  pub answered_refused : {f : Refusal} (result trail : List ℕ) → ReadAs (read_words (words bs)) (Err f)
+      → Answered past bs result trail (Err f)
   unfolding answer_to answer_reading
-  answered_refused {n} result trail e =
-      let w = read_is bs long ∙ was_refused (read_words (words bs)) a e in
-      let z : answer_to standard (survey.reading past) bs ≡ refusal n = ap (answer_reading standard (survey.reading past)) w in
+  answered_refused {f} result trail a =
+      let w = read_is bs long ∙ was_refused (read_words (words bs)) a in
+      let z : answer_to standard (survey.reading past) bs ≡ refusal (refusal_number f) = ap (answer_reading standard (survey.reading past)) w in
       record {
-        is = record { refused = λ k x. let y = sym z ∙ x in cc; delivered = λ plans steps ws ts x. absurd (never (sym z ∙ x)) };
-        short = record { words = omega arith; entries = omega arith };
+        is = record { refused = λ k x. let y = sym z ∙ x in cc; delivered = λ plans steps ws ts x. never (sym z ∙ x) };
+        short = tt;
       }
     where
       never : {n plans steps : ℕ} {ws ts : List ℕ} → refusal n ≡ answer plans steps ws ts → ⊥
       never e = let u : ◌≡◌ {A = ℕ} 0 1 = cc in omega arith
 
-  module _ {p : Parts} (e : r.answer ≡ Sheet p) where
+  module _ {r : Reading} (a : ReadAs (read_words (words bs)) (Ok r)) where
     abbrev tree_read : tree.Sheet
-    tree_read = (was_sheet (read_words (words bs)) a e).0
+    tree_read = (was_sheet (read_words (words bs)) a).0
 
     reads : read bs ≡ sheet tree_read
-    reads = read_is bs long ∙ (was_sheet (read_words (words bs)) a e).1
+    reads = read_is bs long ∙ (was_sheet (read_words (words bs)) a).1
 
-    parts : p ≡ parts_of tree_read
-    parts = (was_sheet (read_words (words bs)) a e).2
+    parts : r.parts ≡ parts_of tree_read
+    parts = (was_sheet (read_words (words bs)) a).2
 
     rows : RowsOf tree_read.rules r.rules
-    rows = (was_sheet (read_words (words bs)) a e).3
+    rows = (was_sheet (read_words (words bs)) a).3
 
     encoded : encode tree_read ≡ words bs
     encoded = is_encoding_words bs tree_read reads
@@ -118,21 +118,20 @@ module _ (past : Bool) (bs : List ℕ) (long : is_length (length bs) ≡ true) {
       sheet_room = let l = copied.long in let m = most in omega arith
 
       -- A unit of another kind.
-      pub answered_other : (trail : List ℕ) → (p.kind ≡ parser → ⊥)
-          → Answered past bs result' trail (record { number = 0; plans = 0; steps = 0; words = n; entries = 0 })
+      pub answered_other : (trail : List ℕ) → (r.parts.kind ≡ parser → ⊥)
+          → Answered past bs result' trail (Ok (record { plans = 0; steps = 0; words = n; entries = 0 }))
       answered_other trail other =
-          let k : p.kind ≡ tree_read.kind = ap (λ q. q.kind) parts in
+          let k : r.parts.kind ≡ tree_read.kind = ap (λ q. q.kind) parts in
           let z = other_answer standard (survey.reading past) bs tree_read reads (λ f. other (k ∙ f)) in
           record {
             is =
                 record {
-                  refused = λ m x. absurd (never (sym z ∙ x));
+                  refused = λ m x. never (sym z ∙ x);
                   delivered = λ plans steps ws ts x.
                       let y = sym z ∙ x in
                       let i : words bs ≡ ws = cc in
                       let j : [] ≡ ts = cc in
                       record {
-                        number = refl;
                         plans_are = cc;
                         steps_are = cc;
                         sheet = record { stands = subst (λ l. Stands (words result') n l 0 n) i sheet_stands; room = sheet_room };
@@ -145,8 +144,8 @@ module _ (past : Bool) (bs : List ℕ) (long : is_length (length bs) ≡ true) {
           never : {m : ℕ} {ws ts : List ℕ} → answer 0 0 ws ts ≡ refusal m → ⊥
           never e = let u : ◌≡◌ {A = ℕ} 0 1 = cc in omega arith
 
-      module _ (are : AreBytes bs) (kind : p.kind ≡ parser) {end to : ℕ} {counters : Counters} (ends : end ≡ p.preserved)
-          (up_to : to ≡ end + p.count) (same : counters ≡ p.counters) where
+      module _ (are : AreBytes bs) (kind : r.parts.kind ≡ parser) {end to : ℕ} {counters : Counters} (ends : end ≡ r.parts.preserved)
+          (up_to : to ≡ end + r.parts.count) (same : counters ≡ r.parts.counters) where
         -- A parser's unit stands in the result.
         pub begun : Begun result' end to r.rules counters
         begun =
@@ -155,7 +154,7 @@ module _ (past : Bool) (bs : List ℕ) (long : is_length (length bs) ≡ true) {
             let q = ap length encoded in
             let c = length_words bs in
             let x : end ≡ length (encode_rules tree_read.rules) = ends ∙ ap (λ q. q.preserved) parts in
-            let y : p.count ≡ length tree_read.preserved = ap (λ q. q.count) parts in
+            let y : r.parts.count ≡ length tree_read.preserved = ap (λ q. q.count) parts in
             let m : n ≡ to + trailer_words = omega (arith, count) in
             record {
               sheet = tree_read;
@@ -175,7 +174,7 @@ module _ (past : Bool) (bs : List ℕ) (long : is_length (length bs) ≡ true) {
               counters_are = ap counters_of (same ∙ ap (λ q. q.counters) parts);
             }
 
-        pub answered_run : {result'' trail'' : List ℕ} {e : Ended}
+        pub answered_run : {result'' trail'' : List ℕ} {e : Result Ended Refusal}
             → RunOf standard past result' end to r.rules counters result'' trail'' e → Answered past bs result'' trail'' e
         unfolding begun
         answered_run {result''} {trail''} {e} o =
@@ -185,7 +184,7 @@ module _ (past : Bool) (bs : List ℕ) (long : is_length (length bs) ≡ true) {
             }
 
 -- The same of what the reader hands over.
-module _ {bs : List ℕ} {rules : Rules} {p : Parts} (s : WasSheet bs rules p) {result trail work : List ℕ}
+module _ {bs : List ℕ} {r : Reading} (s : WasSheet bs r) {result trail work : List ℕ}
     (l : Lent bs result trail work) {result' : List ℕ} {n : ℕ} (count : n ≡ length bs / 4)
     (w : Wrote result result' 0 (take n (drop 0 (words bs)))) where
   abbrev long : is_length (length bs) ≡ true
@@ -194,23 +193,20 @@ module _ {bs : List ℕ} {rules : Rules} {p : Parts} (s : WasSheet bs rules p) {
   abbrev room : result_bytes ≤ length result
   room = l.buffers.for_result
 
-  pub sheet_other : (past : Bool) (trail' : List ℕ) → (p.kind ≡ parser → ⊥)
-      → Answered past bs result' trail' (record { number = 0; plans = 0; steps = 0; words = n; entries = 0 })
-  sheet_other past = answered_other past bs long s.found s.parts_are count room w
+  pub sheet_other : (past : Bool) (trail' : List ℕ) → (r.parts.kind ≡ parser → ⊥)
+      → Answered past bs result' trail' (Ok (record { plans = 0; steps = 0; words = n; entries = 0 }))
+  sheet_other past = answered_other past bs long s.found count room w
 
-  module _ (are : AreBytes bs) (kind : p.kind ≡ parser) {end to : ℕ} {counters : Counters} (ends : end ≡ p.preserved)
-      (up_to : to ≡ end + p.count) (same : counters ≡ p.counters) where
-    pub sheet_begun : Begun result' end to rules counters
-    sheet_begun =
-        subst (λ rs. Begun result' end to rs counters) (sym s.rules_are)
-        (begun true bs long s.found s.parts_are count room w are kind ends up_to same)
+  module _ (are : AreBytes bs) (kind : r.parts.kind ≡ parser) {end to : ℕ} {counters : Counters} (ends : end ≡ r.parts.preserved)
+      (up_to : to ≡ end + r.parts.count) (same : counters ≡ r.parts.counters) where
+    pub sheet_begun : Begun result' end to r.rules counters
+    sheet_begun = begun true bs long s.found count room w are kind ends up_to same
 
-    pub sheet_run : {limits : Limits} {past : Bool} {result'' trail'' : List ℕ} {e : Ended} → IsStandard limits
-        → RunOf (limits_of limits) past result' end to rules counters result'' trail'' e → Answered past bs result'' trail'' e
+    pub sheet_run : {limits : Limits} {past : Bool} {result'' trail'' : List ℕ} {e : Result Ended Refusal} → IsStandard limits
+        → RunOf (limits_of limits) past result' end to r.rules counters result'' trail'' e → Answered past bs result'' trail'' e
     sheet_run {limits} {past} {result''} {trail''} {e} i o =
-        answered_run past bs long s.found s.parts_are count room w are kind ends up_to same
-        (subst (λ rs. RunOf standard past result' end to rs counters result'' trail'' e) s.rules_are
-        (subst (λ l. RunOf l past result' end to rules counters result'' trail'' e) i.is o))
+        answered_run past bs long s.found count room w are kind ends up_to same
+        (subst (λ l. RunOf l past result' end to r.rules counters result'' trail'' e) i.is o)
 
 pub lent_most : {bs result trail work : List ℕ} → Lent bs result trail work → length bs ≤ most_bytes
 lent_most {bs} l =
@@ -224,8 +220,8 @@ lent_room l e = let m = lent_most l in let r = l.buffers.for_result in omega ari
 pub lent_reader : {bs result trail work : List ℕ} → Lent bs result trail work → reader.Lent bs work
 lent_reader {bs} {result} {trail} {work} l = lent_all bs work l.long l.buffers.for_work
 
-pub was_read : {bs : List ℕ} {r : Reading} {p : Parts} → ReadAs (read_words (words bs)) r → r.answer ≡ Sheet p → WasSheet bs r.rules p
-was_read {bs} {r} a e = record { reading = r; found = a; rules_are = refl; parts_are = e }
+pub was_read : {bs : List ℕ} {r : Reading} → ReadAs (read_words (words bs)) (Ok r) → WasSheet bs r
+was_read a = record { found = a }
 
 -- The buffers stay long enough behind the reader, and behind the copy.
 pub lent_read : {bs result trail work work' : List ℕ} → Lent bs result trail work → length work' ≡ length work → Lent bs result trail work'

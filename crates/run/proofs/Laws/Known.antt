@@ -41,8 +41,8 @@ module _ {limits : R.Limits} {past : Bool} {s : Sheet} {result trail : List ℕ}
   pub midst_short : st.to + trailer_words ≤ most_words
   midst_short = let e = held_long m.held in let l = so_far.words in omega arith
 
-  pub midst_ended : (n : ℕ) → Short (ended_with n st)
-  midst_ended n = record { words = midst_short; entries = let e = m.entries in let l = so_far.entries in omega arith }
+  pub midst_ended : Short (ended_with st)
+  midst_ended = record { words = midst_short; entries = let e = m.entries in let l = so_far.entries in omega arith }
 
   pub midst_room : Room result st.end
   midst_room = held_room m.held midst_short

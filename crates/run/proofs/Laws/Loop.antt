@@ -1,14 +1,12 @@
 -- The loop over plans: what holds at each turn, and what the turns make of it.
-use Prim.Native.Nat.{ℕ, suc, ◌+◌, ◌-◌, ◌<◌}
+use Rattle.std.specs.Prelude.{Some, None, Result, Ok, Err}
+use Prim.Native.Nat.{ℕ, suc, ◌-◌, ◌<◌}
 use mathlib.Core.Path.{◌≡◌, refl, sym, subst}
 use mathlib.Core.List.{List}
-use mathlib.Core.Bool.{Bool, true, false, not}
+use mathlib.Core.Bool.{Bool}
 use native.Mathlib.Omega.{arith}
-use borrow.Author.Tests.{not-true, not-false}
-use mir.Syntax.{w64}
-use mir.Val.{Fits}
 use lib.ListN.{length}
-use Rattle.grammar.specs.Numbers.{trailer_words, most_words, rule_limit}
+use Rattle.grammar.specs.Numbers.{most_words, rule_limit}
 use Rattle.grammar.specs.Words.{words}
 use Rattle.writing.specs.declared.counters.Counters.{Counters}
 use Rattle.records.specs.declared.rules.Rules.{Rules}
@@ -21,10 +19,10 @@ use Rattle.plan.specs.Ground.{KeptOf}
 use Rattle.apply.specs.Applied.{Buffers}
 use Rattle.run.specs.declared.state.State.{State}
 use Rattle.run.specs.declared.state.Ended.{Ended}
-use Rattle.run.specs.declared.turn.Turn.{Turn}
+use Rattle.words.specs.declared.numbers.Refusal.{Refusal}
 use Rattle.run.specs.Midst.{at_start, Begun, Going}
 use Rattle.run.specs.Turn.{Small, ended_with, TurnedOf, RunOf, Onward}
-use Rattle.run.proofs.Laws.Start.{onward_begin, onward_going, onward_more, onward_falls, onward_short, onward_over}
+use Rattle.run.proofs.Laws.Start.{onward_begin, onward_going, onward_more, onward_falls, onward_over, onward_refused}
 
 -- Buffers of the same lengths serve as well.
 pub buffers_same : {result trail work result' trail' work' : List ℕ} → Buffers result trail work → length result' ≡ length result
@@ -73,42 +71,44 @@ module _ {lim : Limits} {past : Bool} {room : ℕ} {result₀ : List ℕ} {end t
 
   module _ {result trail work : List ℕ} {calls corners : List (List ℕ)} {st : State}
       (l : Looping lim past room result₀ end to rules counters result trail work calls corners st) where
-    module _ {result' trail' : List ℕ} {calls' corners' : List (List ℕ)} {r : Turn}
-        (t : TurnedOf (limits_of lim) past result trail calls corners st result' trail' calls' corners' r) where
-      pub looping_more : {work' : List ℕ} → not r.more ≡ false
-          → length result' ≡ length result → length trail' ≡ length trail → length work' ≡ length work
-          → length calls' ≡ rule_limit → length corners' ≡ rule_limit
-          → Looping lim past room result₀ end to rules counters result' trail' work' calls' corners' r.st
-      looping_more e i j k lc lo =
-          let o = onward_more l.onward t (not-false _ e) in
-          record {
-            lent = buffers_same l.lent i j k;
-            fit = l.fit;
-            small = l.small;
-            most = l.most;
-            calls_long = lc;
-            corners_long = lo;
-            begun = l.begun;
-            going = onward_going o l.begun;
-            onward = o;
-          }
+    module _ {result' trail' : List ℕ} {calls' corners' : List (List ℕ)} where
+      module _ {next : State}
+          (t : TurnedOf (limits_of lim) past result trail calls corners st result' trail' calls' corners' (Ok (Some next))) where
+        pub looping_more : {work' : List ℕ} → length result' ≡ length result → length trail' ≡ length trail → length work' ≡ length work
+            → length calls' ≡ rule_limit → length corners' ≡ rule_limit
+            → Looping lim past room result₀ end to rules counters result' trail' work' calls' corners' next
+        looping_more i j k lc lo =
+            let o = onward_more l.onward t in
+            record {
+              lent = buffers_same l.lent i j k;
+              fit = l.fit;
+              small = l.small;
+              most = l.most;
+              calls_long = lc;
+              corners_long = lo;
+              begun = l.begun;
+              going = onward_going o l.begun;
+              onward = o;
+            }
 
-      -- The measure: one rule more is a hub.
-      pub looping_falls : not r.more ≡ false → suc rules.n - r.st.plans < suc rules.n - st.plans
-      looping_falls e = onward_falls l.onward t l.begun (not-false _ e)
+        -- The measure: one rule more is a hub.
+        pub looping_falls : suc rules.n - next.plans < suc rules.n - st.plans
+        looping_falls = onward_falls l.onward t l.begun
 
-      pub looping_fits : Fits w64 (r.st.to + trailer_words)
-      looping_fits = let s = onward_short l.onward t l.begun in record { fits = omega arith }
+      module _ (t : TurnedOf (limits_of lim) past result trail calls corners st result' trail' calls' corners' (Ok None)) where
+        pub looping_over : RunOf (limits_of lim) past result₀ end to rules counters result' trail' (Ok (ended_with st))
+        looping_over = onward_over l.onward t l.begun
 
-      pub looping_over : not r.more ≡ true
-          → RunOf (limits_of lim) past result₀ end to rules counters result' trail' (ended_with r.number r.st)
-      looping_over e = onward_over l.onward t l.begun (not-true _ e)
+      pub looping_refused : {f : Refusal}
+          → TurnedOf (limits_of lim) past result trail calls corners st result' trail' calls' corners' (Err f)
+          → RunOf (limits_of lim) past result₀ end to rules counters result' trail' (Err f)
+      looping_refused = onward_refused l.onward
 
 -- What is known of the run from its first state on is known of the rules and counters with which it began.
 pub looping_whole : {limits : R.Limits} {past : Bool} {result₀ : List ℕ} {end to : ℕ} {rules : Rules} {counters : Counters} {marks : Marks}
-    {kept : List ℕ} {recorded : ℕ} {st : State} → st ≡ at_start rules marks kept counters end to recorded → {result trail : List ℕ} {r : Ended}
+    {kept : List ℕ} {recorded : ℕ} {st : State} → st ≡ at_start rules marks kept counters end to recorded → {result trail : List ℕ} {r : Result Ended Refusal}
     → RunOf limits past result₀ end to st.rules st.counters result trail r → RunOf limits past result₀ end to rules counters result trail r
 looping_whole {limits} {past} {result₀} {end} {to} e {result} {trail} {r} o =
     subst (λ y. RunOf limits past result₀ end to y.rules y.counters result trail r) e o
 
-pub ruleset loops = (looping_more, looping_falls, looping_fits, looping_over)
+pub ruleset loops = (looping_more, looping_falls, looping_over, looping_refused)

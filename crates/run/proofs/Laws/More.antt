@@ -1,8 +1,9 @@
 -- One plan more, or its refusal.
-use Prim.Native.Nat.{ℕ, zero, suc, ◌+◌, ◌*◌, ◌≤◌, ◌<◌, ◌^◌}
+use Rattle.std.specs.Prelude.{Result, Ok, Err}
+use Prim.Native.Nat.{ℕ, suc, ◌+◌, ◌*◌, ◌≤◌, ◌<◌, ◌^◌}
 use mathlib.Core.Path.{◌≡◌, refl, sym, ap, ap₂, ◌∙◌, subst, subst₂}
 use mathlib.Core.List.{List, [], ◌∷◌, ◌++◌}
-use mathlib.Core.Bool.{Bool, true, false, true≢false}
+use mathlib.Core.Bool.{Bool, true}
 use native.Mathlib.Omega.{arith}
 use lib.ListN.{length, get_or, length-append}
 use Rattle.grammar.specs.Numbers.{trailer_words, most_words, word_end}
@@ -33,12 +34,17 @@ use Rattle.apply.specs.Held.{Held}
 use Rattle.apply.specs.Applied.{AppliedAs, AppliedOf, Done}
 use Rattle.apply.specs.Laws.Held.{held_long, held_room, held_standing}
 use Rattle.apply.specs.declared.apply.Applied.{Applied}
+use Rattle.apply.specs.Judged.{number_in}
+use Rattle.words.specs.Refusal.{refusal_number}
+use Rattle.words.specs.declared.numbers.Refusal.{Refusal}
+use Rattle.words.specs.declared.numbers.Refusal.TheVariants.{BadLength, ShortBuffer, BadTrailer, BadRecord, SharedNumber}
+use Rattle.words.specs.declared.numbers.Refusal.TheVariants.{IdPastCounter, PlanTooLarge, CounterPastEnd, ResultTooLong}
 use Rattle.renew.specs.Renewed.{Renewable, RenewedOf, RenewedAs, Stays}
 use Rattle.renew.specs.declared.renew.Renewed.{Renewed}
 use Rattle.run.specs.declared.state.State.{State}
 use Rattle.run.specs.Ended.{Front, AnswerIs}
 use Rattle.run.specs.Midst.{Midst}
-use Rattle.run.specs.Turn.{behind_plan, ended_with, TurnedTo, UpToDate, Advancing, AdvancedOf}
+use Rattle.run.specs.Turn.{behind_plan, OneMore, Over, UpToDate, Advancing, AdvancedOf}
 use Rattle.run.proofs.Laws.Known.{so_far, midst_ended, now_valid, midst_short, midst_known}
 use Rattle.run.proofs.Laws.Known.{advancing_applicable, advancing_entries, advancing_rules}
 use Rattle.run.proofs.Laws.Over.{stopped_answer}
@@ -61,15 +67,20 @@ unfolding encode_entry
 words_of_entries [] = refl
 words_of_entries (e ∷ es) = let h = words_of_entries es in omega arith
 
--- A number that is not 0.
-successor : (n : ℕ) → (n ≡ 0 → ⊥) → (k : ℕ) × (n ≡ suc k)
-successor zero h = absurd (h refl)
-successor (suc k) h = (k, refl)
+-- No refusal has the number 0.
+successor : (f : Refusal) → (k : ℕ) × (refusal_number f ≡ suc k)
+successor BadLength = (0, refl)
+successor ShortBuffer = (1, refl)
+successor BadTrailer = (2, refl)
+successor BadRecord = (3, refl)
+successor SharedNumber = (4, refl)
+successor IdPastCounter = (5, refl)
+successor PlanTooLarge = (6, refl)
+successor CounterPastEnd = (7, refl)
+successor ResultTooLong = (8, refl)
 
 module _ {limits : R.Limits} {past : Bool} {result trail work : List ℕ} {calls corners : List (List ℕ)} {st : State} {p : Plan}
-    (x : Advancing limits past result trail work calls corners st p)
-    {result' trail' : List ℕ} {a : Applied}
-    (o : AppliedOf result work st.end st.to st.rules st.counters p st.entries result' trail trail' a) where
+    (x : Advancing limits past result trail work calls corners st p) where
   abbrev m : Midst limits past x.sheet result trail calls corners st
   m = x.midst
 
@@ -79,36 +90,39 @@ module _ {limits : R.Limits} {past : Bool} {result trail work : List ℕ} {calls
   abbrev stage : Stage
   stage = stage_from m.now x.cycle x.plan
 
-  applied : AppliedAs m.now.kind m.now.preserved stage.after st.entries result' trail trail' a
-  unfolding advancing_applicable
-  applied =
-      subst (λ c. AppliedAs m.now.kind m.now.preserved (apply_plan inner_depth m.now.rules x.plan c) st.entries
-      result' trail trail' a) m.counters (o.is (advancing_applicable x))
+  module _ {result' trail' : List ℕ} {r : Result Applied Refusal}
+      (o : AppliedOf result work st.end st.to st.rules st.counters p st.entries result' trail trail' r) where
+    applied : AppliedAs m.now.kind m.now.preserved stage.after st.entries result' trail trail' r
+    unfolding advancing_applicable
+    applied =
+        subst (λ c. AppliedAs m.now.kind m.now.preserved (apply_plan inner_depth m.now.rules x.plan c) st.entries
+        result' trail trail' r) m.counters (o.is (advancing_applicable x))
 
-  number_is : a.number ≡ refusal_of s.kind s.preserved stage.after (length (entries_of m.stages))
-  number_is =
-      applied.number
-      ∙ ap₂ (λ k ps. refusal_of k ps stage.after st.entries) (so_far m).kind (so_far m).preserved
-      ∙ ap (refusal_of s.kind s.preserved stage.after) m.entries
+    number_is : number_in r ≡ refusal_of s.kind s.preserved stage.after (length (entries_of m.stages))
+    number_is =
+        applied.number
+        ∙ ap₂ (λ k ps. refusal_of k ps stage.after st.entries) (so_far m).kind (so_far m).preserved
+        ∙ ap (refusal_of s.kind s.preserved stage.after) m.entries
 
   next : NextPlan limits (reading past) s m.stages m.now x.cycle x.plan
   next = midway_next limits (reading past) s m.midway x.found
 
-  pub turned_refused : {calls' corners' : List (List ℕ)} → (a.number ≡ 0 → ⊥)
-      → TurnedTo limits past s result' trail' calls' corners' st (record { more = false; number = a.number; st = st })
-  turned_refused h =
-      let (k, e) = successor a.number h in
+  pub turned_refused : {result' trail' : List ℕ} {f : Refusal}
+      → AppliedOf result work st.end st.to st.rules st.counters p st.entries result' trail trail' (Err f)
+      → Over limits past s result' trail' (Err f)
+  turned_refused {result'} {trail'} {f} o =
+      let (k, e) = successor f in
       record {
-        short = midst_ended m a.number;
-        more = λ w. absurd (true≢false (sym w));
-        over = λ _.
-            subst (λ r. AnswerIs result' trail' (ended_with a.number st) (answer_run s r))
-            (sym (midway_refused limits (reading past) s m.midway x.found (sym number_is ∙ e))) (stopped_answer s m.stages e);
+        short = tt;
+        is =
+            subst (λ r. AnswerIs result' trail' (Err f) (answer_run s r))
+            (sym (midway_refused limits (reading past) s m.midway x.found (sym (number_is o) ∙ e))) (stopped_answer s m.stages e);
       }
 
-  module _ (z : a.number ≡ 0) where
+  module _ {result' trail' : List ℕ} {a : Applied}
+      (o : AppliedOf result work st.end st.to st.rules st.counters p st.entries result' trail trail' (Ok a)) where
     pub after_midway : Midway limits (reading past) s (m.stages ++ (stage ∷ [])) (sheet_with s.kind s.preserved stage.after)
-    after_midway = midway_more limits (reading past) s m.midway x.found (sym number_is ∙ z)
+    after_midway = midway_more limits (reading past) s m.midway x.found (sym (number_is o))
 
     abbrev left : Sheet
     left = sheet_with s.kind s.preserved stage.after
@@ -117,7 +131,7 @@ module _ {limits : R.Limits} {past : Bool} {result trail work : List ℕ} {calls
     left_so_far = midway_so_far limits (reading past) s after_midway
 
     done : Done m.now.kind m.now.preserved stage.after st.entries result' trail trail' a
-    done = applied.done z
+    done = (applied o).done
 
     left_held : Held result' left a.end a.to
     left_held =
@@ -239,38 +253,29 @@ module _ {limits : R.Limits} {past : Bool} {result trail work : List ℕ} {calls
             steps = ap₂ ◌+◌ m.steps (sym x.same.steps) ∙ sym (steps_last m.stages stage);
           }
 
-      pub turned_more : TurnedTo limits past s result' trail' calls' corners' st (record { more = true; number = 0; st = after })
+      pub turned_more : OneMore limits past s result' trail' calls' corners' st after
       turned_more =
           record {
-            short = midst_ended one_more 0;
-            more = λ _.
-                record {
-                  midst = one_more;
-                  counted = omega arith;
-                  few = let h = m.plans in let l = next.room in omega arith;
-                };
-            over = λ h. absurd (true≢false h);
+            short = midst_ended one_more;
+            midst = one_more;
+            counted = omega arith;
+            few = let h = m.plans in let l = next.room in omega arith;
           }
 
 -- The returns.
 module _ {limits : R.Limits} {past : Bool} {result trail work : List ℕ} {calls corners : List (List ℕ)} {st : State} {p : Plan}
-    {result' trail' : List ℕ} {a : Applied}
-    (o : AppliedOf result work st.end st.to st.rules st.counters p st.entries result' trail trail' a) where
-  pub advanced_refused : {calls' corners' : List (List ℕ)} → (a.number ≡ 0 → ⊥)
-      → AdvancedOf limits past result trail work calls corners st p result' trail' calls' corners'
-      (record { more = false; number = a.number; st = st })
-  advanced_refused h = record { is = λ x. turned_refused x o h }
+    {result' trail' : List ℕ} where
+  pub advanced_refused : {f : Refusal} {calls' corners' : List (List ℕ)}
+      → AppliedOf result work st.end st.to st.rules st.counters p st.entries result' trail trail' (Err f)
+      → AdvancedOf limits past result trail work calls corners st p result' trail' calls' corners' (Err f)
+  advanced_refused o = record { is = λ x. turned_refused x o }
 
-  pub advanced_more : {calls' corners' : List (List ℕ)} {next : State} → a.number ≡ 0
+  pub advanced_more : {a : Applied} {calls' corners' : List (List ℕ)} {next : State}
+      → AppliedOf result work st.end st.to st.rules st.counters p st.entries result' trail trail' (Ok a)
       → UpToDate (words result') past calls corners st a p calls' corners' next
-      → AdvancedOf limits past result trail work calls corners st p result' trail' calls' corners'
-      (record { more = true; number = 0; st = next })
-  advanced_more {calls'} {corners'} {next} z u =
-      record {
-        is = λ x.
-            subst (λ n. TurnedTo limits past x.sheet result' trail' calls' corners' st (record { more = true; number = 0; st = n }))
-            (sym u.is) (turned_more x o z refl u.renews);
-      }
+      → AdvancedOf limits past result trail work calls corners st p result' trail' calls' corners' (Ok next)
+  advanced_more {a} {calls'} {corners'} {next} o u =
+      record { is = λ x. subst (OneMore limits past x.sheet result' trail' calls' corners' st) (sym u.is) (turned_more x o refl u.renews) }
 
 -- Of a plan that is applied.
 pub ruleset advances = (

@@ -1,11 +1,11 @@
 -- A run that is over: its answer is the definition's.
 use Prim.Native.Nat.{ℕ, ◌*◌}
+use Rattle.std.specs.Prelude.{None, Ok, Err}
 use mathlib.Core.Path.{◌≡◌, refl, sym, ◌∙◌, subst}
 use mathlib.Core.List.{List}
-use mathlib.Core.Bool.{Bool, false, true≢false}
+use mathlib.Core.Bool.{Bool}
 use native.Mathlib.Omega.{arith}
 use lib.ListN.{length}
-use Rattle.grammar.specs.Numbers.{plan_too_large}
 use Rattle.grammar.specs.Tree.{Sheet}
 use Rattle.grammar.specs.Lists.{each}
 use Rattle.grammar.specs.Encode.{encode}
@@ -18,6 +18,9 @@ use Rattle.run.specs.declared.state.State.{State}
 use Rattle.run.specs.declared.state.Ended.{Ended}
 use Rattle.run.specs.Ended.{Front, AnswerIs}
 use Rattle.run.specs.Midst.{Midst}
+use Rattle.words.specs.Refusal.{refusal_number}
+use Rattle.words.specs.declared.numbers.Refusal.{Refusal}
+use Rattle.words.specs.declared.numbers.Refusal.TheVariants.{PlanTooLarge}
 use Rattle.run.specs.Turn.{ended_with, TurnedTo}
 use Rattle.run.proofs.Laws.Known.{midst_ended}
 
@@ -25,8 +28,8 @@ never : {A : Type 0} → ◌≡◌ {A = ℕ} 0 1 → A
 never e = absurd (omega arith)
 
 -- A refusal.
-pub stopped_answer : {result trail : List ℕ} {r : Ended} {n : ℕ} (s : Sheet) (ss : List Stage) → r.number ≡ n
-    → AnswerIs result trail r (answer_run s (stopped ss n))
+pub stopped_answer : {result trail : List ℕ} {f : Refusal} {n : ℕ} (s : Sheet) (ss : List Stage) → refusal_number f ≡ n
+    → AnswerIs result trail (Err f) (answer_run s (stopped ss n))
 unfolding answer_run
 stopped_answer s ss e =
     record {
@@ -36,12 +39,12 @@ stopped_answer s ss e =
 
 module _ {result trail : List ℕ} {r : Ended} (s : Sheet) (ss : List Stage) where
   -- No refusal.
-  pub ended_answer : r.number ≡ 0 → r.plans ≡ length ss → r.steps ≡ steps_of ss
+  pub ended_answer : r.plans ≡ length ss → r.steps ≡ steps_of ss
       → Front result (encode (sheet_after s ss)) r.words
       → Front trail (each encode_entry (entries_of ss)) (4 * r.entries)
-      → AnswerIs result trail r (answer_run s (ended ss))
+      → AnswerIs result trail (Ok r) (answer_run s (ended ss))
   unfolding answer_run
-  ended_answer n p t f g =
+  ended_answer p t f g =
       record {
         refused = λ k x. never cc;
         delivered = λ plans steps ws ts x.
@@ -50,7 +53,6 @@ module _ {result trail : List ℕ} {r : Ended} (s : Sheet) (ss : List Stage) whe
             let c : encode (sheet_after s ss) ≡ ws = cc in
             let d : each encode_entry (entries_of ss) ≡ ts = cc in
             record {
-              number = n;
               plans_are = p ∙ a;
               steps_are = t ∙ b;
               sheet = subst (λ l. Front result l r.words) c f;
@@ -62,14 +64,13 @@ module _ {limits : R.Limits} {past : Bool} {s : Sheet} {result trail : List ℕ}
     (m : Midst limits past s result trail calls corners st) where
   -- No cycle has a plan.
   pub turned_none : find_plan limits (reading past) s.preserved m.now.rules ≡ no_plan
-      → TurnedTo limits past s result trail calls corners st (record { more = false; number = 0; st = st })
+      → TurnedTo limits past s result trail calls corners st (Ok None)
   turned_none f =
       record {
-        short = midst_ended m _;
-        more = λ e. absurd (true≢false (sym e));
-        over = λ _.
-            subst (λ r. AnswerIs result trail (ended_with 0 st) (answer_run s r)) (sym (midway_ended limits (reading past) s m.midway f))
-            (ended_answer s m.stages refl m.plans m.steps
+        short = midst_ended m;
+        is =
+            subst (λ r. AnswerIs result trail (Ok (ended_with st)) (answer_run s r)) (sym (midway_ended limits (reading past) s m.midway f))
+            (ended_answer s m.stages m.plans m.steps
             (record {
               stands = rw m.midway.is_now m.held.stands;
               room = m.held.room;
@@ -79,12 +80,11 @@ module _ {limits : R.Limits} {past : Bool} {s : Sheet} {result trail : List ℕ}
 
   -- A planned list is too large.
   pub turned_large : find_plan limits (reading past) s.preserved m.now.rules ≡ too_large
-      → TurnedTo limits past s result trail calls corners st (record { more = false; number = plan_too_large; st = st })
+      → TurnedTo limits past s result trail calls corners st (Err PlanTooLarge)
   turned_large f =
       record {
-        short = midst_ended m _;
-        more = λ e. absurd (true≢false (sym e));
-        over = λ _.
-            subst (λ r. AnswerIs result trail (ended_with plan_too_large st) (answer_run s r))
+        short = tt;
+        is =
+            subst (λ r. AnswerIs result trail (Err PlanTooLarge) (answer_run s r))
             (sym (midway_large limits (reading past) s m.midway f)) (stopped_answer s m.stages refl);
       }

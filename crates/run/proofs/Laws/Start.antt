@@ -1,8 +1,9 @@
 -- The start of a run, and its loop.
+use Rattle.std.specs.Prelude.{Some, None, Ok, Err}
 use Prim.Native.Nat.{ℕ, suc, ◌+◌, ◌-◌, ◌≤◌, ◌<◌}
 use mathlib.Core.Path.{◌≡◌, refl, sym, subst}
 use mathlib.Core.List.{List, []}
-use mathlib.Core.Bool.{Bool, true, false}
+use mathlib.Core.Bool.{Bool}
 use native.Mathlib.Omega.{arith}
 use lib.ListN.{length}
 use lib.Dec.{leb}
@@ -18,6 +19,7 @@ use Rattle.reference.specs.Substitute as R
 use Rattle.reference.specs.Run.{steps_of, entries_of}
 use Rattle.laws.specs.Running.Midway.{midway_start}
 use Rattle.words.specs.Room.{Room}
+use Rattle.words.specs.declared.numbers.Refusal.{Refusal}
 use Rattle.writing.specs.declared.counters.Counters.{Counters}
 use Rattle.records.specs.declared.rules.Rules.{Rules}
 use Rattle.reach.specs.Rows.{RowOf}
@@ -27,7 +29,6 @@ use Rattle.analysis.specs.declared.rounds.Marks.{Marks}
 use Rattle.plan.specs.Ground.{KeptAt, KeptOf}
 use Rattle.apply.specs.Laws.Held.{held_long, held_room, held_kept, held_standing, held_preserved}
 use Rattle.run.specs.declared.state.State.{State}
-use Rattle.run.specs.declared.turn.Turn.{Turn}
 use Rattle.run.specs.Midst.{at_start, Begun, Midst, Going}
 use Rattle.run.specs.Turn.{ended_with, TurnedOf, RunOf, Onward}
 
@@ -90,24 +91,25 @@ module _ {limits : R.Limits} {past : Bool} {result : List ℕ} {end to : ℕ} {r
     pub onward_going : Begun result end to rules counters → Going limits past result₁ trail₁ calls corners st
     onward_going x = record { sheet = x.sheet; midst = o.is x }
 
-    module _ {result₂ trail₂ : List ℕ} {calls₂ corners₂ : List (List ℕ)} {r : Turn}
-        (t : TurnedOf limits past result₁ trail₁ calls corners st result₂ trail₂ calls₂ corners₂ r) where
-      pub onward_more : r.more ≡ true → Onward limits past result end to rules counters result₂ trail₂ calls₂ corners₂ r.st
-      onward_more e = record { is = λ x. ((t.is x.sheet (o.is x)).more e).midst }
+    module _ {result₂ trail₂ : List ℕ} {calls₂ corners₂ : List (List ℕ)} where
+      module _ {next : State} (t : TurnedOf limits past result₁ trail₁ calls corners st result₂ trail₂ calls₂ corners₂ (Ok (Some next))) where
+        pub onward_more : Onward limits past result end to rules counters result₂ trail₂ calls₂ corners₂ next
+        onward_more = record { is = λ x. (t.is x.sheet (o.is x)).midst }
 
-      -- The measure: one rule more is a hub.
-      pub onward_falls : Begun result end to rules counters → r.more ≡ true
-          → suc rules.n - r.st.plans < suc rules.n - st.plans
-      onward_falls x e =
-          let m = (t.is x.sheet (o.is x)).more e in
-          let a = m.counted in
-          let b = m.few in
-          let c = x.rows.count in
-          omega arith
+        -- The measure: one rule more is a hub.
+        pub onward_falls : Begun result end to rules counters → suc rules.n - next.plans < suc rules.n - st.plans
+        onward_falls x =
+            let m = t.is x.sheet (o.is x) in
+            let a = m.counted in
+            let b = m.few in
+            let c = x.rows.count in
+            omega arith
 
-      pub onward_short : Begun result end to rules counters → r.st.to + trailer_words ≤ most_words
-      onward_short y = (t.is y.sheet (o.is y)).short.words
+      module _ (t : TurnedOf limits past result₁ trail₁ calls corners st result₂ trail₂ calls₂ corners₂ (Ok None)) where
+        pub onward_over : Begun result end to rules counters
+            → RunOf limits past result end to rules counters result₂ trail₂ (Ok (ended_with st))
+        onward_over y = record { short = (t.is y.sheet (o.is y)).short; is = λ x. (t.is x.sheet (o.is x)).is }
 
-      pub onward_over : Begun result end to rules counters → r.more ≡ false
-          → RunOf limits past result end to rules counters result₂ trail₂ (ended_with r.number r.st)
-      onward_over y e = record { short = (t.is y.sheet (o.is y)).short; is = λ x. (t.is x.sheet (o.is x)).over e }
+      pub onward_refused : {f : Refusal} → TurnedOf limits past result₁ trail₁ calls corners st result₂ trail₂ calls₂ corners₂ (Err f)
+          → RunOf limits past result end to rules counters result₂ trail₂ (Err f)
+      onward_refused t = record { short = tt; is = λ x. (t.is x.sheet (o.is x)).is }

@@ -1,9 +1,9 @@
 -- The returns of a turn, by what the search found.
 use Prim.Native.Nat.{ℕ}
+use Rattle.std.specs.Prelude.{Some, None, Ok, Err}
 use mathlib.Core.Path.{◌≡◌}
 use mathlib.Core.List.{List}
-use mathlib.Core.Bool.{Bool, false}
-use Rattle.grammar.specs.Numbers.{plan_too_large}
+use mathlib.Core.Bool.{Bool}
 use Rattle.grammar.specs.Words.{words}
 use Rattle.turns.specs.Midway.{limits_of}
 use Rattle.turns.specs.declared.state.Limits.{Limits}
@@ -13,7 +13,8 @@ use Rattle.plan.specs.declared.search.Found.{Found}
 use Rattle.plan.specs.declared.search.FoundPlan.{FoundPlan}
 use Rattle.plan.specs.Search.{FoundOf}
 use Rattle.run.specs.declared.state.State.{State}
-use Rattle.run.specs.declared.turn.Turn.{Turn}
+use Rattle.words.specs.declared.numbers.Refusal.{Refusal}
+use Rattle.words.specs.declared.numbers.Refusal.TheVariants.{PlanTooLarge}
 use Rattle.run.specs.Midst.{Going}
 use Rattle.run.specs.Turn.{Advancing, AdvancedOf, TurnedOf}
 use Rattle.run.proofs.Laws.Known.{midst_room, midst_small, midst_known, found_none, found_large, found_planned}
@@ -22,12 +23,11 @@ use Rattle.run.proofs.Laws.Over.{turned_none, turned_large}
 module _ {lim : Limits} {past : Bool} {result trail : List ℕ} {calls corners : List (List ℕ)} {st : State} {bs : List ℕ} {r : Found}
     (o : FoundOf (words result) st.end st.rules past calls corners st.marks st.kept lim bs r) where
   pub turn_none : r.answer ≡ NoPlan
-      → TurnedOf (limits_of lim) past result trail calls corners st result trail calls corners (record { more = false; number = 0; st = st })
+      → TurnedOf (limits_of lim) past result trail calls corners st result trail calls corners (Ok None)
   turn_none e = record { is = λ s m. turned_none m (found_none m o e) }
 
   pub turn_large : r.answer ≡ TooLarge
-      → TurnedOf (limits_of lim) past result trail calls corners st result trail calls corners
-      (record { more = false; number = plan_too_large; st = st })
+      → TurnedOf (limits_of lim) past result trail calls corners st result trail calls corners (Err PlanTooLarge)
   turn_large e = record { is = λ s m. turned_large m (found_large m o e) }
 
   module _ {f : FoundPlan} {p : Plan} (e : r.answer ≡ Planned f) (i : p ≡ f.plan) where
@@ -35,10 +35,16 @@ module _ {lim : Limits} {past : Bool} {result trail : List ℕ} {calls corners :
         → Advancing (limits_of lim) past result trail bs calls corners st p
     turn_advancing g = found_planned g.midst o e i
 
-    pub turn_planned : {result' trail' : List ℕ} {calls' corners' : List (List ℕ)} {t : Turn}
-        → AdvancedOf (limits_of lim) past result trail bs calls corners st p result' trail' calls' corners' t
-        → TurnedOf (limits_of lim) past result trail calls corners st result' trail' calls' corners' t
+    pub turn_planned : {result' trail' : List ℕ} {calls' corners' : List (List ℕ)} {next : State}
+        → AdvancedOf (limits_of lim) past result trail bs calls corners st p result' trail' calls' corners' (Ok next)
+        → TurnedOf (limits_of lim) past result trail calls corners st result' trail' calls' corners' (Ok (Some next))
     unfolding found_planned
     turn_planned a = record { is = λ s m. a.is (found_planned m o e i) }
 
-pub ruleset turnings = (midst_room, midst_small, midst_known, turn_none, turn_large, turn_planned)
+    pub turn_refused : {result' trail' : List ℕ} {calls' corners' : List (List ℕ)} {n : Refusal}
+        → AdvancedOf (limits_of lim) past result trail bs calls corners st p result' trail' calls' corners' (Err n)
+        → TurnedOf (limits_of lim) past result trail calls corners st result' trail' calls' corners' (Err n)
+    unfolding found_planned
+    turn_refused a = record { is = λ s m. a.is (found_planned m o e i) }
+
+pub ruleset turnings = (midst_room, midst_small, midst_known, turn_none, turn_large, turn_planned, turn_refused)

@@ -25,13 +25,12 @@ pub loop-i-preserved : goal.loop-i-preserved
 loop-i-preserved c =
     let asked = c.requires in
     let inv = c.loop-i.invariant.0 in
-    let l = c.loop-i-test.true in
     let h = c.has.ensures in (
       elim c.if-not-has.branch [
-        | then-not-has w ↦ counting_more _ _ _ _ _ _ inv l asked.2 h
+        | then-not-has w ↦ counting_more _ _ _ _ _ _ inv (omega arith) asked.2 h
             (rule_taken asked.0 (search rules) (w.rule_end.ensures.is _ refl refl) w.index.ensures asked.3 w.if-not-has.true)
             w.total-is
-        | else-not-has w ↦ counting_more _ _ _ _ _ _ inv l asked.2 h (none_taken w.if-not-has.false)
+        | else-not-has w ↦ counting_more _ _ _ _ _ _ inv (omega arith) asked.2 h (none_taken w.if-not-has.false)
             (let z = w.total-is in omega arith)
       ],
       search rules,

@@ -1,7 +1,12 @@
 use Rattle.std.proofs.Common.{rules}
+use Rattle.std.proofs.lemmas.Result.{err_from_is_err_and}
 use Rattle.pass.proofs.deliver.deliver.Goals as goal
 use Rattle.pass.proofs.Laws.Read.{readings}
 
--- src/deliver.rt:61:1
-pub returns-in-Refused-clause-answered : goal.returns-in-Refused-clause-answered
-returns-in-Refused-clause-answered c = search (rules, readings)
+pub returns-in_err-read-clause-answered : goal.returns-in_err-read-clause-answered
+returns-in_err-read-clause-answered c =
+    let p = err_from_is_err_and c.from_residual.result c.from_residual.ensures.1 in
+    rw (p.1, p.2) (search (rules, readings, c.in_err-read.ensures.read_as))
+
+pub deliver_sheet-requires : goal.deliver_sheet-requires
+deliver_sheet-requires c = let a = c.in_ok-read.ensures.read_as in search (rules, readings)

@@ -1,4 +1,5 @@
 use Rattle.std.proofs.Common.{rules}
+use Rattle.std.proofs.lemmas.Result.{err_from_is_err_and}
 use Rattle.run.proofs.turn.take_turn.Goals as goal
 use Rattle.run.proofs.Laws.Turned.{turnings, turn_advancing}
 
@@ -22,6 +23,12 @@ returns-in-NoPlan-clause-turned_of c = search (rules, turnings)
 pub returns-in-TooLarge-clause-turned_of : goal.returns-in-TooLarge-clause-turned_of
 returns-in-TooLarge-clause-turned_of c = search (rules, turnings)
 
--- src/turn.rt:119:1
-pub returns-in-Planned-clause-turned_of : goal.returns-in-Planned-clause-turned_of
-returns-in-Planned-clause-turned_of c = search (rules, turnings)
+-- src/turn.rt:131:24
+pub returns-in_err-next-in-Planned-clause-turned_of : goal.returns-in_err-next-in-Planned-clause-turned_of
+returns-in_err-next-in-Planned-clause-turned_of c =
+    let p = err_from_is_err_and c.from_residual.result c.from_residual.ensures.1 in
+    rw (p.1, p.2) (search (rules, turnings, c.in_err-next-in-Planned.ensures.advanced_of))
+
+-- src/turn.rt:99:1
+pub returns-in_ok-next-in-Planned-clause-turned_of : goal.returns-in_ok-next-in-Planned-clause-turned_of
+returns-in_ok-next-in-Planned-clause-turned_of c = search (rules, turnings, c.in_ok-next-in-Planned.ensures.advanced_of)

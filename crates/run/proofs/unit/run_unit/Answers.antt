@@ -1,4 +1,5 @@
 use Rattle.std.proofs.Common.{rules}
+use Rattle.std.proofs.lemmas.Result.{err_from_is_err_and}
 use Rattle.run.proofs.unit.run_unit.Goals as goal
 use Rattle.run.proofs.Laws.Start.{begins}
 use Rattle.run.proofs.Laws.Loop.{loops, looping_start, looping_whole}
@@ -12,13 +13,22 @@ pub find_out-ground-requires-clause-standing : goal.find_out-ground-requires-cla
 find_out-ground-requires-clause-standing c = search (rules, loops, begins)
 
 -- src/unit.rt:46:5
-pub loop-limits-init : goal.loop-limits-init
-loop-limits-init c = search (rules, loops, begins, looping_start)
+pub loop-next-init : goal.loop-next-init
+loop-next-init c = search (rules, loops, begins, looping_start)
 
--- src/unit.rt:60:13
-pub returns-then-not-t-clause-run_of : goal.returns-then-not-t-clause-run_of
-returns-then-not-t-clause-run_of c = search (rules, loops, begins, looping_whole)
+pub returns-in_err-next-clause-run_of : goal.returns-in_err-next-clause-run_of
+returns-in_err-next-clause-run_of c =
+    let p = err_from_is_err_and c.from_residual.result c.from_residual.ensures.1 in
+    rw (p.1, p.2) (search (rules, loops, looping_whole, c.in_err-next.ensures.turned_of))
 
 -- src/unit.rt:46:5
-pub loop-limits-preserved : goal.loop-limits-preserved
-loop-limits-preserved c = search (rules, loops, begins, looping_start, looping_whole)
+pub loop-next-smaller : goal.loop-next-smaller
+loop-next-smaller c = let t = rw c.in-Some.is at c.in_ok-next.ensures.turned_of in search (rules, loops)
+
+-- src/unit.rt:46:5
+pub loop-next-preserved : goal.loop-next-preserved
+loop-next-preserved c = let t = rw c.in-Some.is at c.in_ok-next.ensures.turned_of in search (rules, loops)
+
+-- src/unit.rt:20:1
+pub returns-clause-run_of : goal.returns-clause-run_of
+returns-clause-run_of c = let t = rw c.in_default.is at c.in_ok-next.ensures.turned_of in search (rules, loops, looping_whole)
