@@ -41,20 +41,17 @@ pub fn copy_rules(
     ensures { RulesAdded (words s.now) end rules row from until work.old work.new d result }
 {
     let n = rules.n as usize;
-    let ids = rules.ids;
-    let names = rules.names;
-    let places = rules.places;
     let pen = d.pen;
     let mut made = d.rules;
     let mut to = pen.to;
     for i in from..until {
         if !has(row, i) {
-            let at = index(places[i]);
-            let long = rule_end(&places, n, i, end) - at;
+            let at = index(rules.places[i]);
+            let long = rule_end(&rules.places, n, i, end) - at;
             copy_words(s, at, work, to, long);
             let k = made.n as usize;
-            made.ids[k] = ids[i];
-            made.names[k] = names[i];
+            made.ids[k] = rules.ids[i];
+            made.names[k] = rules.names[i];
             made.places[k] = (to - Draft::FIRST) as u32;
             made.n += 1;
             to += long;

@@ -3,5 +3,5 @@ use Rattle.drafts.proofs.Laws.Kept.{drawn, Copying}
 use Rattle.drafts.proofs.kept.copy_rules.Given as goal
 
 abbrev pub invariant-loop-i : goal.invariant-loop-i
-invariant-loop-i l = Copying (words l.s) l.end (record { ids = l.ids; names = l.names; places = l.places; n = l.n }) l.row l.from l.until l.initial.work
+invariant-loop-i l = Copying (words l.s) l.end l.fn.rules l.row l.from l.until l.initial.work
     (record { rules = l.initial.made; pen = l.pen }) l.work l.i (drawn l.pen.trail l.pen.counters l.made l.to)
