@@ -13,7 +13,7 @@ use reach::rows::Row;
 use records::rules::Rules;
 
 // The marks of the rules, and the row of the preserved ones.
-#[derive(Clone, Copy)]
+#[derive(Clone, Copy, Debug, PartialEq, Eq)]
 pub struct Ground {
     pub marks: Marks,
     pub kept: [u64; Row::WORDS],

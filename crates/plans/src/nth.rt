@@ -82,10 +82,7 @@ pub fn decide_nth(
 pub fn capped(n: usize) -> u32
     ensures { result ≡ capped n }
 {
-    if n < Told::MOST {
-        return n as u32;
-    }
-    Told::MOST as u32
+    n.min(Told::MOST) as u32
 }
 
 // A decision in numbers, where there are so many cycles.

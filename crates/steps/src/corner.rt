@@ -55,13 +55,7 @@ fn is_bare(s: &[u8], at: usize, payload: usize) -> bool
     requires { (4 * (at + 6) ≤ length s.now) × (4 * (payload + 2) ≤ length s.now) }
     ensures { result ≡ bare_at (words s.now) at payload }
 {
-    if word(s, at + 4) != 0 {
-        return false;
-    }
-    if word(s, payload + 1) != 0 {
-        return false;
-    }
-    word(s, at + 5) == 0
+    word(s, at + 4) == 0 && word(s, payload + 1) == 0 && word(s, at + 5) == 0
 }
 
 // A call of the member t: split, left as it is, spliced, or in the way.

@@ -29,11 +29,7 @@ pub struct Done {
 fn has_next(st: State) -> bool
     ensures { NextIs st result }
 {
-    if st.left != 0 {
-        return true;
-    }
-    let l = st.l;
-    !is_drained(l)
+    st.left != 0 || !is_drained(st.l)
 }
 
 // Before the first turn: the alternatives of the hub, which stands at `at`, are all in the sheet.

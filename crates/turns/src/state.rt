@@ -64,22 +64,13 @@ fn take_stack(work: &[u8], st: State) -> Taken
     requires { Laid work.now st.l × HasTop st.l }
     ensures { StackTaken work.now st result }
 {
-    let l = st.l;
-    let all = st.all;
-    let t = take_top(work, l);
+    let t = take_top(work, st.l);
     let x = t.x;
-    let rest = t.rest;
+    let l = t.rest;
     Taken {
         x,
         hand: false,
-        st: State {
-            l: rest,
-            left: st.left,
-            at: st.at,
-            all,
-            budget: st.budget,
-            steps: st.steps,
-        },
+        st: State { l, ..st },
     }
 }
 
@@ -89,21 +80,13 @@ fn take_hub(s: &[u8], end: usize, work: &mut [u8], st: State) -> Taken
     requires shut { Shut (Ready (words s.now) end work.old st 0 0 0) }
     ensures { TakenFrom (words s.now) end work.old work.new st result }
 {
-    let l = st.l;
-    let all = st.all;
     let x = hub_in_hand(s, end, Block::DEPTH, st.at, work);
     let at = alternative_end(s, end, Block::DEPTH, st.at);
+    let left = st.left - 1;
     Taken {
         x,
         hand: true,
-        st: State {
-            l,
-            left: st.left - 1,
-            at,
-            all,
-            budget: st.budget,
-            steps: st.steps,
-        },
+        st: State { left, at, ..st },
     }
 }
 
@@ -128,15 +111,6 @@ pub fn put_settled(work: &mut [u8], st: State, x: Listed) -> State
     requires { Laid work.old st.l × Located work.old x × Movable st.l x × HasRoom st.l 1 x.ne x.no }
     ensures { PutSettled work.old work.new st x result }
 {
-    let l = st.l;
-    let all = st.all;
-    let r = settle(work, l, x);
-    State {
-        l: r,
-        left: st.left,
-        at: st.at,
-        all,
-        budget: st.budget,
-        steps: st.steps,
-    }
+    let l = settle(work, st.l, x);
+    State { l, ..st }
 }

@@ -40,7 +40,7 @@ fn hold(work: &mut [u8], t: Taken) -> Listed
 pub fn is_within(limits: Limits, z: Size) -> bool
     ensures { result ≡ within_limits limits z }
 {
-    (z.a <= limits.alternatives) & ((z.e <= limits.elements) & (z.o <= limits.options))
+    z.a <= limits.alternatives && z.e <= limits.elements && z.o <= limits.options
 }
 
 // All of the list, with z in the place of the alternative in hand.
@@ -121,14 +121,13 @@ fn advance(
     let l = st.l;
     let more = size_after(all, h, z);
     if is_within(limits, more) {
-        let r = push(s, end, work, l, h, index, at, z, optional);
+        let l = push(s, end, work, l, h, index, at, z, optional);
         return Ok(State {
-            l: r,
-            left: st.left,
-            at: st.at,
+            l,
             all: more,
             budget,
             steps,
+            ..st
         });
     }
     Err(Unplanned::Overfull)
