@@ -1,5 +1,5 @@
 -- What an answer of the pass lets one list.
-use Rattle.std.specs.Prelude.{ℕ, ◌/◌, ◌≤◌, ◌≡◌, List, length}
+use Rattle.std.specs.Prelude.{ℕ, ◌/◌, ◌≤◌, ◌≡◌, List, length, Option, Some, None, Result, Ok, Err}
 use Rattle.grammar.specs.Numbers.{result_bytes, trail_bytes, work_bytes}
 use Rattle.grammar.specs.Corners.{rust}
 use Rattle.grammar.specs.Laws.Words.{AreBytes}
@@ -9,8 +9,8 @@ use Rattle.reference.specs.Run.{answer_to}
 use Rattle.listed.specs.Listed.{listed_refusal, listed_rules, listed}
 use Rattle.listed.specs.Put.{Filled}
 use Rattle.listed.specs.Ready.{Held, Recorded, most_text}
-use Rattle.pass.specs.declared.answer.Answer.{Answer}
-use Rattle.pass.specs.declared.answer.Answer.TheVariants.{Refused, Joined}
+use Rattle.words.specs.Refusal.{refusal_number}
+use Rattle.words.specs.declared.numbers.Refusal.{Refusal}
 use Rattle.pass.specs.declared.answer.Totals.{Totals}
 use Rattle.listing.specs.declared.answer.Told.{Told}
 
@@ -18,6 +18,11 @@ use Rattle.listing.specs.declared.answer.Told.{Told}
 abbrev pub refusal_in : R.Answer → ℕ
 refusal_in (R.refusal n) = n
 refusal_in (R.answer plans steps result trail) = 0
+
+-- The number of the refusal that a text tells; 0 where it tells none.
+abbrev pub number_told : Option Refusal → ℕ
+number_told None = 0
+number_told (Some e) = refusal_number e
 
 -- The result and the trail of a pass that was not refused, with its numbers: what is listed of them is the listing of the bytes.
 pub record JoinedAs (bs : List ℕ) (t : Totals) (result trail : List ℕ) : Type 0 where
@@ -32,11 +37,11 @@ pub record RefusedAs (bs : List ℕ) (n : ℕ) : Type 0 where
   pub number : refusal_in (answer_to standard rust bs) ≡ n
 
 -- Either.
-abbrev pub AnswersAs : (bs : List ℕ) → Answer → (result trail : List ℕ) → Type 0
-AnswersAs bs (Refused n) result trail = RefusedAs bs n
-AnswersAs bs (Joined t) result trail = JoinedAs bs t result trail
+abbrev pub AnswersAs : (bs : List ℕ) → Result Totals Refusal → (result trail : List ℕ) → Type 0
+AnswersAs bs (Err e) result trail = RefusedAs bs (refusal_number e)
+AnswersAs bs (Ok t) result trail = JoinedAs bs t result trail
 
-pub record Answers (bs : List ℕ) (a : Answer) (result trail : List ℕ) : Type 0 where
+pub record Answers (bs : List ℕ) (a : Result Totals Refusal) (result trail : List ℕ) : Type 0 where
   pub so : AnswersAs bs a result trail
 
 -- Every item is a byte.
@@ -52,4 +57,4 @@ pub record Lent (r t w : List ℕ) : Type 0 where
 -- The listing of the bytes stands in the buffer.
 pub record ListedAs (bs before after : List ℕ) (r : Told) : Type 0 where
   pub text : Filled before after r.n (listed standard rust bs) most_text
-  pub number : r.refusal ≡ refusal_in (answer_to standard rust bs)
+  pub number : number_told r.refusal ≡ refusal_in (answer_to standard rust bs)

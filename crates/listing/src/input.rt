@@ -1,54 +1,22 @@
 // Standard input, as far as it is read.
-ghost use Rattle.std.specs.Prelude.{◌+◌, ◌≤◌, length};
+ghost use Rattle.std.specs.Prelude.{IfOk};
 ghost use Rattle.listing.specs.Counts.{IsPrefixLen};
 
-use std::io::{Error, Read};
+use std::io;
+use std::io::Read;
 
-// So many bytes, or why a read failed.
-#[derive(Clone, Copy)]
-pub struct Input {
-    pub n: usize,
-    pub failed: Option<Error>,
-}
-
-// One read.
-fn read_some(from: &mut impl Read, bytes: &mut [u8]) -> Input
-    ensures { result.n ≤ length bytes.new }
-{
-    match from.read(bytes) {
-        Ok(n) => Input { n, failed: None },
-        Err(error) => Input {
-            n: 0,
-            failed: Some(error),
-        },
-    }
-}
-
-// One read from a place on.
-fn read_from(from: &mut impl Read, bytes: &mut [u8], at: usize) -> Input
-    requires { at ≤ length bytes.old }
-    ensures { at + result.n ≤ length bytes.new }
-{
-    read_some(from, &mut bytes[at..])
-}
-
-// Reads until the buffer is full or the input ends: what is behind a full buffer is never looked at.
-pub fn read_input(from: &mut impl Read, bytes: &mut [u8]) -> Input
-    ensures { IsPrefixLen result.n bytes.new }
+// Reads until the buffer is full or the input ends: what is behind a full buffer is never looked at. How many bytes, or why a read
+// failed.
+pub fn read_input(from: &mut impl Read, bytes: &mut [u8]) -> io::Result<usize>
+    ensures { IfOk result (λ n. IsPrefixLen n bytes.new) }
 {
     let mut n: usize = 0;
     while n < bytes.len() {
-        let some = read_from(from, bytes, n);
-        if some.failed.is_some() {
-            return Input {
-                n: 0,
-                failed: some.failed,
-            };
+        let more = from.read(&mut bytes[n..])?;
+        if more == 0 {
+            break;
         }
-        if some.n == 0 {
-            return Input { n, failed: None };
-        }
-        n += some.n;
+        n += more;
     }
-    Input { n, failed: None }
+    Ok(n)
 }

@@ -1,4 +1,5 @@
 -- The rules of a sheet listed one after the other.
+use Rattle.std.specs.Prelude.{Option, Some, is_some, true}
 use Prim.Native.Nat.{ℕ, zero, suc, ◌+◌, ◌-◌, ◌*◌, ◌<◌, ◌≤◌}
 use mathlib.Core.Path.{◌≡◌, refl, sym, ap, ◌∙◌}
 use mathlib.Core.List.{List, [], ◌∷◌, ◌++◌}
@@ -18,8 +19,8 @@ use Rattle.grammar.specs.Laws.Complete.{rules_complete}
 use Rattle.grammar.specs.Found.{Found}
 use Rattle.grammar.specs.Laws.Found.{rule_room}
 use Rattle.grammar.specs.Laws.Fold.{Folding, folding_all, folding_found, folding_more, folding_done, rule_walked}
-use Rattle.records.specs.Rules.{RulesRead}
-use Rattle.records.specs.declared.rules.Rows.{Rows}
+use Rattle.records.specs.Rules.{RulesRead, is_got}
+use Rattle.records.specs.declared.rules.Rules.{Rules}
 use Rattle.listed.specs.Listed.{leaf_name, element_line, alternative_line, rule_line, element_lines, alternative_lines}
 use Rattle.listed.specs.Listed.{block_lines, rule_lines}
 use Rattle.listed.specs.Put.{Put, PutFew}
@@ -137,16 +138,20 @@ pub listing_room : {ws : List ℕ} {end n at : ℕ} {p₀ : Pen} {i here : ℕ} 
     → here + 4 ≤ end
 listing_room g h = rule_room 8 (steps_found g h)
 
--- As many rules as the reader finds anew.
-pub rules_counted : {ws : List ℕ} {end : ℕ} {r : Rows} → Ruled ws end → RulesRead ws end r → Counted ws end r.rules.n
-rules_counted {ws} {end} {r} w f = record {
+-- The reader finds rules anew, and as many.
+pub rules_there : {ws : List ℕ} {end : ℕ} {r : Option Rules} → Ruled ws end → RulesRead ws end r → is_some r ≡ true
+rules_there {ws} {end} w f = f.good ∙ ap is_got (rules_complete ws end rule_limit 0 w.rules w.few w.spans)
+
+pub rules_counted : {ws : List ℕ} {end : ℕ} {r : Option Rules} {x : Rules} → Ruled ws end → RulesRead ws end r → r ≡ Some x
+    → Counted ws end x.n
+rules_counted {ws} {end} {r} {x} w f e = record {
   found = record { trees = w.rules; next = end; spans = w.spans; count = count w };
   is = count;
 }
   where
-    count : (w : Ruled ws end) → length w.rules ≡ r.rules.n
+    count : (w : Ruled ws end) → length w.rules ≡ x.n
     count w =
-        sym (f.rows w.rules end (rules_complete ws end rule_limit 0 w.rules w.few w.spans)).count
+        sym (f.rows x w.rules end e (rules_complete ws end rule_limit 0 w.rules w.few w.spans)).count
 
 -- The rules were listed.
 pub rules_listed : {ws : List ℕ} {end k p : ℕ} {b a : List ℕ} {n r : ℕ} → Counted ws end k → r ≤ 10 * p + 64
@@ -158,4 +163,4 @@ rules_listed {b = b} {n = n} c h w =
       few = let l = w.within in omega arith;
     }
 
-pub ruleset ruled = (list_rule, rules_counted, rules_listed)
+pub ruleset ruled = (list_rule, rules_there, rules_counted, rules_listed)

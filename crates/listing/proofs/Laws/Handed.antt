@@ -1,4 +1,5 @@
 -- What the pass hands over is listed as the definition says.
+use Rattle.std.specs.Prelude.{Result, Ok, Err}
 use Prim.Native.Nat.{ℕ, zero, suc, ◌-◌, ◌*◌, ◌/◌, ◌%◌, ◌≤◌, ◌<◌}
 use mathlib.Core.Path.{◌≡◌, refl, sym, ap, ◌∙◌}
 use mathlib.Core.List.{List, [], ◌∷◌, ◌++◌, Memᴰ}
@@ -35,8 +36,8 @@ use Rattle.laws.specs.Proved.All.{theorems}
 use Rattle.listed.specs.Listed.{listed_refusal, listed_rules, listed_run, listed_reading, listed}
 use Rattle.listed.specs.Walk.{any_entry}
 use Rattle.listed.specs.Ready.{Held, Recorded}
-use Rattle.pass.specs.declared.answer.Answer.{Answer}
-use Rattle.pass.specs.declared.answer.Answer.TheVariants.{Refused, Joined}
+use Rattle.words.specs.Refusal.{refusal_number}
+use Rattle.words.specs.declared.numbers.Refusal.{Refusal}
 use Rattle.pass.specs.declared.answer.Totals.{Totals}
 use Rattle.pass.specs.Handed.{outcome_of, Handed}
 use Rattle.listing.specs.Told.{refusal_in, Answers, Known, Lent}
@@ -200,21 +201,21 @@ module _ (bs result trail work : List ℕ) (are : AreBytes bs) (lent : are_lent 
 
   -- A refusal, and no refusal, are what was handed over.
   module _ {result' trail' work' : List ℕ} where
-    refused_answers : (n : ℕ) → refused_with n result' trail' work' ≡ outcome standard rust bs result trail work → Came
-        → Answers bs (Refused n) result' trail'
+    refused_answers : (r : Refusal) → refused_with (refusal_number r) result' trail' work' ≡ outcome standard rust bs result trail work → Came
+        → Answers bs (Err r) result' trail'
     unfolding delivered
-    refused_answers n h (came_refused m e p f) =
-        let same : n ≡ m = ap (λ o. o.number) h ∙ f in
+    refused_answers r h (came_refused m e p f) =
+        let same : refusal_number r ≡ m = ap (λ o. o.number) h ∙ f in
         record { so = record { is = listed_refusal_lem bs e ∙ ap listed_refusal (sym same); number = ap refusal_in e ∙ sym same } }
-    refused_answers n h (came_answered p s ws ts e f) =
+    refused_answers r h (came_answered p s ws ts e f) =
         let a = theorems.answered standard rust bs are p s ws ts e in
         let z : 0 ≡ 4 * length ws = ap (λ o. o.result_length) (h ∙ f) in
         let l = encode_length (sheet_after a.handed_in a.stages) in
         let m = ap length a.good.is_encoding in
         absurd (omega arith)
 
-    joined_answers : (t : Totals) → outcome_of (Joined t) result' trail' work' ≡ outcome standard rust bs result trail work → Came
-        → Answers bs (Joined t) result' trail'
+    joined_answers : (t : Totals) → outcome_of (Ok t) result' trail' work' ≡ outcome standard rust bs result trail work → Came
+        → Answers bs (Ok t) result' trail'
     unfolding delivered answer_held answer_recorded
     joined_answers t h (came_refused m e p f) = absurd (p (sym (ap (λ o. o.number) h ∙ f)))
     joined_answers t h (came_answered p s ws ts e f) =
@@ -234,7 +235,7 @@ module _ (bs result trail work : List ℕ) (are : AreBytes bs) (lent : are_lent 
               };
         }
 
-pub handed_answers : {bs result trail work : List ℕ} {a : Answer} {result' trail' work' : List ℕ} → Known bs → Lent result trail work
+pub handed_answers : {bs result trail work : List ℕ} {a : Result Totals Refusal} {result' trail' work' : List ℕ} → Known bs → Lent result trail work
     → Handed rust bs result trail work a result' trail' work'
     → Answers bs a result' trail'
 unfolding are_lent
@@ -245,6 +246,6 @@ handed_answers {bs} {result} {trail} {work} {a} {result'} {trail'} {work'} k l h
         both_true _ _ (le-leb result_bytes (length result) l.result)
         (both_true _ _ (le-leb trail_bytes (length trail) l.trail) (le-leb work_bytes (length work) l.work))
 
-    go : (a : Answer) → outcome_of a result' trail' work' ≡ outcome standard rust bs result trail work → Answers bs a result' trail'
-    go (Refused n) e = refused_answers bs result trail work k.are lent n e (came bs result trail work k.are lent)
-    go (Joined t) e = joined_answers bs result trail work k.are lent t e (came bs result trail work k.are lent)
+    go : (a : Result Totals Refusal) → outcome_of a result' trail' work' ≡ outcome standard rust bs result trail work → Answers bs a result' trail'
+    go (Err r) e = refused_answers bs result trail work k.are lent r e (came bs result trail work k.are lent)
+    go (Ok t) e = joined_answers bs result trail work k.are lent t e (came bs result trail work k.are lent)

@@ -2,6 +2,9 @@ use Rattle.std.proofs.Common.{rules}
 use Rattle.listed.proofs.rules.rule_count.Goals as goal
 use Rattle.listed.proofs.Laws.Rules.{ruled}
 
+pub unwrap-rules-requires : goal.unwrap-rules-requires
+unwrap-rules-requires c = search (rules, ruled)
+
 -- src/rules.rt:49:1
 pub returns : goal.returns
 returns c = search (rules, ruled)
