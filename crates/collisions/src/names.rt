@@ -1,6 +1,6 @@
 // The names around a call, as places of the sheet in the order of the names that stand there: in the work area behind the
 // planned list, from its middle on to both sides, a half for each.
-ghost use Rattle.std.specs.Prelude.{◌≡◌, ◌+◌, ◌*◌, ◌%◌, ◌<◌, ◌≤◌, length, get_or};
+ghost use Rattle.std.specs.Prelude.{◌≡◌, ◌+◌, ◌*◌, ◌%◌, ◌<◌, ◌≤◌, true, false, length, get_or, MatchResult};
 ghost use Rattle.grammar.specs.Numbers.{most_words, work_bytes};
 ghost use Rattle.grammar.specs.Words.{words};
 ghost use Rattle.words.specs.Room.{Room};
@@ -33,13 +33,6 @@ impl Names {
     pub const REFERENCES: u16 = 16384;
 }
 
-// How many entries have names below a name, and whether the next one has it.
-#[derive(Clone, Copy)]
-struct Spot {
-    at: usize,
-    found: bool,
-}
-
 // The place of an entry.
 fn place(h: u16) -> usize
     ensures { result ≡ h % most_words }
@@ -60,10 +53,7 @@ fn joined(h: u16, set: u16) -> u16
     requires { IsSet set }
     ensures { Joined h set result }
 {
-    if has_bit(h, set) {
-        return h;
-    }
-    h + set
+    if has_bit(h, set) { h } else { h + set }
 }
 
 // Where the entries begin, and how many they are.
@@ -97,6 +87,7 @@ fn name_at(s: &[u8], end: usize, work: &[u8], i: usize) -> u32
 }
 
 // How many entries have names below a name: by halving.
+// Stays: std's search by halving goes over the elements of a slice, and these names are words that two bytes of the work area lead to.
 fn find(s: &[u8], end: usize, work: &[u8], name: u32) -> usize
     requires { Room s.now end × Ordered (words s.now) end work.now }
     ensures { Parted (words s.now) work.now name result }
@@ -121,20 +112,20 @@ fn is_at(s: &[u8], end: usize, work: &[u8], name: u32, k: usize) -> bool
     requires parted { Parted (words s.now) work.now name k }
     ensures { IsAt (words s.now) work.now name k result }
 {
-    if k < count(work) {
-        return name_at(s, end, work, k) == name;
-    }
-    false
+    k < count(work) && name_at(s, end, work, k) == name
 }
 
-// Where a name stands among the entries, or would stand.
-fn look(s: &[u8], end: usize, work: &[u8], name: u32) -> Spot
+// Where a name stands among the entries; or where it would stand.
+fn look(s: &[u8], end: usize, work: &[u8], name: u32) -> Result<usize, usize>
     requires { Room s.now end × Ordered (words s.now) end work.now }
-    ensures { IsAt (words s.now) work.now name result.at result.found }
+    ensures { MatchResult result (λ k. IsAt (words s.now) work.now name k true) (λ k. IsAt (words s.now) work.now name k false) }
 {
-    let at = find(s, end, work, name);
-    let found = is_at(s, end, work, name, at);
-    Spot { at, found }
+    let k = find(s, end, work, name);
+    if is_at(s, end, work, name, k) {
+        Ok(k)
+    } else {
+        Err(k)
+    }
 }
 
 // Whether a set has a name.
@@ -142,11 +133,10 @@ pub fn has(s: &[u8], end: usize, work: &[u8], set: u16, name: u32) -> bool
     requires { Room s.now end × Ordered (words s.now) end work.now × IsSet set }
     ensures { result ≡ has_name (words s.now) work.now set name }
 {
-    let p = look(s, end, work, name);
-    if p.found {
-        return has_bit(entry_at(work, p.at), set);
+    match look(s, end, work, name) {
+        Ok(k) => has_bit(entry_at(work, k), set),
+        Err(_) => false,
     }
-    false
 }
 
 // The halves from one place up to another stand one further behind.
@@ -154,12 +144,7 @@ fn raise(work: &mut [u8], from: usize, to: usize)
     requires { (from ≤ to) × (2 * to + 2 ≤ length work.old) }
     ensures { Raised work.old work.new from to }
 {
-    let mut i = to;
-    while from < i {
-        let v = half(work, i - 1);
-        put_half(work, i, v);
-        i -= 1;
-    }
+    work.copy_within(2 * from..2 * to, 2 * from + 2);
 }
 
 // One entry more behind k others, which come one half further in front; or those behind it go one further behind.
@@ -186,13 +171,7 @@ fn is_nearer(low: usize, high: usize, k: usize) -> bool
     requires { (entries_at ≤ low) × (low ≤ high) × (high ≤ entries_end) × (high < low + most_entries) × (k + low ≤ high) }
     ensures { Nearer low high result }
 {
-    if low == Names::FIRST {
-        return false;
-    }
-    if high == Names::END {
-        return true;
-    }
-    k < high - low - k
+    low != Names::FIRST && (high == Names::END || k < high - low - k)
 }
 
 // One entry more, as the k-th.
@@ -204,9 +183,9 @@ fn insert(work: &mut [u8], k: usize, v: u16)
     let high = low + count(work);
     if is_nearer(low, high, k) {
         insert_down(work, low, k, v);
-        return;
+    } else {
+        insert_up(work, low, high, k, v);
     }
-    insert_up(work, low, high, k, v);
 }
 
 // The name of the k-th entry comes into a set.
@@ -224,12 +203,10 @@ pub fn put(s: &[u8], end: usize, work: &mut [u8], set: u16, at: usize)
     ensures { NamePut (words s.now) end work.old work.new set
         (get_or (words s.now) at 0) }
 {
-    let p = look(s, end, work, word(s, at));
-    if p.found {
-        join(work, p.at, set);
-        return;
+    match look(s, end, work, word(s, at)) {
+        Ok(k) => join(work, k, set),
+        Err(k) => insert(work, k, at as u16 + set),
     }
-    insert(work, p.at, at as u16 + set);
 }
 
 // Both sets are empty.

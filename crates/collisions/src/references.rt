@@ -22,11 +22,9 @@ pub fn reference_count(
     requires head_at { HeadAt (words s.now) end at kind payload × (kind ≡ block_kind → ⊥) × FoundElement (words s.now) end depth at }
     ensures { Refers (words s.now) end kind payload result }
 {
-    if kind == Kind::ACTION {
-        return word(s, payload + 1);
+    if kind == Kind::ACTION || kind == Kind::PREDICATE {
+        word(s, payload + 1)
+    } else {
+        0
     }
-    if kind == Kind::PREDICATE {
-        return word(s, payload + 1);
-    }
-    0
 }

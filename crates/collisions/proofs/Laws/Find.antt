@@ -1,5 +1,5 @@
 -- Names in order, halved; and what the entry that is found tells of a name.
-use Prim.Native.Nat.{ℕ, zero, suc, ◌+◌, ◌-◌, ◌*◌, ◌/◌, ◌%◌, ◌<◌, ◌≤◌}
+use Prim.Native.Nat.{ℕ, zero, suc, ◌+◌, ◌*◌, ◌%◌, ◌<◌, ◌≤◌}
 use mathlib.Core.Path.{◌≡◌, refl, sym, ap, ◌∙◌}
 use mathlib.Core.List.{List}
 use mathlib.Core.Bool.{Bool, true, false, ◌&&◌, ◌||◌, or-true, false≢true}
@@ -12,7 +12,7 @@ use Rattle.grammar.specs.Laws.Parse.{either, left_true, right_true}
 use Rattle.words.specs.Room.{Room}
 use Rattle.planned.specs.Layout.{half}
 use Rattle.collisions.specs.Names.{entries_end, low_in, count_in, entry, has_bit, name_at, has_among, has_name, Ordered}
-use Rattle.collisions.specs.Order.{Parted, IsAt}
+use Rattle.collisions.specs.Order.{IsAt}
 
 -- Where an entry stands, and its name.
 module _ {ws : List ℕ} {end : ℕ} {bs : List ℕ} (o : Ordered ws end bs) {i : ℕ} (l : i < count_in bs) where
@@ -38,97 +38,6 @@ pub record Halving (ws : List ℕ) (end : ℕ) (bs : List ℕ) (name low high : 
   pub last : high ≤ count_in bs
   pub below : (i : ℕ) → i < low → name_at ws bs i < name
   pub above : (i : ℕ) → high ≤ i → i < count_in bs → name ≤ name_at ws bs i
-
-pub halve_all : {ws : List ℕ} {end : ℕ} {bs : List ℕ} (name : ℕ) → Ordered ws end bs → {n : ℕ} → n ≡ count_in bs → Halving ws end bs name 0 n
-halve_all name o e =
-    record {
-      ordered = o;
-      order = omega arith;
-      last = omega arith;
-      below = λ i l. absurd (omega arith);
-      above = λ i l m. absurd (omega arith);
-    }
-
-module _ {ws : List ℕ} {end : ℕ} {bs : List ℕ} {name low high : ℕ} (g : Halving ws end bs name low high) where
-  abbrev middle : ℕ
-  middle = low + (high - low) / 2
-
-  pub halve_done : high ≤ low → Parted ws bs name low
-  halve_done z =
-      let a = g.order in
-      let b = g.last in
-      record { within = omega arith; below = g.below; above = λ i l m. g.above i (omega arith) m }
-
-  module _ (more : low < high) where
-    pub halve_within : middle < count_in bs
-    halve_within = let b = g.last in omega arith
-
-    module _ {w : ℕ} (e : w ≡ name_at ws bs middle) where
-      pub halve_up : w < name → Halving ws end bs name (middle + 1) high
-      halve_up z =
-          record {
-            ordered = g.ordered;
-            order = omega arith;
-            last = g.last;
-            below = λ i l.
-                either (eqb i middle)
-                (λ t. let s = ap (name_at ws bs) (eqb-true i middle t) in omega arith)
-                (λ f.
-                let n = eqb-false i middle f in
-                let s = g.ordered.rises i middle (omega arith) halve_within in
-                omega arith);
-            above = g.above;
-          }
-
-      pub halve_down : name ≤ w → Halving ws end bs name low middle
-      halve_down z =
-          record {
-            ordered = g.ordered;
-            order = omega arith;
-            last = let b = halve_within in omega arith;
-            below = g.below;
-            above = λ i l m.
-                either (eqb i middle)
-                (λ t. let s = ap (name_at ws bs) (eqb-true i middle t) in omega arith)
-                (λ f.
-                let n = eqb-false i middle f in
-                let s = g.ordered.rises middle i (omega arith) m in
-                omega arith);
-          }
-
-pub ruleset halving = (halve_all, halve_done, halve_within, halve_up, halve_down)
-
--- Whether the entry there has the name.
-module _ {ws : List ℕ} {end : ℕ} {bs : List ℕ} (o : Ordered ws end bs) {name k : ℕ} (p : Parted ws bs name k) where
-  pub at_end : {n : ℕ} → n ≡ count_in bs → n ≤ k → IsAt ws bs name k false
-  at_end e l =
-      record {
-        within = p.within;
-        found = λ t. absurd (false≢true t);
-        is = λ t. absurd (false≢true t);
-        less = λ f. p.below;
-        more = λ f i a b. absurd (omega arith);
-      }
-
-  pub at_entry : {n : ℕ} → n ≡ count_in bs → k < n → {w : ℕ} → w ≡ name_at ws bs k → IsAt ws bs name k (eqb w name)
-  at_entry e l {w} q =
-      record {
-        within = p.within;
-        found = λ t. omega arith;
-        is = λ t. sym q ∙ eqb-true w name t;
-        less = λ f. p.below;
-        more = λ f i a b.
-            let d = eqb-false w name f in
-            let c = p.above k (omega arith) (omega arith) in
-            either (eqb i k)
-            (λ t. let s = ap (name_at ws bs) (eqb-true i k t) in omega arith)
-            (λ u.
-            let n = eqb-false i k u in
-            let s = o.rises k i (omega arith) b in
-            omega arith);
-      }
-
-pub ruleset asked = (at_end, at_entry)
 
 -- Whether a set has a name, by its entry.
 module _ (ws bs : List ℕ) (w n : ℕ) where

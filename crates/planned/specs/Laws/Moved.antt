@@ -1,5 +1,5 @@
 -- Several halves moved at once.
-use Prim.Native.Nat.{ℕ, ◌+◌, ◌-◌, ◌*◌}
+use Prim.Native.Nat.{ℕ, ◌+◌, ◌*◌}
 use Rattle.std.specs.Prelude.{◌≡◌, List, length, get_or}
 use Rattle.std.specs.List.{CopiedTo, SameBelow, SameFrom}
 use Rattle.std.proofs.Math.Path.{ap}
@@ -8,11 +8,11 @@ use Rattle.planned.specs.Layout.{half}
 use Rattle.planned.specs.Halves.{HalvesMoved}
 
 -- Twice as many bytes are copied, from twice as far to twice as far: halves are.
-pub halves_moved : {before after : List ℕ} (from to n : ℕ) → CopiedTo before after (2 * from) (2 * to) (2 * (from + n) - 2 * from)
-    → SameBelow before after (2 * to) → SameFrom before after (2 * to + (2 * (from + n) - 2 * from)) → length after ≡ length before
-    → HalvesMoved before after from to n
+pub halves_moved : {before after : List ℕ} (from to n : ℕ) {start dest len : ℕ} → start ≡ 2 * from → dest ≡ 2 * to → len ≡ 2 * n
+    → CopiedTo before after start dest len → SameBelow before after dest → SameFrom before after (dest + len)
+    → length after ≡ length before → HalvesMoved before after from to n
 unfolding half
-halves_moved {before} {after} from to n copied below behind long =
+halves_moved {before} {after} from to n s d l copied below behind long =
     record {
       here = λ i h.
           let low : get_or after (2 * (to + i)) 0 ≡ get_or before (2 * (from + i)) 0 =

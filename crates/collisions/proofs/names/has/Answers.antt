@@ -1,11 +1,9 @@
-use Rattle.std.proofs.Common.{rules}
+use Rattle.std.proofs.Common.{refl}
 use Rattle.collisions.proofs.names.has.Goals as goal
-use Rattle.collisions.proofs.Laws.Find.{held}
+use Rattle.collisions.proofs.Laws.Find.{has_entry, has_none}
 
--- src/names.rt:147:9
-pub returns-then-p : goal.returns-then-p
-returns-then-p c = search (rules, held)
+pub returns-in-Ok : goal.returns-in-Ok
+returns-in-Ok c = has_entry c.requires.1 c.in-Ok.ensures refl c.args.set c.entry_at.ensures c.has_bit.ensures
 
--- src/names.rt:141:1
-pub returns : goal.returns
-returns c = search (rules, held)
+pub returns-in-Err : goal.returns-in-Err
+returns-in-Err c = has_none c.requires.1 c.in-Err.ensures refl c.args.set

@@ -1,15 +1,13 @@
-use Rattle.std.proofs.Common.{rules}
+use Rattle.std.proofs.Common.{refl}
 use Rattle.collisions.proofs.names.put.Goals as goal
 use Rattle.collisions.proofs.Laws.Names.{put_insertable, put_inserted, put_joined}
 
--- src/names.rt:230:9
-pub returns-then-p : goal.returns-then-p
-returns-then-p c = search (rules, put_joined, put_inserted)
-
--- src/names.rt:232:5
 pub insert-requires : goal.insert-requires
-insert-requires c = search (rules, put_insertable)
+insert-requires c = put_insertable c.requires.1 c.args.at c.word.ensures c.in-Err.ensures refl c.requires.3 c.requires.4
 
--- src/names.rt:222:1
-pub returns : goal.returns
-returns c = search (rules, put_joined, put_inserted)
+pub returns-in-Ok : goal.returns-in-Ok
+returns-in-Ok c = put_joined c.requires.1 c.args.at c.word.ensures c.in-Ok.ensures refl c.requires.2 c.join.ensures
+
+pub returns-in-Err : goal.returns-in-Err
+returns-in-Err c =
+    put_inserted c.requires.1 c.args.at c.word.ensures c.in-Err.ensures refl c.requires.3 c.requires.4 c.requires.2 c.insert.ensures

@@ -1,15 +1,9 @@
-use Rattle.std.proofs.Common.{rules}
+use Rattle.std.proofs.Common.{rules, ⊎_elim}
 use Rattle.collisions.proofs.references.reference_count.Goals as goal
-use Rattle.collisions.proofs.Laws.Walks.{counts}
+use Rattle.collisions.proofs.Laws.Walks.{counts, refers_nothing}
 
--- src/references.rt:26:9
-pub returns-then-kind-eq-ACTION : goal.returns-then-kind-eq-ACTION
-returns-then-kind-eq-ACTION c = search (rules, counts)
-
--- src/references.rt:29:9
 pub returns-then-kind-eq-PREDICATE : goal.returns-then-kind-eq-PREDICATE
-returns-then-kind-eq-PREDICATE c = search (rules, counts)
+returns-then-kind-eq-PREDICATE c = ⊎_elim (λ e. search (rules, counts)) (λ e. search (rules, counts)) c.if-kind-eq-PREDICATE.either
 
--- src/references.rt:13:1
-pub returns : goal.returns
-returns c = search (rules, counts)
+pub returns-else-kind-eq-PREDICATE : goal.returns-else-kind-eq-PREDICATE
+returns-else-kind-eq-PREDICATE c = let neither = c.if-kind-eq-PREDICATE.false in refers_nothing neither.0 neither.1
