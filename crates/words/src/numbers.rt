@@ -138,24 +138,6 @@ impl Sort {
     pub const PREDICATE: u32 = 6;
 }
 
-// To go: the numbers of refusals 1 to 6.
-#[derive(Drop)]
-pub struct OldRefusal;
-
-impl OldRefusal {
-    pub const BAD_LENGTH: u32 = 1;
-
-    pub const SHORT_BUFFER: u32 = 2;
-
-    pub const BAD_TRAILER: u32 = 3;
-
-    pub const BAD_RECORD: u32 = 4;
-
-    pub const SHARED_NUMBER: u32 = 5;
-
-    pub const ID_PAST_COUNTER: u32 = 6;
-}
-
 // Why a call is refused; the lowest that holds.
 #[derive(Clone, Copy, Debug, PartialEq, Eq)]
 pub enum Refusal {
