@@ -14,17 +14,18 @@ use crate::numbers::{Block, Kind};
 use crate::walk::{Head, alternative_head, element_head, leaf_end};
 use crate::words::word;
 
-// What is done at each leaf, block and alternative of a walk. All that it has to do behind a block or an alternative is to
-// go on.
+// What is done at each leaf, block and alternative of a walk. Behind a block or an alternative the walk goes on with nothing
+// done there; a level that falls again follows from the depth.
 pub trait Visitor {
-    // The fold that the walk is, in a sheet of certain words, and the state of a visitor at a depth.
+    // The state of the fold that the walk is.
     ghost State: { Type 0 };
 
+    // The fold's steps, in a sheet of certain words, and the state of a visitor at a depth.
     ghost steps: { List ℕ → Self → Steps Self.State };
 
     ghost state: { List ℕ → ℕ → Self → Self.State };
 
-    // What holds at a depth and a place, and what every visit leaves as it was.
+    // What holds in a sheet that ends at a word, at a depth and a place; and what a visit leaves as it was.
     ghost Fits: { List ℕ → ℕ → ℕ → ℕ → Self → Type 0 };
 
     ghost Kept: { List ℕ → ℕ → Self → Self → Type 0 };
@@ -60,6 +61,7 @@ pub trait Visitor {
 
 // The element at `at`, with all that is in it; returned is where it ends.
 #[cycle(tree)]
+#[inline]
 pub fn walk_element<V: Visitor>(v: &mut V, s: &[u8], end: usize, depth: u32, at: usize) -> usize
     requires room { Room s.now end × V.Fits (words s.now) end depth at v.old }
     requires found_element { FoundElement (words s.now) end depth at }
@@ -81,6 +83,7 @@ pub fn walk_element<V: Visitor>(v: &mut V, s: &[u8], end: usize, depth: u32, at:
 
 // n elements from `at` on.
 #[cycle(tree)]
+#[inline]
 pub fn walk_elements<V: Visitor>(
     v: &mut V,
     s: &[u8],
@@ -104,6 +107,7 @@ pub fn walk_elements<V: Visitor>(
 
 // The alternative at `at`, with all that is in it.
 #[cycle(tree)]
+#[inline]
 pub fn walk_alternative<V: Visitor>(v: &mut V, s: &[u8], end: usize, depth: u32, at: usize) -> usize
     requires room { Room s.now end × V.Fits (words s.now) end depth at v.old }
     requires found_alternative { FoundAlternative (words s.now) end depth at }
@@ -116,8 +120,9 @@ pub fn walk_alternative<V: Visitor>(v: &mut V, s: &[u8], end: usize, depth: u32,
     walk_elements(v, s, end, depth, inner.count, inner.first)
 }
 
-// n alternatives from `at` on: a block.
+// n alternatives from `at` on: a block. The call for a block is the one that stays a call, so that a leaf takes none.
 #[cycle(tree)]
+#[inline(never)]
 pub fn walk_alternatives<V: Visitor>(
     v: &mut V,
     s: &[u8],
