@@ -1,6 +1,7 @@
 -- Rules are told by their places in the sheet handed in, and found by their names: a table in the lent work area has a
 -- byte for each remainder of a name, which says where to look first.
-use Rattle.std.specs.Prelude.{ℕ, zero, suc, ◌<◌, ◌≤◌, ◌%◌, ◌≡◌, List, Bool, false, ◌&&◌, ◌||◌, length, get_or, set, eqb, ltb, Option, Some, None}
+use Rattle.std.specs.Prelude.{ℕ, zero, suc, ◌<◌, ◌≤◌, ◌%◌, ◌≡◌, List, Bool, false, ◌&&◌, ◌||◌, length, get_or, set, eqb, ltb}
+use Rattle.std.specs.Prelude.{Option, Some, None}
 use Rattle.grammar.specs.Numbers.{work_bytes}
 
 -- Rule j of n has a name.
