@@ -113,6 +113,7 @@ fn make(
 }
 
 // Whether the rule at `at` takes arguments: its flags are odd.
+#[tactic(auto, using(crate::proofs::Laws::With::takes_word))]
 fn takes_arguments(s: &[u8], end: usize, at: usize) -> bool
     requires room { Room s.now end × (at + 4 ≤ end) }
     requires found_rule { FoundRule (words s.now) end at }

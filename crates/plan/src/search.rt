@@ -114,6 +114,7 @@ fn try_cycles(
 }
 
 // The cycles of the rules, by their left corners.
+#[tactic(auto, using(crate::proofs::Laws::Cycles::found_of))]
 pub fn find_plan(
     s: &[u8],
     end: usize,

@@ -1,3 +1,4 @@
+pub mod Raised
 pub mod Corner
 pub mod Seeking
 pub mod Added

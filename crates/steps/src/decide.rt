@@ -59,6 +59,7 @@ impl From<Clause> for u32 {
 }
 
 // Whether the names in the alternative at `at` collide with those around the element that it would replace.
+#[tactic(auto, using(crate::proofs::Laws::Decide::collides))]
 fn collision(s: &[u8], end: usize, work: &[u8], quiet: bool, at: usize) -> Result<(), Clause>
     requires room { Room s.now end × Searchable (words s.now) end work.now quiet }
     requires found_alternative { FoundAlternative (words s.now) end inner_depth at }
@@ -108,6 +109,7 @@ fn counted(z: Size, ne: usize, no: usize) -> Size
 }
 
 // The alternative at `at` is counted, which adds so many options.
+#[tactic(auto, using(crate::proofs::Laws::Added::counts))]
 fn count_one(s: &[u8], end: usize, h: Listed, at: usize, more: usize, z: Size) -> Size
     requires room { Room s.now end × (end ≤ most_words) × HandFits h × (at + 5 ≤ end) × (more ≤ most_words) }
     requires small_size { SmallSize z }

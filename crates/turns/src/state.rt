@@ -60,6 +60,7 @@ pub struct Taken {
 }
 
 // The top of the stack.
+#[tactic(auto, using(crate::proofs::Laws::Midway::taking))]
 fn take_stack(work: &[u8], st: State) -> Taken
     requires { Laid work.now st.l × HasTop st.l }
     ensures { StackTaken work.now st result }
@@ -107,6 +108,7 @@ pub fn take(s: &[u8], end: usize, work: &mut [u8], st: State) -> Taken
 }
 
 // The alternative that was taken is settled.
+#[tactic(auto, using(crate::proofs::Laws::Midway::put_settled_lem))]
 pub fn put_settled(work: &mut [u8], st: State, x: Listed) -> State
     requires { Laid work.old st.l × Located work.old x × Movable st.l x × HasRoom st.l 1 x.ne x.no }
     ensures { PutSettled work.old work.new st x result }

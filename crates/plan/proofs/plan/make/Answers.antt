@@ -1,7 +1,7 @@
 use Rattle.std.proofs.Common.{rules, ap, ◌≡◌, ◌∙◌, Some, None, Ok}
-use Rattle.std.proofs.lemmas.Result.{err_from_is_err_and}
 use Rattle.plan.proofs.plan.make.Goals as goal
 use Rattle.plan.proofs.Laws.Made.{hub_low, hub_standing, made_laid, made_listed, made_idle, made_planned, made_unplanned, making}
+use Rattle.steps.proofs.Laws.Raised.{raised}
 
 pub substitute-requires-clause-ground : goal.substitute-requires-clause-ground
 substitute-requires-clause-ground c = search (rules, making, hub_low, hub_standing)
@@ -9,9 +9,7 @@ substitute-requires-clause-ground c = search (rules, making, hub_low, hub_standi
 pub returns-in_err-done : goal.returns-in_err-done
 returns-in_err-done c =
     let w = c.in_err-done.was in
-    let v = err_from_is_err_and c.from_residual.result c.from_residual.ensures.1 in
-    let q : v.0 ≡ c.in_err-done.field-0.0 = v.2 in
-    rw (v.1, q) (search (rules, made_unplanned))
+    rw (raised c.in_err-done.field-0.0 c.from_residual.result c.from_residual.ensures.1) (search (rules, made_unplanned))
 
 pub returns-in_default : goal.returns-in_default
 returns-in_default c =

@@ -1,8 +1,8 @@
-use Rattle.std.proofs.Common.{rules, ◌≡◌}
-use Rattle.std.proofs.lemmas.Result.{err_from_is_err_and}
+use Rattle.std.proofs.Common.{rules}
 use Rattle.steps.proofs.decide.splice_size.Goals as goal
 use Rattle.grammar.specs.Laws.Fold.{bodies}
 use Rattle.steps.proofs.Laws.Sizing.{sizing}
+use Rattle.steps.proofs.Laws.Raised.{raised}
 
 pub loop-init : goal.loop-init
 loop-init c = search (rules, bodies, sizing)
@@ -13,9 +13,7 @@ splice_one-requires-clause-found_alternative c = search (rules, bodies, sizing)
 pub returns-in_err-more : goal.returns-in_err-more
 returns-in_err-more c =
     let w = c.in_err-more.was in
-    let v = err_from_is_err_and c.from_residual.result c.from_residual.ensures.1 in
-    let q : v.0 ≡ c.in_err-more.field-0.0 = v.2 in
-    rw (v.1, q) (search (rules, bodies, sizing))
+    rw (raised c.in_err-more.field-0.0 c.from_residual.result c.from_residual.ensures.1) (search (rules, bodies, sizing))
 
 pub count_one-z-requires-clause-room : goal.count_one-z-requires-clause-room
 count_one-z-requires-clause-room c = let w = c.in_ok-more.was in search (rules, bodies, sizing)

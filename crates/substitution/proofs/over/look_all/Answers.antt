@@ -1,7 +1,7 @@
-use Rattle.std.proofs.Common.{rules, ◌≡◌}
-use Rattle.std.proofs.lemmas.Result.{err_from_is_err_and}
+use Rattle.std.proofs.Common.{rules}
 use Rattle.substitution.proofs.over.look_all.Goals as goal
 use Rattle.substitution.proofs.Laws.Looking.{looking, looking_found}
+use Rattle.steps.proofs.Laws.Raised.{raised}
 
 pub loop-init : goal.loop-init
 loop-init c = search (rules, looking, looking_found)
@@ -13,9 +13,7 @@ look_at-requires-clause-found_alternative c = search (rules, looking, looking_fo
 pub returns-in_err-look_at : goal.returns-in_err-look_at
 returns-in_err-look_at c =
     let w = c.in_err-look_at.was in
-    let v = err_from_is_err_and c.from_residual.result c.from_residual.ensures.1 in
-    let q : v.0 ≡ c.in_err-look_at.field-0.0 = v.2 in
-    rw (v.1, q) (search (rules, looking, looking_found))
+    rw (raised c.in_err-look_at.field-0.0 c.from_residual.result c.from_residual.ensures.1) (search (rules, looking, looking_found))
 
 pub alternative_end-p-requires-clause-found_alternative :
     goal.alternative_end-p-requires-clause-found_alternative

@@ -1,8 +1,8 @@
-use Rattle.std.proofs.Common.{rules, ◌≡◌}
-use Rattle.std.proofs.lemmas.Result.{err_from_is_err_and}
+use Rattle.std.proofs.Common.{rules}
 use Rattle.turns.specs.declared.turn.Unplanned.TheVariants.{Declined}
 use Rattle.substitution.proofs.over.look_step.Goals as goal
 use Rattle.substitution.proofs.Laws.Over.{reaching, stepping}
+use Rattle.steps.proofs.Laws.Raised.{raised}
 
 pub returns-then-budget-eq0 : goal.returns-then-budget-eq0
 returns-then-budget-eq0 c = search (rules, reaching, stepping)
@@ -23,9 +23,7 @@ decide-requires-clause-rule_unreferring c = search (rules, reaching, stepping)
 pub returns-in_err-decide : goal.returns-in_err-decide
 returns-in_err-decide c =
     let w = c.in_err-decide.was in
-    let v = err_from_is_err_and c.from_residual.result c.from_residual.ensures.1 in
-    let q : v.0 ≡ Declined c.in_err-decide.field-0.0 = v.2 in
-    rw (v.1, q) (search (rules, reaching, stepping))
+    rw (raised (Declined c.in_err-decide.field-0.0) c.from_residual.result c.from_residual.ensures.1) (search (rules, reaching, stepping))
 
 pub returns : goal.returns
 returns c = let w = c.in_ok-decide.was in search (rules, reaching, stepping)

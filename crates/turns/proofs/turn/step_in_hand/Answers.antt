@@ -1,15 +1,13 @@
-use Rattle.std.proofs.Common.{rules, ◌≡◌}
-use Rattle.std.proofs.lemmas.Result.{err_from_is_err_and}
+use Rattle.std.proofs.Common.{rules}
 use Rattle.turns.specs.declared.turn.Unplanned.TheVariants.{Declined}
 use Rattle.turns.proofs.turn.step_in_hand.Goals as goal
 use Rattle.turns.proofs.Laws.Stepping.{decided_goable, stepping}
+use Rattle.steps.proofs.Laws.Raised.{raised}
 
 pub returns-in_err-z : goal.returns-in_err-z
 returns-in_err-z c =
     let w = c.in_err-z.was in
-    let v = err_from_is_err_and c.from_residual.result c.from_residual.ensures.1 in
-    let q : v.0 ≡ Declined c.in_err-z.field-0.0 = v.2 in
-    rw (v.1, q) (search (rules, stepping))
+    rw (raised (Declined c.in_err-z.field-0.0) c.from_residual.result c.from_residual.ensures.1) (search (rules, stepping))
 
 pub advance-requires-clause-room : goal.advance-requires-clause-room
 advance-requires-clause-room c = let w = c.in_ok-z.was in search (rules, stepping)
