@@ -50,8 +50,7 @@ fn rule_count(s: &[u8], end: usize) -> u32
     requires { Room s.now end × Ruled (words s.now) end }
     ensures { Counted (words s.now) end result }
 {
-    let rows = read_rules(s, end);
-    let rules = rows.rules;
+    let rules = read_rules(s, end).unwrap();
     rules.n
 }
 

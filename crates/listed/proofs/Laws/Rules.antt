@@ -16,8 +16,9 @@ use Rattle.grammar.specs.Laws.Opened.{rule_words_lem}
 use Rattle.grammar.specs.Laws.Complete.{rules_complete}
 use Rattle.grammar.specs.Laws.Found.{rule_room}
 use Rattle.grammar.specs.Laws.Fold.{Folding, folding_found, rule_walked}
-use Rattle.records.specs.Rules.{RulesRead}
-use Rattle.records.specs.declared.rules.Rows.{Rows}
+use Rattle.std.specs.Prelude.{true, Option, Some, is_some}
+use Rattle.records.specs.Rules.{RulesRead, is_got}
+use Rattle.records.specs.declared.rules.Rules.{Rules}
 use Rattle.listed.specs.Listed.{leaf_name, element_line, alternative_line, rule_line, element_lines, alternative_lines}
 use Rattle.listed.specs.Listed.{block_lines, rule_lines}
 use Rattle.listed.specs.Put.{Put, PutFew}
@@ -122,15 +123,19 @@ pub listing_room : {ws : List ℕ} {end n at : ℕ} {p₀ : Pen} {i here : ℕ} 
 listing_room g some = rule_room 8 (folding_found g some)
 
 -- As many rules as the reader finds anew.
-pub rules_counted : {ws : List ℕ} {end : ℕ} {r : Rows} → Ruled ws end → RulesRead ws end r → Counted ws end r.rules.n
-rules_counted {ws} {end} {r} w f = record {
+pub rules_read : {ws : List ℕ} {end : ℕ} {r : Option Rules} → Ruled ws end → RulesRead ws end r → is_some r ≡ true
+rules_read {ws} {end} w f = f.good ∙ ap is_got (rules_complete ws end rule_limit 0 w.rules w.few w.spans)
+
+pub rules_counted : {ws : List ℕ} {end : ℕ} {r : Option Rules} {rules : Rules} → Ruled ws end → RulesRead ws end r → r ≡ Some rules
+    → Counted ws end rules.n
+rules_counted {ws} {end} {r} {rules} w f e = record {
   found = record { trees = w.rules; next = end; spans = w.spans; count = count w };
   is = count;
 }
   where
-    count : (w : Ruled ws end) → length w.rules ≡ r.rules.n
+    count : (w : Ruled ws end) → length w.rules ≡ rules.n
     count w =
-        sym (f.rows w.rules end (rules_complete ws end rule_limit 0 w.rules w.few w.spans)).count
+        sym (f.rows rules w.rules end e (rules_complete ws end rule_limit 0 w.rules w.few w.spans)).count
 
 -- The rules were listed.
 pub rules_listed : {ws : List ℕ} {end k p : ℕ} {b a : List ℕ} {n r : ℕ} → Counted ws end k → r ≤ 10 * p + 64
@@ -142,4 +147,4 @@ rules_listed {b = b} {n = n} c h w =
       few = let l = w.within in omega arith;
     }
 
-pub ruleset ruled = (list_rule, rules_counted, rules_listed)
+pub ruleset ruled = (list_rule, rules_read, rules_counted, rules_listed)
