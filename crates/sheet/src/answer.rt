@@ -34,13 +34,7 @@ pub struct Reading {
 pub fn is_length(n: usize) -> bool
     ensures { result ≡ is_length n }
 {
-    if n < Sheet::LEAST_BYTES {
-        return false;
-    }
-    if Sheet::MOST_BYTES < n {
-        return false;
-    }
-    n % 4 == 0
+    Sheet::LEAST_BYTES <= n && n <= Sheet::MOST_BYTES && n % 4 == 0
 }
 
 // Refusal 3 is given where this is false; `t` is where the trailer begins.

@@ -9,14 +9,14 @@ use crate::numbers::Kind;
 use crate::words::word;
 
 // Where an element's payload begins, and its kind.
-#[derive(Clone, Copy)]
+#[derive(Clone, Copy, Debug, PartialEq, Eq)]
 pub struct Head {
     pub kind: u32,
     pub payload: usize,
 }
 
 // Where an alternative's elements begin, and how many there are.
-#[derive(Clone, Copy)]
+#[derive(Clone, Copy, Debug, PartialEq, Eq)]
 pub struct Elements {
     pub count: u32,
     pub first: usize,

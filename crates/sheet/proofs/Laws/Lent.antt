@@ -1,10 +1,10 @@
--- The returns of the functions that judge lengths and read with a work area.
-use Prim.Native.Nat.{ℕ, ◌%◌, ◌<◌, ◌≤◌}
+-- The returns of the functions that read with a work area.
+use Prim.Native.Nat.{ℕ, ◌<◌, ◌≤◌}
 use mathlib.Core.Path.{◌≡◌, refl, sym, ap, ◌∙◌}
 use mathlib.Core.List.{List}
 use mathlib.Core.Bool.{Bool, true, false}
 use lib.ListN.{length, replicate}
-use lib.Dec.{leb, eqb}
+use lib.Dec.{leb}
 use borrow.Author.Tests.{le-leb, lt-leb, leb-true}
 use Rattle.grammar.specs.Numbers.{least_bytes, most_bytes, work_bytes}
 use Rattle.grammar.specs.Words.{words}
@@ -16,18 +16,6 @@ use Rattle.words.specs.declared.numbers.Refusal.TheVariants.{BadLength, ShortBuf
 use Rattle.sheet.specs.declared.answer.Reading.{Reading}
 use Rattle.sheet.specs.Answer.{ReadAs, read_lent, work_after, Lent}
 use Rattle.sheet.proofs.Laws.Answer.{read_refused}
-
--- the length in bytes
-pub too_short : (n : ℕ) → n < least_bytes → false ≡ is_length n
-too_short n h = simp (lt-leb least_bytes n h)
-
-pub too_long : (n : ℕ) → least_bytes ≤ n → most_bytes < n → false ≡ is_length n
-too_long n g h = simp (le-leb least_bytes n g, lt-leb n most_bytes h)
-
-pub words_decide : (n : ℕ) → least_bytes ≤ n → n ≤ most_bytes → eqb (n % 4) 0 ≡ is_length n
-words_decide n g h = simp (le-leb least_bytes n g, le-leb n most_bytes h)
-
-pub ruleset lengths = (too_short, too_long, words_decide)
 
 -- the reader with a work area
 pub lent_all : (bs work : List ℕ) → is_length (length bs) ≡ true → work_bytes ≤ length work → Lent bs work
