@@ -57,7 +57,7 @@ fn deliver_sheet(
     )
 }
 
-// The answer to all lent: the reader first, which alone refuses a sheet that is no tree. Each item of result and trail is a byte.
+// The refusal of the reader, or what becomes of the sheet that it read. Each item of result and trail is a byte then.
 pub fn deliver(
     sheet: &[u8],
     res: &mut [u8],
