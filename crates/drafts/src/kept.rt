@@ -25,7 +25,9 @@ pub fn rule_end(places: &[u32; Row::RULES], n: usize, i: usize, end: usize) -> u
     end
 }
 
-// Those from one place among the rules up to another that are not in the row. Arrays are copied for all of them, and not for each.
+// Those from one place among the rules up to another that are not in the row.
+// Stays: each row is written here and not by `add_row`, which takes the draft by value; so its arrays would be copied for each rule,
+// and grammars of many small plans would take a fifth longer.
 pub fn copy_rules(
     s: &[u8],
     end: usize,
