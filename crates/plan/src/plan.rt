@@ -67,11 +67,9 @@ fn finish(
     let l = done.l;
     let nullable = marks.nullable;
     let known = Known { n, nullable, past };
-    let judged = judge(s, end, rules, known, members, hub, work, l);
-    if !judged.fit {
+    let Some(planned) = judge(s, end, rules, known, members, hub, work, l) else {
         return Err(Unplanned::Declined(Clause::NotDirectlyRewritable));
-    }
-    let planned = judged.calls;
+    };
     let row = removable(calls, n, members, kept, planned, hub);
     Ok(Plan {
         hub,

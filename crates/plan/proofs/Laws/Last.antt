@@ -4,7 +4,7 @@ use mathlib.Core.Path.{◌≡◌, refl, sym, ap, ◌∙◌, subst}
 use mathlib.Core.List.{List}
 use mathlib.Core.Bool.{Bool, true, false, not}
 use lib.ListN.{get_or}
-use borrow.Author.Tests.{eq-eqb, ne_eqb, not-true, not-false}
+use borrow.Author.Tests.{eq-eqb, ne_eqb}
 use Rattle.grammar.specs.Tree.{body_depth, inner_depth}
 use Rattle.reference.specs.Analysis.{nullable_rules, grammar_of}
 use Rattle.reference.specs.Substitute.{Clause, no_steps, not_directly_rewritable, Decided, declined, require}
@@ -20,9 +20,8 @@ use Rattle.hub.specs.Removal.{Planning, Removable}
 use Rattle.planned.specs.Layout.{settled}
 use Rattle.planned.specs.List.{Laid, AllIn}
 use Rattle.rewritable.specs.Judge.{AreJudged, JudgedFound}
-use Rattle.rewritable.specs.declared.judge.Judged.{Judged}
 use Rattle.substitution.specs.declared.turning.Done.{Done}
-use Rattle.std.specs.Prelude.{Ok, Err}
+use Rattle.std.specs.Prelude.{Ok, Err, Option, Some, None}
 use Rattle.steps.specs.declared.decide.Clause.TheVariants.{NoSteps, NotDirectlyRewritable}
 use Rattle.turns.specs.declared.turn.Unplanned.TheVariants.{Declined}
 use Rattle.plan.specs.Known.{CycleKnown, known_rules, known_grammar}
@@ -52,7 +51,7 @@ module _ {ws : List ℕ} {end : ℕ} {rules : Rules} {past : Bool} {calls : List
             record { is = unmet no_steps _ (ap not (eq-eqb done.steps 0 e)) };
       }
 
-  module _ {n : ℕ} (count : n ≡ rules.n) (some : done.steps ≡ 0 → ⊥) {j : Judged}
+  module _ {n : ℕ} (count : n ≡ rules.n) (some : done.steps ≡ 0 → ⊥) {j : Option (List ℕ)}
       (judged : JudgedFound ws end rules (record { n = n; nullable = marks.nullable; past = past }) members hub bs done.l j) where
     known_judged : (x : CycleKnown ws end rules past calls marks kept members)
         → AreJudged (reading past) (known_grammar x) rules.ids rules.n x.cycle (get_or rules.ids hub 0) inner_depth
@@ -60,28 +59,27 @@ module _ {ws : List ℕ} {end : ℕ} {rules : Rules} {past : Bool} {calls : List
     unfolding grammar_of
     known_judged x = judged.is x.known.standing _ x.cycle refl (nullable_row x.known) x.is_cycle.row
 
-    pub last_unfit : not j.fit ≡ true → PlanLast ws end rules past calls marks kept members hub done bs (Err (Declined NotDirectlyRewritable))
+    pub last_unfit : j ≡ None → PlanLast ws end rules past calls marks kept members hub done bs (Err (Declined NotDirectlyRewritable))
     last_unfit f =
         record {
           is = λ limits x.
               record {
                 is = met no_steps _ (ap not (ne_eqb done.steps 0 some))
-                    ∙ unmet not_directly_rewritable _ (sym (known_judged x).fit ∙ not-true j.fit f);
+                    ∙ unmet not_directly_rewritable _ ((known_judged x).unfit f);
               };
         }
 
-    pub last_plan : not j.fit ≡ false → hub < rules.n → Laid bs done.l → AllIn ws end inner_depth bs done.l → {row : List ℕ}
-        → Removable calls n j.calls hub members kept row
+    pub last_plan : {planned : List ℕ} → j ≡ Some planned → hub < rules.n → Laid bs done.l → AllIn ws end inner_depth bs done.l
+        → {row : List ℕ} → Removable calls n planned hub members kept row
         → PlanLast ws end rules past calls marks kept members hub done bs
         (Ok (record { hub = hub; l = done.l; steps = done.steps; low = get_or row 0 0; high = get_or row 1 0 }))
-    last_plan u low laid listed {row} rows =
+    last_plan {planned} u low laid listed {row} rows =
         record {
           is = λ limits x.
-              let f = not-false j.fit u in
               let g = known_grammar x in
               let rs = known_rules x in
               let ps = settled ws end inner_depth bs done.l in
-              let p : Planning calls n j.calls hub = record {
+              let p : Planning calls n planned hub = record {
                 ws = ws;
                 end = end;
                 rules = rules;
@@ -92,13 +90,13 @@ module _ {ws : List ℕ} {end : ℕ} {rules : Rules} {past : Bool} {calls : List
                 count = count;
                 low = low;
                 plan = ps;
-                plans = (known_judged x).calls f;
+                plans = (known_judged x).calls planned u;
               } in
               let r = rows.is p x.cycle x.preserved x.is_cycle x.keeps in
               record {
                 plan = plan_of inner_depth rs x.cycle g x.preserved (get_or rules.ids hub 0)
                     (record { alternatives = ps; steps = done.steps });
-                is = met no_steps _ (ap not (ne_eqb done.steps 0 some)) ∙ met not_directly_rewritable _ (sym (known_judged x).fit ∙ f);
+                is = met no_steps _ (ap not (ne_eqb done.steps 0 some)) ∙ met not_directly_rewritable _ ((known_judged x).fit planned u);
                 same = record {
                   inside = low;
                   hub = refl;

@@ -7,8 +7,8 @@ pub returns-then-done-eq0 : goal.returns-then-done-eq0
 returns-then-done-eq0 c = search (rules, lasts, last_plan)
 
 -- src/plan.rt:80:9
-pub returns-then-not-judged : goal.returns-then-not-judged
-returns-then-not-judged c = search (rules, lasts, last_plan)
+pub returns-in_default : goal.returns-in_default
+returns-in_default c = search (rules, lasts, last_plan)
 
 -- src/plan.rt:53:1
 pub returns : goal.returns
