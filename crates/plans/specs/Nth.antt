@@ -1,5 +1,6 @@
 -- The decision for the nth cycle against the definition (SPECIFICATION 5 to 10), and its numbers.
-use Rattle.std.specs.Prelude.{ℕ, ◌<◌, ◌≤◌, ◌-◌, min, ◌≡◌, List, [], ◌∷◌, Bool, true, false, length, get_or, replicate, eqb, Option, Some, None, Result, Ok, Err}
+use Rattle.std.specs.Prelude.{ℕ, ◌<◌, ◌≤◌, ◌-◌, min, ◌≡◌, List, [], ◌∷◌, Bool, true, false, length, get_or, replicate, eqb}
+use Rattle.std.specs.Prelude.{Option, Some, None, Result, Ok, Err}
 use Rattle.grammar.specs.Numbers.{word_end}
 use Rattle.grammar.specs.Tree.{Rule, body_depth, inner_depth}
 use Rattle.grammar.specs.Corners.{Corners}

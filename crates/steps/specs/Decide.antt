@@ -97,7 +97,8 @@ Unreferring d a = action_reference_names d a.elements ≡ []
 module _ (ws : List ℕ) (end d at : ℕ) (bs : List ℕ) where
   -- The names of the alternative at a place against those around an element.
   pub record CollisionAt (quiet : Bool) (r : Result (Unit {0}) Clause) : Type 0 where
-    pub some : (c : Clause) → r ≡ Err c → (p : Planned d) (index : ℕ) → Around ws d p.elements index bs quiet → (a : AlternativeOf (Block d)) (q : ℕ)
+    pub some : (c : Clause) → r ≡ Err c
+        → (p : Planned d) (index : ℕ) → Around ws d p.elements index bs quiet → (a : AlternativeOf (Block d)) (q : ℕ)
         → AlternativeSpans ws end d at a q → Unreferring d a → DeclinedBy (splice_alternative d p index a) c
     pub none : r ≡ Ok tt → (p : Planned d) (index : ℕ) → Around ws d p.elements index bs quiet → (a : AlternativeOf (Block d)) (q : ℕ)
         → AlternativeSpans ws end d at a q → Unreferring d a → splice_alternative d p index a ≡ join_options d p index a

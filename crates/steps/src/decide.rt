@@ -7,7 +7,8 @@ ghost use Rattle.grammar.specs.Words.{words};
 ghost use Rattle.grammar.specs.Found.{FoundAlternative, FoundRule};
 ghost use Rattle.words.specs.Room.{Room};
 ghost use Rattle.planned.specs.List.{Located, ListedIn};
-ghost use Rattle.steps.specs.Decide.{clause_of, Searchable, CollisionAt, OneAt, IsCounted, SmallSize, HandFits, AlternativeCounted, RuleSized};
+ghost use Rattle.steps.specs.Decide.{clause_of, Searchable, CollisionAt, OneAt, IsCounted, SmallSize, HandFits};
+ghost use Rattle.steps.specs.Decide.{AlternativeCounted, RuleSized};
 
 use collisions::clash::clash_at;
 use ends::ends::alternative_end;
