@@ -3,13 +3,14 @@ ghost use Rattle.std.specs.Prelude.{◌≡◌, ◌+◌, ◌*◌, ◌<◌, ◌≤
 ghost use Rattle.grammar.specs.Numbers.{rule_limit, block_kind};
 ghost use Rattle.grammar.specs.Words.{words};
 ghost use Rattle.grammar.specs.Found.{FoundElement, HeadAt};
-ghost use Rattle.words.specs.Room.{Room};
 ghost use Rattle.analysis.specs.Names.{Tabled};
 ghost use Rattle.analysis.specs.Survey.{view_of, seen_of, skipping, StopSeen, BitSeen, past_call, SymbolSeen, NameSeen, LeafSeen};
+ghost use Rattle.words.specs.Sheet.{text};
 
 use crate::names::look_up;
 use reach::rows::{Row, add_if, has};
 use words::numbers::{Kind, Quantifier};
+use words::sheet::Sheet;
 use words::words::word;
 
 // What is known of the rules while a body is walked: how many places there are, which rules are nullable, and whether left
@@ -112,8 +113,7 @@ fn see_name(
 // An element that is no block; its payload stands at `payload`.
 #[tactic(auto, using(crate::proofs::Laws::Seen::leaves))]
 pub fn see_leaf(
-    s: &[u8],
-    end: usize,
+    s: &Sheet,
     depth: u32,
     at: usize,
     kind: u32,
@@ -125,14 +125,14 @@ pub fn see_leaf(
     p: Passing,
     t: &mut [u64],
 ) -> Passing
-    requires room { Room s.now end × (known.n ≤ rule_limit) × (5 ≤ length t.old) }
+    requires room { (known.n ≤ rule_limit) × (5 ≤ length t.old) }
     requires tabled { Tabled names.now known.n table.now }
-    requires head_at { HeadAt (words s.now) end at kind payload × (kind ≡ block_kind → ⊥) × FoundElement (words s.now) end depth at }
-    ensures { LeafSeen (view_of names.now known) (words s.now) end kind payload skips
+    requires head_at { HeadAt (text s.now) s.now.end at kind payload × (kind ≡ block_kind → ⊥) × FoundElement (text s.now) s.now.end depth at }
+    ensures { LeafSeen (view_of names.now known) (text s.now) s.now.end kind payload skips
         (seen_of t.old p.seeks p.null) (seen_of t.new result.seeks result.null) }
 {
     if kind == Kind::CALL {
-        return see_name(names, known, table, word(s, payload), skips, p, t);
+        return see_name(names, known, table, word(s.bytes, payload), skips, p, t);
     }
     if kind == Kind::END_OF_INPUT {
         return p;

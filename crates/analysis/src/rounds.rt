@@ -2,20 +2,20 @@
 // stand (SPECIFICATION 6.4).
 ghost use Rattle.std.specs.Prelude.{◌≡◌, ◌<◌, ◌≤◌, length};
 ghost use Rattle.grammar.specs.Numbers.{rule_limit, work_bytes};
-ghost use Rattle.grammar.specs.Words.{words};
-ghost use Rattle.words.specs.Room.{Room};
 ghost use Rattle.records.specs.Rules.{FoundRows};
 ghost use Rattle.analysis.specs.Names.{Tabled, table_with};
 ghost use Rattle.analysis.specs.Survey.{view_of};
 ghost use Rattle.analysis.specs.Rounds.{Marked, Recording};
 ghost use Rattle.analysis.specs.Facts.{Standing, FactsFound};
 ghost use Rattle.reach.specs.Rows.{Behind};
+ghost use Rattle.words.specs.Sheet.{text};
 
 use crate::leaf::Known;
 use crate::names::put_names;
 use crate::survey::survey_rule;
 use reach::rows::{Row, add_if};
 use records::rules::Rules;
+use words::sheet::Sheet;
 
 // Rules that are nullable, and rules that cannot be inlined as satellites.
 #[derive(Clone, Copy, Debug, PartialEq, Eq)]
@@ -53,19 +53,18 @@ fn mark(r: Round, i: usize, nullable: bool, stops: bool) -> Round
 
 // Every rule surveyed.
 fn survey_all(
-    s: &[u8],
-    end: usize,
+    s: &Sheet,
     rules: Rules,
     known: Known,
     table: &[u8],
     calls: &mut [[u64; Row::WORDS]; Row::RULES],
     corners: &mut [[u64; Row::WORDS]; Row::RULES],
 ) -> Round
-    requires room { Room s.now end × (known.n ≡ rules.n) × (rules.n ≤ rule_limit) }
+    requires room { (known.n ≡ rules.n) × (rules.n ≤ rule_limit) }
     requires tabled { Tabled rules.names known.n table.now }
-    requires found_rows { FoundRows (words s.now) end rules }
+    requires found_rows { FoundRows (text s.now) s.now.end rules }
     requires calls_len { (length calls.old ≡ rule_limit) × (length corners.old ≡ rule_limit) }
-    ensures { Recording (view_of rules.names known) (words s.now) end rules.places
+    ensures { Recording (view_of rules.names known) (text s.now) s.now.end rules.places
         calls.old corners.old rules.n calls.new corners.new result }
 {
     let names = rules.names;
@@ -80,7 +79,7 @@ fn survey_all(
         count: 0,
     };
     for i in 0..n {
-        let v = survey_rule(s, end, &names, known, table, places[i] as usize);
+        let v = survey_rule(s, &names, known, table, places[i] as usize);
         let c = v.calls;
         let k = v.corners;
         calls[i] = c;
@@ -93,18 +92,17 @@ fn survey_all(
 
 // Rounds until the nullable rules stand, by a table of the names.
 fn rounds(
-    s: &[u8],
-    end: usize,
+    s: &Sheet,
     rules: Rules,
     past: bool,
     table: &[u8],
     calls: &mut [[u64; Row::WORDS]; Row::RULES],
     corners: &mut [[u64; Row::WORDS]; Row::RULES],
 ) -> Marks
-    requires room { Room s.now end × Tabled rules.names rules.n table.now }
-    requires standing { Standing (words s.now) end rules }
+    requires room { Tabled rules.names rules.n table.now }
+    requires standing { Standing (text s.now) s.now.end rules }
     requires calls_len { (length calls.old ≡ rule_limit) × (length corners.old ≡ rule_limit) }
-    ensures facts_found { FactsFound (words s.now) end rules past calls.new corners.new result }
+    ensures facts_found { FactsFound (text s.now) s.now.end rules past calls.new corners.new result }
     ensures behind { Behind rules.n calls.old calls.new
         × Behind rules.n corners.old corners.new }
 {
@@ -117,7 +115,7 @@ fn rounds(
             nullable: found,
             past,
         };
-        let r = survey_all(s, end, rules, known, table, calls, corners);
+        let r = survey_all(s, rules, known, table, calls, corners);
         let marks = r.marks;
         if r.count == count {
             let stops = marks.stops;
@@ -135,7 +133,7 @@ fn rounds(
         nullable: found,
         past,
     };
-    let r = survey_all(s, end, rules, known, table, calls, corners);
+    let r = survey_all(s, rules, known, table, calls, corners);
     let marks = r.marks;
     let stops = marks.stops;
     Marks {
@@ -147,18 +145,17 @@ fn rounds(
 // The rows of all rules. As many rounds as there are rules find all that is nullable; if one finds no more, it is the last.
 // The table of names is left in the work area.
 pub fn find_rows(
-    s: &[u8],
-    end: usize,
+    s: &Sheet,
     rules: Rules,
     past: bool,
     calls: &mut [[u64; Row::WORDS]; Row::RULES],
     corners: &mut [[u64; Row::WORDS]; Row::RULES],
     work: &mut [u8],
 ) -> Marks
-    requires room { Room s.now end × (work_bytes ≤ length work.old) }
-    requires standing { Standing (words s.now) end rules }
+    requires room { work_bytes ≤ length work.old }
+    requires standing { Standing (text s.now) s.now.end rules }
     requires calls_len { (length calls.old ≡ rule_limit) × (length corners.old ≡ rule_limit) }
-    ensures facts_found { FactsFound (words s.now) end rules past calls.new corners.new result }
+    ensures facts_found { FactsFound (text s.now) s.now.end rules past calls.new corners.new result }
     ensures behind { Behind rules.n calls.old calls.new
         × Behind rules.n corners.old corners.new }
     ensures work_after { work.new ≡ table_with rules.names rules.n work.old }
@@ -166,5 +163,5 @@ pub fn find_rows(
     let names = rules.names;
     let n = rules.n as usize;
     put_names(&names, n, work);
-    rounds(s, end, rules, past, work, calls, corners)
+    rounds(s, rules, past, work, calls, corners)
 }

@@ -3,23 +3,22 @@
 ghost use Rattle.std.specs.Prelude.{◌+◌, ◌≤◌, length};
 ghost use Rattle.grammar.specs.Numbers.{rule_limit};
 ghost use Rattle.grammar.specs.Tree.{inner_depth};
-ghost use Rattle.grammar.specs.Words.{words};
 ghost use Rattle.grammar.specs.Found.{FoundAlternative, FoundAlternatives, FoundRule};
-ghost use Rattle.words.specs.Room.{Room};
 ghost use Rattle.analysis.specs.Names.{Tabled};
 ghost use Rattle.analysis.specs.Survey.{view_of, seen_of, OutermostWalked, BodyWalked};
 ghost use Rattle.analysis.specs.Facts.{Surveyed};
+ghost use Rattle.words.specs.Sheet.{text};
 
 use crate::leaf::{Known, Slot, stop};
 use crate::walk::{Place, alternative};
 use reach::rows::Row;
 use words::numbers::Block;
+use words::sheet::Sheet;
 use words::words::word;
 
 // The outermost alternative at `at`, whose label stops inlining.
 fn outermost(
-    s: &[u8],
-    end: usize,
+    s: &Sheet,
     names: &[u32],
     known: Known,
     table: &[u8],
@@ -28,25 +27,14 @@ fn outermost(
     null: bool,
     t: &mut [u64],
 ) -> Place
-    requires room { Room s.now end × (known.n ≤ rule_limit) × (5 ≤ length t.old) }
+    requires room { (known.n ≤ rule_limit) × (5 ≤ length t.old) }
     requires tabled { Tabled names.now known.n table.now }
-    requires found_alternative { FoundAlternative (words s.now) end inner_depth at × (at + 5 ≤ end) }
-    ensures { OutermostWalked (view_of names.now known) (words s.now) end at
+    requires found_alternative { FoundAlternative (text s.now) s.now.end inner_depth at × (at + 5 ≤ s.now.end) }
+    ensures { OutermostWalked (view_of names.now known) (text s.now) s.now.end at
         (seen_of t.old seeks null) result.at (seen_of t.new result.seeks result.null) }
 {
-    let r = alternative(
-        s,
-        end,
-        Block::DEPTH,
-        names,
-        known,
-        table,
-        at,
-        seeks,
-        null,
-        t,
-    );
-    if word(s, at + 2) == 0 {
+    let r = alternative(s, Block::DEPTH, names, known, table, at, seeks, null, t);
+    if word(s.bytes, at + 2) == 0 {
         return r;
     }
     stop(t);
@@ -55,8 +43,7 @@ fn outermost(
 
 // n outermost alternatives from `at` on.
 fn body(
-    s: &[u8],
-    end: usize,
+    s: &Sheet,
     names: &[u32],
     known: Known,
     table: &[u8],
@@ -66,15 +53,15 @@ fn body(
     null: bool,
     t: &mut [u64],
 ) -> Place
-    requires room { Room s.now end × (known.n ≤ rule_limit) × (5 ≤ length t.old) × (at ≤ end) }
+    requires room { (known.n ≤ rule_limit) × (5 ≤ length t.old) × (at ≤ s.now.end) }
     requires tabled { Tabled names.now known.n table.now }
-    requires found_alternatives { FoundAlternatives (words s.now) end inner_depth n at }
-    ensures { BodyWalked (view_of names.now known) (words s.now) end n at
+    requires found_alternatives { FoundAlternatives (text s.now) s.now.end inner_depth n at }
+    ensures { BodyWalked (view_of names.now known) (text s.now) s.now.end n at
         (seen_of t.old seeks null) result.at (seen_of t.new result.seeks result.null) }
 {
     let mut p = Place { at, seeks, null };
     for _ in 0..n {
-        p = outermost(s, end, names, known, table, p.at, p.seeks, p.null, t);
+        p = outermost(s, names, known, table, p.at, p.seeks, p.null, t);
     }
     p
 }
@@ -89,34 +76,16 @@ pub struct Survey {
 }
 
 // The rule at `at`.
-pub fn survey_rule(
-    s: &[u8],
-    end: usize,
-    names: &[u32],
-    known: Known,
-    table: &[u8],
-    at: usize,
-) -> Survey
-    requires room { Room s.now end × (known.n ≤ rule_limit) × (at + 4 ≤ end) }
+pub fn survey_rule(s: &Sheet, names: &[u32], known: Known, table: &[u8], at: usize) -> Survey
+    requires room { (known.n ≤ rule_limit) × (at + 4 ≤ s.now.end) }
     requires tabled { Tabled names.now known.n table.now }
-    requires found_rule { FoundRule (words s.now) end at }
-    ensures { Surveyed (view_of names.now known) (words s.now) end at result }
+    requires found_rule { FoundRule (text s.now) s.now.end at }
+    ensures { Surveyed (view_of names.now known) (text s.now) s.now.end at result }
 {
     let mut t = [0u64; Slot::ALL];
-    let count = word(s, at + 3);
-    let flags = word(s, at + 2);
-    let w = body(
-        s,
-        end,
-        names,
-        known,
-        table,
-        count,
-        at + 4,
-        true,
-        false,
-        &mut t,
-    );
+    let count = word(s.bytes, at + 3);
+    let flags = word(s.bytes, at + 2);
+    let w = body(s, names, known, table, count, at + 4, true, false, &mut t);
     Survey {
         calls: [t[0], t[1]],
         corners: [t[2], t[3]],

@@ -1,15 +1,15 @@
 // One walk over alternatives and elements: what is seen in them. An element and a block are told by each other.
 ghost use Rattle.std.specs.Prelude.{◌≤◌, length};
 ghost use Rattle.grammar.specs.Numbers.{rule_limit};
-ghost use Rattle.grammar.specs.Words.{words};
 ghost use Rattle.grammar.specs.Found.{FoundElement, FoundElements, FoundAlternative, FoundAlternatives};
 ghost use Rattle.grammar.specs.Fold.{ElementWalked, ElementsWalked, AlternativeWalked, AlternativesWalked};
-ghost use Rattle.words.specs.Room.{Room};
 ghost use Rattle.analysis.specs.Names.{Tabled};
 ghost use Rattle.analysis.specs.Survey.{view_of, seen_of, surveying};
+ghost use Rattle.words.specs.Sheet.{text};
 
 use crate::leaf::{Known, Passing, see_leaf, see_symbol, skips_at};
 use words::numbers::Kind;
+use words::sheet::Sheet;
 use words::walk::{alternative_head, element_head, leaf_end};
 use words::words::word;
 
@@ -24,8 +24,7 @@ pub struct Place {
 // The element at `at`, a block with all that is in it. Most are tokens, which are seen here, without a call.
 #[cycle(tree)]
 pub fn element(
-    s: &[u8],
-    end: usize,
+    s: &Sheet,
     depth: u32,
     names: &[u32],
     known: Known,
@@ -35,31 +34,30 @@ pub fn element(
     null: bool,
     t: &mut [u64],
 ) -> Place
-    requires room { Room s.now end × (known.n ≤ rule_limit) × (5 ≤ length t.old) }
+    requires room { (known.n ≤ rule_limit) × (5 ≤ length t.old) }
     requires tabled { Tabled names.now known.n table.now }
-    requires found_element { FoundElement (words s.now) end depth at }
-    ensures { ElementWalked (surveying (view_of names.now known)) (words s.now) end depth at
+    requires found_element { FoundElement (text s.now) s.now.end depth at }
+    ensures { ElementWalked (surveying (view_of names.now known)) (text s.now) s.now.end depth at
         (seen_of t.old seeks null) result.at (seen_of t.new result.seeks result.null) }
 {
-    let head = element_head(s, end, depth, at);
+    let head = element_head(s, depth, at);
     if head.kind == Kind::TOKEN {
-        let there = leaf_end(s, end, depth, at, head.kind, head.payload);
+        let there = leaf_end(s, depth, at, head.kind, head.payload);
         let p = Passing { seeks, null };
-        let q = see_symbol(known.past, skips_at(s, at), p);
+        let q = see_symbol(known.past, skips_at(s.bytes, at), p);
         return Place {
             at: there,
             seeks: q.seeks,
             null: q.null,
         };
     }
-    other_element(s, end, depth, names, known, table, at, seeks, null, t)
+    other_element(s, depth, names, known, table, at, seeks, null, t)
 }
 
 // The same of any element, in a function of its own so that `element` stays small.
 #[cycle(tree)]
 fn other_element(
-    s: &[u8],
-    end: usize,
+    s: &Sheet,
     depth: u32,
     names: &[u32],
     known: Known,
@@ -69,21 +67,20 @@ fn other_element(
     null: bool,
     t: &mut [u64],
 ) -> Place
-    requires room { Room s.now end × (known.n ≤ rule_limit) × (5 ≤ length t.old) }
+    requires room { (known.n ≤ rule_limit) × (5 ≤ length t.old) }
     requires tabled { Tabled names.now known.n table.now }
-    requires found_element { FoundElement (words s.now) end depth at }
-    ensures { ElementWalked (surveying (view_of names.now known)) (words s.now) end depth at
+    requires found_element { FoundElement (text s.now) s.now.end depth at }
+    ensures { ElementWalked (surveying (view_of names.now known)) (text s.now) s.now.end depth at
         (seen_of t.old seeks null) result.at (seen_of t.new result.seeks result.null) }
 {
-    let head = element_head(s, end, depth, at);
+    let head = element_head(s, depth, at);
     let kind = head.kind;
     let payload = head.payload;
-    let skips = skips_at(s, at);
+    let skips = skips_at(s.bytes, at);
     if kind == Kind::BLOCK {
-        let count = word(s, payload);
+        let count = word(s.bytes, payload);
         let b = alternatives(
             s,
-            end,
             depth - 1,
             names,
             known,
@@ -101,10 +98,10 @@ fn other_element(
             null: null & empty,
         };
     }
-    let there = leaf_end(s, end, depth, at, kind, payload);
+    let there = leaf_end(s, depth, at, kind, payload);
     let p = Passing { seeks, null };
     let q = see_leaf(
-        s, end, depth, at, kind, payload, names, known, table, skips, p, t,
+        s, depth, at, kind, payload, names, known, table, skips, p, t,
     );
     Place {
         at: there,
@@ -116,8 +113,7 @@ fn other_element(
 // n elements from `at` on.
 #[cycle(tree)]
 fn elements(
-    s: &[u8],
-    end: usize,
+    s: &Sheet,
     depth: u32,
     names: &[u32],
     known: Known,
@@ -128,15 +124,15 @@ fn elements(
     null: bool,
     t: &mut [u64],
 ) -> Place
-    requires room { Room s.now end × (known.n ≤ rule_limit) × (5 ≤ length t.old) × (at ≤ end) }
+    requires room { (known.n ≤ rule_limit) × (5 ≤ length t.old) × (at ≤ s.now.end) }
     requires tabled { Tabled names.now known.n table.now }
-    requires found_elements { FoundElements (words s.now) end depth n at }
-    ensures { ElementsWalked (surveying (view_of names.now known)) (words s.now) end depth n at
+    requires found_elements { FoundElements (text s.now) s.now.end depth n at }
+    ensures { ElementsWalked (surveying (view_of names.now known)) (text s.now) s.now.end depth n at
         (seen_of t.old seeks null) result.at (seen_of t.new result.seeks result.null) }
 {
     let mut p = Place { at, seeks, null };
     for _ in 0..n {
-        p = element(s, end, depth, names, known, table, p.at, p.seeks, p.null, t);
+        p = element(s, depth, names, known, table, p.at, p.seeks, p.null, t);
     }
     p
 }
@@ -144,8 +140,7 @@ fn elements(
 // The alternative at `at`.
 #[cycle(tree)]
 pub fn alternative(
-    s: &[u8],
-    end: usize,
+    s: &Sheet,
     depth: u32,
     names: &[u32],
     known: Known,
@@ -155,16 +150,16 @@ pub fn alternative(
     null: bool,
     t: &mut [u64],
 ) -> Place
-    requires room { Room s.now end × (known.n ≤ rule_limit) × (5 ≤ length t.old) }
+    requires room { (known.n ≤ rule_limit) × (5 ≤ length t.old) }
     requires tabled { Tabled names.now known.n table.now }
-    requires found_alternative { FoundAlternative (words s.now) end depth at }
-    ensures { AlternativeWalked (surveying (view_of names.now known)) (words s.now) end depth at
+    requires found_alternative { FoundAlternative (text s.now) s.now.end depth at }
+    ensures { AlternativeWalked (surveying (view_of names.now known)) (text s.now) s.now.end depth at
         (seen_of t.old seeks null) result.at (seen_of t.new result.seeks result.null) }
 {
-    let head = alternative_head(s, end, depth, at);
+    let head = alternative_head(s, depth, at);
     let count = head.count;
     let e = elements(
-        s, end, depth, names, known, table, count, head.first, seeks, true, t,
+        s, depth, names, known, table, count, head.first, seeks, true, t,
     );
     Place {
         at: e.at,
@@ -176,8 +171,7 @@ pub fn alternative(
 // n alternatives from `at` on: a block.
 #[cycle(tree)]
 fn alternatives(
-    s: &[u8],
-    end: usize,
+    s: &Sheet,
     depth: u32,
     names: &[u32],
     known: Known,
@@ -188,15 +182,15 @@ fn alternatives(
     null: bool,
     t: &mut [u64],
 ) -> Place
-    requires room { Room s.now end × (known.n ≤ rule_limit) × (5 ≤ length t.old) × (at ≤ end) }
+    requires room { (known.n ≤ rule_limit) × (5 ≤ length t.old) × (at ≤ s.now.end) }
     requires tabled { Tabled names.now known.n table.now }
-    requires found_alternatives { FoundAlternatives (words s.now) end depth n at }
-    ensures { AlternativesWalked (surveying (view_of names.now known)) (words s.now) end depth n at
+    requires found_alternatives { FoundAlternatives (text s.now) s.now.end depth n at }
+    ensures { AlternativesWalked (surveying (view_of names.now known)) (text s.now) s.now.end depth n at
         (seen_of t.old seeks null) result.at (seen_of t.new result.seeks result.null) }
 {
     let mut p = Place { at, seeks, null };
     for _ in 0..n {
-        p = alternative(s, end, depth, names, known, table, p.at, p.seeks, p.null, t);
+        p = alternative(s, depth, names, known, table, p.at, p.seeks, p.null, t);
     }
     p
 }

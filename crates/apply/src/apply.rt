@@ -17,7 +17,8 @@ use plan::plan::Plan;
 use records::rules::Rules;
 use sizes::measure::measure;
 use sizes::sums::Measure;
-use words::numbers::{Refusal, Sheet};
+use words::numbers::Refusal;
+use words::sheet::Sheet;
 use writing::copy::copy_words;
 use writing::counters::Counters;
 
@@ -128,7 +129,8 @@ pub fn apply(
         × (length trail.new ≡ length trail.old) × (length work.new ≡ length work.old) }
 {
     let l = p.l;
-    let m = measure(res, end, work, l);
+    let s = Sheet { bytes: res, end };
+    let m = measure(&s, work, l);
     let n = words_after(res, end, to, rules, p, work, m);
     judge(counters, m, n, room, recorded)?;
     let entries = recorded + ids_in(m) + 1;

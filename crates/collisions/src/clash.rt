@@ -4,16 +4,16 @@ ghost use Rattle.std.specs.Prelude.{◌≡◌, ◌+◌, ◌≤◌};
 ghost use Rattle.std.proofs.Common.{rules};
 ghost use Rattle.grammar.specs.Numbers.{block_kind};
 ghost use Rattle.grammar.specs.Tree.{inner_depth};
-ghost use Rattle.grammar.specs.Words.{words};
 ghost use Rattle.grammar.specs.Found.{FoundElement, FoundAlternative, HeadAt};
-ghost use Rattle.words.specs.Room.{Room};
 ghost use Rattle.collisions.specs.Names.{labels_bit, references_bit, has_name, Ordered};
 ghost use Rattle.collisions.specs.Walks.{noting_past_block, noting_past_alternative, LabelSeen, LeafSeen};
 ghost use Rattle.collisions.specs.declared.clash.Clash.{Clash};
 ghost use Rattle.collisions.specs.Clash.{clash_label, clash_leaf, comparing, NameBound, ClashesAt};
+ghost use Rattle.words.specs.Sheet.{text};
 
 use crate::names::{Names, has};
 use words::numbers::{Block, Kind};
+use words::sheet::Sheet;
 use words::visit::{Visitor, walk_alternative};
 use words::walk::Head;
 use words::words::word;
@@ -32,38 +32,37 @@ struct Comparer<'a> {
     found: Clash,
 }
 
-fn see_label(s: &[u8], end: usize, depth: u32, at: usize, work: &[u8], c: Clash) -> Clash
-    requires room { Room s.now end × (at + 6 ≤ end) × Ordered (words s.now) end work.now }
-    requires found_element { FoundElement (words s.now) end depth at }
-    ensures { LabelSeen (words s.now) at
-        (clash_label (has_name (words s.now) work.now labels_bit)
-        (has_name (words s.now) work.now references_bit)) c result }
+fn see_label(s: &Sheet, depth: u32, at: usize, work: &[u8], c: Clash) -> Clash
+    requires room { (at + 6 ≤ s.now.end) × Ordered (text s.now) s.now.end work.now }
+    requires found_element { FoundElement (text s.now) s.now.end depth at }
+    ensures { LabelSeen (text s.now) at
+        (clash_label (has_name (text s.now) work.now labels_bit)
+        (has_name (text s.now) work.now references_bit)) c result }
 {
-    let name = word(s, at + 4);
+    let name = word(s.bytes, at + 4);
     if name == 0 {
         return c;
     }
     Clash {
-        label: c.label | has(s, end, work, Names::LABELS, name),
-        binding: c.binding | has(s, end, work, Names::REFERENCES, name),
+        label: c.label | has(s, work, Names::LABELS, name),
+        binding: c.binding | has(s, work, Names::REFERENCES, name),
     }
 }
 
 // A name that a call or a token binds.
-fn bind(s: &[u8], end: usize, work: &[u8], name: u32, c: Clash) -> Clash
-    requires { Room s.now end × Ordered (words s.now) end work.now }
-    ensures { NameBound (words s.now) work.now name c result }
+fn bind(s: &Sheet, work: &[u8], name: u32, c: Clash) -> Clash
+    requires { Ordered (text s.now) s.now.end work.now }
+    ensures { NameBound (text s.now) work.now name c result }
 {
     Clash {
         label: c.label,
-        binding: c.binding | has(s, end, work, Names::REFERENCES, name),
+        binding: c.binding | has(s, work, Names::REFERENCES, name),
     }
 }
 
 // An element that is no block; its payload stands at `payload`.
 fn see_leaf(
-    s: &[u8],
-    end: usize,
+    s: &Sheet,
     depth: u32,
     at: usize,
     kind: u32,
@@ -71,16 +70,16 @@ fn see_leaf(
     work: &[u8],
     c: Clash,
 ) -> Clash
-    requires room { Room s.now end × Ordered (words s.now) end work.now }
-    requires head_at { HeadAt (words s.now) end at kind payload × (kind ≡ block_kind → ⊥) × FoundElement (words s.now) end depth at }
-    ensures { LeafSeen (words s.now) end kind payload
-        (clash_leaf (has_name (words s.now) work.now references_bit)) c result }
+    requires room { Ordered (text s.now) s.now.end work.now }
+    requires head_at { HeadAt (text s.now) s.now.end at kind payload × (kind ≡ block_kind → ⊥) × FoundElement (text s.now) s.now.end depth at }
+    ensures { LeafSeen (text s.now) s.now.end kind payload
+        (clash_leaf (has_name (text s.now) work.now references_bit)) c result }
 {
     if kind == Kind::CALL {
-        return bind(s, end, work, word(s, payload), c);
+        return bind(s, work, word(s.bytes, payload), c);
     }
     if kind == Kind::TOKEN {
-        return bind(s, end, work, word(s, payload), c);
+        return bind(s, work, word(s.bytes, payload), c);
     }
     c
 }
@@ -96,34 +95,25 @@ impl Visitor for Comparer<'_> {
 
     ghost Kept = { λ ws end a b. a.work.now ≡ b.work.now };
 
-    fn leaf(&mut self, s: &[u8], end: usize, depth: u32, at: usize, head: Head) {
-        let labelled = see_label(s, end, depth, at, self.work, self.found);
-        self.found = see_leaf(
-            s,
-            end,
-            depth,
-            at,
-            head.kind,
-            head.payload,
-            self.work,
-            labelled,
-        );
+    fn leaf(&mut self, s: &Sheet, depth: u32, at: usize, head: Head) {
+        let labelled = see_label(s, depth, at, self.work, self.found);
+        self.found = see_leaf(s, depth, at, head.kind, head.payload, self.work, labelled);
     }
 
-    fn enter_block(&mut self, s: &[u8], end: usize, depth: u32, at: usize, _head: Head) {
-        self.found = see_label(s, end, depth, at, self.work, self.found);
+    fn enter_block(&mut self, s: &Sheet, depth: u32, at: usize, _head: Head) {
+        self.found = see_label(s, depth, at, self.work, self.found);
     }
 
-    fn enter_alternative(&mut self, _s: &[u8], _end: usize, _depth: u32, _at: usize) {}
+    fn enter_alternative(&mut self, _s: &Sheet, _depth: u32, _at: usize) {}
 
     ghost laws = { Prim.search (rules, noting_past_block, noting_past_alternative) };
 }
 
 // Whether the alternative at `at` collides with what is marked.
-pub fn clash_at(s: &[u8], end: usize, work: &[u8], at: usize) -> Clash
-    requires room { Room s.now end × Ordered (words s.now) end work.now }
-    requires found_alternative { FoundAlternative (words s.now) end inner_depth at }
-    ensures { ClashesAt (words s.now) end inner_depth at work.now result }
+pub fn clash_at(s: &Sheet, work: &[u8], at: usize) -> Clash
+    requires room { Ordered (text s.now) s.now.end work.now }
+    requires found_alternative { FoundAlternative (text s.now) s.now.end inner_depth at }
+    ensures { ClashesAt (text s.now) s.now.end inner_depth at work.now result }
 {
     let nothing = Clash {
         label: false,
@@ -133,6 +123,6 @@ pub fn clash_at(s: &[u8], end: usize, work: &[u8], at: usize) -> Clash
         work,
         found: nothing,
     };
-    walk_alternative(&mut comparer, s, end, Block::DEPTH, at);
+    walk_alternative(&mut comparer, s, Block::DEPTH, at);
     comparer.found
 }

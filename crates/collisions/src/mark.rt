@@ -3,9 +3,7 @@ ghost use Rattle.std.specs.Prelude.{◌≡◌, ◌+◌, ◌<◌, ◌≤◌};
 ghost use Rattle.std.proofs.Common.{rules};
 ghost use Rattle.grammar.specs.Numbers.{block_kind, most_words};
 ghost use Rattle.grammar.specs.Tree.{inner_depth};
-ghost use Rattle.grammar.specs.Words.{words};
 ghost use Rattle.grammar.specs.Found.{FoundElement, HeadAt};
-ghost use Rattle.words.specs.Room.{Room};
 ghost use Rattle.planned.specs.Layout.{meaning};
 ghost use Rattle.planned.specs.List.{Located, ListedIn};
 ghost use Rattle.collisions.specs.Names.{Ordered, Kept, kept_refl, kept_trans};
@@ -13,73 +11,60 @@ ghost use Rattle.collisions.specs.Names as names;
 ghost use Rattle.collisions.specs.Walks.{noting_past_block, noting_past_alternative};
 ghost use Rattle.collisions.specs.Walks.{LeafSeen, FoundReference, FoundReferences, ItemsWalked};
 ghost use Rattle.collisions.specs.Mark.{Marks, marks_of, mark_leaf, marking, LabelMarked, ReferenceMarked, ReferencesMarked, MarkedAround};
+ghost use Rattle.words.specs.Sheet.{text};
 
 use crate::names::{Names, clear_both, put};
 use crate::references::reference_count;
 use planned::list::Listed;
 use planned::read::item;
 use words::numbers::{Block, ReferenceKind};
+use words::sheet::Sheet;
 use words::visit::{Visitor, walk_element};
 use words::walk::Head;
 use words::words::word;
 
-fn mark_label(s: &[u8], end: usize, depth: u32, at: usize, work: &mut [u8])
-    requires room { Room s.now end × (at + 6 ≤ end) × Ordered (words s.now) end work.old }
-    requires found_element { FoundElement (words s.now) end depth at }
-    ensures { LabelMarked (words s.now) end at work.old work.new }
+fn mark_label(s: &Sheet, depth: u32, at: usize, work: &mut [u8])
+    requires room { (at + 6 ≤ s.now.end) × Ordered (text s.now) s.now.end work.old }
+    requires found_element { FoundElement (text s.now) s.now.end depth at }
+    ensures { LabelMarked (text s.now) s.now.end at work.old work.new }
 {
-    let name = word(s, at + 4);
+    let name = word(s.bytes, at + 4);
     if name == 0 {
         return;
     }
-    put(s, end, work, Names::LABELS, at + 4);
+    put(s, work, Names::LABELS, at + 4);
 }
 
 // The reference at `at`; all but those of the last kind bind.
-fn mark_reference(
-    s: &[u8],
-    end: usize,
-    at: usize,
-    name: u32,
-    work: &mut [u8],
-    dangling: bool,
-) -> bool
-    requires room { Room s.now end × (0 < at) × (at + 2 ≤ end) × Ordered (words s.now) end work.old }
-    requires found_reference { FoundReference (words s.now) end at }
-    ensures { Kept (words s.now) end work.old work.new × ReferenceMarked name
-        (words s.now) end at (marks_of (words s.now) work.old dangling) (at + 2)
-        (marks_of (words s.now) work.new result) }
+fn mark_reference(s: &Sheet, at: usize, name: u32, work: &mut [u8], dangling: bool) -> bool
+    requires room { (0 < at) × (at + 2 ≤ s.now.end) × Ordered (text s.now) s.now.end work.old }
+    requires found_reference { FoundReference (text s.now) s.now.end at }
+    ensures { Kept (text s.now) s.now.end work.old work.new × ReferenceMarked name
+        (text s.now) s.now.end at (marks_of (text s.now) work.old dangling) (at + 2)
+        (marks_of (text s.now) work.new result) }
 {
-    let kind = word(s, at);
-    let to = word(s, at + 1);
+    let kind = word(s.bytes, at);
+    let to = word(s.bytes, at + 1);
     let refers = dangling | (name == to);
     if ReferenceKind::QUALIFIED < kind {
         return refers;
     }
-    put(s, end, work, Names::REFERENCES, at + 1);
+    put(s, work, Names::REFERENCES, at + 1);
     refers
 }
 
 // n references from `at` on.
-fn mark_references(
-    s: &[u8],
-    end: usize,
-    n: u32,
-    at: usize,
-    name: u32,
-    work: &mut [u8],
-    dangling: bool,
-) -> bool
-    requires room { Room s.now end × (0 < at) × (at ≤ end) × Ordered (words s.now) end work.old }
-    requires found_references { FoundReferences (words s.now) end n at }
-    ensures { Kept (words s.now) end work.old work.new × ReferencesMarked name
-        (words s.now) end n at (marks_of (words s.now) work.old dangling)
-        (marks_of (words s.now) work.new result) }
+fn mark_references(s: &Sheet, n: u32, at: usize, name: u32, work: &mut [u8], dangling: bool) -> bool
+    requires room { (0 < at) × (at ≤ s.now.end) × Ordered (text s.now) s.now.end work.old }
+    requires found_references { FoundReferences (text s.now) s.now.end n at }
+    ensures { Kept (text s.now) s.now.end work.old work.new × ReferencesMarked name
+        (text s.now) s.now.end n at (marks_of (text s.now) work.old dangling)
+        (marks_of (text s.now) work.new result) }
 {
     let mut p: usize = at;
     let mut refers = dangling;
     for _ in 0..n {
-        refers = mark_reference(s, end, p, name, work, refers);
+        refers = mark_reference(s, p, name, work, refers);
         p += 2;
     }
     refers
@@ -87,8 +72,7 @@ fn mark_references(
 
 // An element that is no block; its payload stands at `payload`.
 fn mark_leaf(
-    s: &[u8],
-    end: usize,
+    s: &Sheet,
     depth: u32,
     at: usize,
     kind: u32,
@@ -97,17 +81,17 @@ fn mark_leaf(
     work: &mut [u8],
     dangling: bool,
 ) -> bool
-    requires room { Room s.now end × Ordered (words s.now) end work.old }
-    requires head_at { HeadAt (words s.now) end at kind payload × (kind ≡ block_kind → ⊥) × FoundElement (words s.now) end depth at }
-    ensures { Kept (words s.now) end work.old work.new × LeafSeen
-        (words s.now) end kind payload (mark_leaf name) (marks_of (words s.now) work.old dangling)
-        (marks_of (words s.now) work.new result) }
+    requires room { Ordered (text s.now) s.now.end work.old }
+    requires head_at { HeadAt (text s.now) s.now.end at kind payload × (kind ≡ block_kind → ⊥) × FoundElement (text s.now) s.now.end depth at }
+    ensures { Kept (text s.now) s.now.end work.old work.new × LeafSeen
+        (text s.now) s.now.end kind payload (mark_leaf name) (marks_of (text s.now) work.old dangling)
+        (marks_of (text s.now) work.new result) }
 {
-    let n = reference_count(s, end, depth, at, kind, payload);
+    let n = reference_count(s, depth, at, kind, payload);
     if n == 0 {
         return dangling;
     }
-    mark_references(s, end, n, payload + 2, name, work, dangling)
+    mark_references(s, n, payload + 2, name, work, dangling)
 }
 
 // What marks, in the sets of the work area, and whether something referred to the name that is sought.
@@ -129,11 +113,10 @@ impl Visitor for Marker<'_> {
 
     ghost Kept = { λ ws end a b. (a.work.ghost_name ≡ b.work.ghost_name) × (a.name ≡ b.name) × names.Kept ws end a.work.now b.work.now };
 
-    fn leaf(&mut self, s: &[u8], end: usize, depth: u32, at: usize, head: Head) {
-        mark_label(s, end, depth, at, self.work);
+    fn leaf(&mut self, s: &Sheet, depth: u32, at: usize, head: Head) {
+        mark_label(s, depth, at, self.work);
         self.dangling = mark_leaf(
             s,
-            end,
             depth,
             at,
             head.kind,
@@ -144,47 +127,40 @@ impl Visitor for Marker<'_> {
         );
     }
 
-    fn enter_block(&mut self, s: &[u8], end: usize, depth: u32, at: usize, _head: Head) {
-        mark_label(s, end, depth, at, self.work);
+    fn enter_block(&mut self, s: &Sheet, depth: u32, at: usize, _head: Head) {
+        mark_label(s, depth, at, self.work);
     }
 
-    fn enter_alternative(&mut self, _s: &[u8], _end: usize, _depth: u32, _at: usize) {}
+    fn enter_alternative(&mut self, _s: &Sheet, _depth: u32, _at: usize) {}
 
     ghost laws = { Prim.search (rules, noting_past_block, noting_past_alternative, kept_refl, kept_trans) };
 }
 
 // The elements of a planned alternative from one index up to another.
-fn mark_items(marker: &mut Marker<'_>, s: &[u8], end: usize, x: Listed, from: usize, to: usize)
-    requires room { Room s.now end × Located marker.old.work.now x × (from ≤ to) × (to ≤ x.ne) }
-    requires ordered { Ordered (words s.now) end marker.old.work.now × ListedIn (words s.now) end inner_depth marker.old.work.now x }
+fn mark_items(marker: &mut Marker<'_>, s: &Sheet, x: Listed, from: usize, to: usize)
+    requires room { Located marker.old.work.now x × (from ≤ to) × (to ≤ x.ne) }
+    requires ordered { Ordered (text s.now) s.now.end marker.old.work.now × ListedIn (text s.now) s.now.end inner_depth marker.old.work.now x }
     ensures same_reference { marker.old.work.ghost_name ≡ marker.new.work.ghost_name }
     ensures same_name { marker.old.name ≡ marker.new.name }
-    ensures marked { Kept (words s.now) end marker.old.work.now marker.new.work.now × ItemsWalked (marking marker.old.name) inner_depth
-        (meaning (words s.now) end inner_depth marker.old.work.now x).elements from to
-        (marks_of (words s.now) marker.old.work.now marker.old.dangling)
-        (marks_of (words s.now) marker.new.work.now marker.new.dangling) }
+    ensures marked { Kept (text s.now) s.now.end marker.old.work.now marker.new.work.now × ItemsWalked (marking marker.old.name) inner_depth
+        (meaning (text s.now) s.now.end inner_depth marker.old.work.now x).elements from to
+        (marks_of (text s.now) marker.old.work.now marker.old.dangling)
+        (marks_of (text s.now) marker.new.work.now marker.new.dangling) }
 {
     for i in from..to {
         let work = &mut *marker.work;
         let e = item(work, x, i);
-        walk_element(marker, s, end, Block::DEPTH, e.at);
+        walk_element(marker, s, Block::DEPTH, e.at);
     }
 }
 
 // All elements of a planned alternative but the one at an index are marked, and nothing else. The answer says whether one of
 // them refers to a name.
-pub fn mark_around(
-    s: &[u8],
-    end: usize,
-    work: &mut [u8],
-    x: Listed,
-    index: usize,
-    name: u32,
-) -> bool
-    requires room { Room s.now end × (end ≤ most_words) × Located work.old x × (index < x.ne) }
-    requires listed_in { ListedIn (words s.now) end inner_depth work.old x }
-    ensures { MarkedAround (words s.now) end inner_depth
-        (meaning (words s.now) end inner_depth work.old x).elements index name
+pub fn mark_around(s: &Sheet, work: &mut [u8], x: Listed, index: usize, name: u32) -> bool
+    requires room { (s.now.end ≤ most_words) × Located work.old x × (index < x.ne) }
+    requires listed_in { ListedIn (text s.now) s.now.end inner_depth work.old x }
+    ensures { MarkedAround (text s.now) s.now.end inner_depth
+        (meaning (text s.now) s.now.end inner_depth work.old x).elements index name
         work.old work.new result }
 {
     clear_both(work);
@@ -193,7 +169,7 @@ pub fn mark_around(
         work,
         dangling: false,
     };
-    mark_items(&mut marker, s, end, x, 0, index);
-    mark_items(&mut marker, s, end, x, index + 1, x.ne);
+    mark_items(&mut marker, s, x, 0, index);
+    mark_items(&mut marker, s, x, index + 1, x.ne);
     marker.dangling
 }

@@ -2,13 +2,13 @@
 // planned list, from its middle on to both sides, a half for each.
 ghost use Rattle.std.specs.Prelude.{◌≡◌, ◌+◌, ◌*◌, ◌%◌, ◌<◌, ◌≤◌, true, false, length, get_or, MatchResult};
 ghost use Rattle.grammar.specs.Numbers.{most_words, work_bytes};
-ghost use Rattle.grammar.specs.Words.{words};
-ghost use Rattle.words.specs.Room.{Room};
 ghost use Rattle.collisions.specs.Names.{IsSet, entries_at, entries_end, most_entries, low_in, high_in, count_in};
 ghost use Rattle.collisions.specs.Names.{entry, has_bit, name_at, has_name, Ordered, NamePut, Cleared};
 ghost use Rattle.collisions.specs.Order.{Parted, IsAt, Joined, Raised, Nearer, Insertable, Inserted, InSet};
+ghost use Rattle.words.specs.Sheet.{text};
 
 use planned::halves::{half, move_halves, put_half};
+use words::sheet::Sheet;
 use words::words::word;
 
 #[derive(Drop)]
@@ -79,24 +79,24 @@ fn entry_at(work: &[u8], i: usize) -> u16
     half(work, lowest(work) + i)
 }
 
-fn name_at(s: &[u8], end: usize, work: &[u8], i: usize) -> u32
-    requires { Room s.now end × Ordered (words s.now) end work.now × (i < count_in work.now) }
-    ensures { result ≡ name_at (words s.now) work.now i }
+fn name_at(s: &Sheet, work: &[u8], i: usize) -> u32
+    requires { Ordered (text s.now) s.now.end work.now × (i < count_in work.now) }
+    ensures { result ≡ name_at (text s.now) work.now i }
 {
-    word(s, place(entry_at(work, i)))
+    word(s.bytes, place(entry_at(work, i)))
 }
 
 // How many entries have names below a name: by halving.
 // Stays: std's search by halving goes over the elements of a slice, and these names are words that two bytes of the work area lead to.
-fn find(s: &[u8], end: usize, work: &[u8], name: u32) -> usize
-    requires { Room s.now end × Ordered (words s.now) end work.now }
-    ensures { Parted (words s.now) work.now name result }
+fn find(s: &Sheet, work: &[u8], name: u32) -> usize
+    requires { Ordered (text s.now) s.now.end work.now }
+    ensures { Parted (text s.now) work.now name result }
 {
     let mut low: usize = 0;
     let mut high = count(work);
     while low < high {
         let middle = low + (high - low) / 2;
-        let w = name_at(s, end, work, middle);
+        let w = name_at(s, work, middle);
         if w < name {
             low = middle + 1;
         } else {
@@ -107,21 +107,21 @@ fn find(s: &[u8], end: usize, work: &[u8], name: u32) -> usize
 }
 
 // Whether the entry behind those below a name has it.
-fn is_at(s: &[u8], end: usize, work: &[u8], name: u32, k: usize) -> bool
-    requires room { Room s.now end × Ordered (words s.now) end work.now }
-    requires parted { Parted (words s.now) work.now name k }
-    ensures { IsAt (words s.now) work.now name k result }
+fn is_at(s: &Sheet, work: &[u8], name: u32, k: usize) -> bool
+    requires room { Ordered (text s.now) s.now.end work.now }
+    requires parted { Parted (text s.now) work.now name k }
+    ensures { IsAt (text s.now) work.now name k result }
 {
-    k < count(work) && name_at(s, end, work, k) == name
+    k < count(work) && name_at(s, work, k) == name
 }
 
 // Where a name stands among the entries; or where it would stand.
-fn look(s: &[u8], end: usize, work: &[u8], name: u32) -> Result<usize, usize>
-    requires { Room s.now end × Ordered (words s.now) end work.now }
-    ensures { MatchResult result (λ k. IsAt (words s.now) work.now name k true) (λ k. IsAt (words s.now) work.now name k false) }
+fn look(s: &Sheet, work: &[u8], name: u32) -> Result<usize, usize>
+    requires { Ordered (text s.now) s.now.end work.now }
+    ensures { MatchResult result (λ k. IsAt (text s.now) work.now name k true) (λ k. IsAt (text s.now) work.now name k false) }
 {
-    let k = find(s, end, work, name);
-    if is_at(s, end, work, name, k) {
+    let k = find(s, work, name);
+    if is_at(s, work, name, k) {
         Ok(k)
     } else {
         Err(k)
@@ -129,11 +129,11 @@ fn look(s: &[u8], end: usize, work: &[u8], name: u32) -> Result<usize, usize>
 }
 
 // Whether a set has a name.
-pub fn has(s: &[u8], end: usize, work: &[u8], set: u16, name: u32) -> bool
-    requires { Room s.now end × Ordered (words s.now) end work.now × IsSet set }
-    ensures { result ≡ has_name (words s.now) work.now set name }
+pub fn has(s: &Sheet, work: &[u8], set: u16, name: u32) -> bool
+    requires { Ordered (text s.now) s.now.end work.now × IsSet set }
+    ensures { result ≡ has_name (text s.now) work.now set name }
 {
-    match look(s, end, work, name) {
+    match look(s, work, name) {
         Ok(k) => has_bit(entry_at(work, k), set),
         Err(_) => false,
     }
@@ -198,12 +198,12 @@ fn join(work: &mut [u8], k: usize, set: u16)
 }
 
 // The name that stands at `at` comes into a set.
-pub fn put(s: &[u8], end: usize, work: &mut [u8], set: u16, at: usize)
-    requires { Room s.now end × Ordered (words s.now) end work.old × IsSet set × (1 < at) × (at < end) }
-    ensures { NamePut (words s.now) end work.old work.new set
-        (get_or (words s.now) at 0) }
+pub fn put(s: &Sheet, work: &mut [u8], set: u16, at: usize)
+    requires { Ordered (text s.now) s.now.end work.old × IsSet set × (1 < at) × (at < s.now.end) }
+    ensures { NamePut (text s.now) s.now.end work.old work.new set
+        (get_or (text s.now) at 0) }
 {
-    match look(s, end, work, word(s, at)) {
+    match look(s, work, word(s.bytes, at)) {
         Ok(k) => join(work, k, set),
         Err(k) => insert(work, k, at as u16 + set),
     }

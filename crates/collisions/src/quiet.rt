@@ -5,16 +5,17 @@ ghost use Rattle.grammar.specs.Numbers.{block_kind};
 ghost use Rattle.grammar.specs.Tree.{inner_depth};
 ghost use Rattle.grammar.specs.Words.{words};
 ghost use Rattle.grammar.specs.Found.{FoundElement, HeadAt};
-ghost use Rattle.words.specs.Room.{Room};
 ghost use Rattle.planned.specs.Layout.{meaning};
 ghost use Rattle.planned.specs.List.{Located, ListedIn};
 ghost use Rattle.collisions.specs.Walks.{noting_past_block, noting_past_alternative, LabelSeen, LeafSeen};
 ghost use Rattle.collisions.specs.Quiet.{is_quiet, noisy_label, noisy_leaf, listening};
+ghost use Rattle.words.specs.Sheet.{text};
 
 use crate::references::reference_count;
 use planned::list::Listed;
 use planned::read::item;
 use words::numbers::Block;
+use words::sheet::Sheet;
 use words::visit::{Visitor, walk_element};
 use words::walk::Head;
 use words::words::word;
@@ -32,20 +33,11 @@ fn see_label(s: &[u8], at: usize, noisy: bool) -> bool
     noisy | (word(s, at + 4) != 0)
 }
 
-fn see_leaf(
-    s: &[u8],
-    end: usize,
-    depth: u32,
-    at: usize,
-    kind: u32,
-    payload: usize,
-    noisy: bool,
-) -> bool
-    requires room { Room s.now end }
-    requires head_at { HeadAt (words s.now) end at kind payload × (kind ≡ block_kind → ⊥) × FoundElement (words s.now) end depth at }
-    ensures { LeafSeen (words s.now) end kind payload noisy_leaf noisy result }
+fn see_leaf(s: &Sheet, depth: u32, at: usize, kind: u32, payload: usize, noisy: bool) -> bool
+    requires head_at { HeadAt (text s.now) s.now.end at kind payload × (kind ≡ block_kind → ⊥) × FoundElement (text s.now) s.now.end depth at }
+    ensures { LeafSeen (text s.now) s.now.end kind payload noisy_leaf noisy result }
 {
-    noisy | (reference_count(s, end, depth, at, kind, payload) != 0)
+    noisy | (reference_count(s, depth, at, kind, payload) != 0)
 }
 
 impl Visitor for Listener {
@@ -59,30 +51,30 @@ impl Visitor for Listener {
 
     ghost Kept = { λ ws end a b. Unit {0} };
 
-    fn leaf(&mut self, s: &[u8], end: usize, depth: u32, at: usize, head: Head) {
-        let labelled = see_label(s, at, self.noisy);
-        self.noisy = see_leaf(s, end, depth, at, head.kind, head.payload, labelled);
+    fn leaf(&mut self, s: &Sheet, depth: u32, at: usize, head: Head) {
+        let labelled = see_label(s.bytes, at, self.noisy);
+        self.noisy = see_leaf(s, depth, at, head.kind, head.payload, labelled);
     }
 
-    fn enter_block(&mut self, s: &[u8], _end: usize, _depth: u32, at: usize, _head: Head) {
-        self.noisy = see_label(s, at, self.noisy);
+    fn enter_block(&mut self, s: &Sheet, _depth: u32, at: usize, _head: Head) {
+        self.noisy = see_label(s.bytes, at, self.noisy);
     }
 
-    fn enter_alternative(&mut self, _s: &[u8], _end: usize, _depth: u32, _at: usize) {}
+    fn enter_alternative(&mut self, _s: &Sheet, _depth: u32, _at: usize) {}
 
     ghost laws = { Prim.search (rules, noting_past_block, noting_past_alternative) };
 }
 
 // Whether nothing in a planned alternative has a label or a reference.
-pub fn is_quiet(s: &[u8], end: usize, work: &[u8], x: Listed) -> bool
-    requires room { Room s.now end × Located work.now x }
-    requires listed_in { ListedIn (words s.now) end inner_depth work.now x }
-    ensures { result ≡ is_quiet inner_depth (meaning (words s.now) end inner_depth work.now x).elements }
+pub fn is_quiet(s: &Sheet, work: &[u8], x: Listed) -> bool
+    requires room { Located work.now x }
+    requires listed_in { ListedIn (text s.now) s.now.end inner_depth work.now x }
+    ensures { result ≡ is_quiet inner_depth (meaning (text s.now) s.now.end inner_depth work.now x).elements }
 {
     let mut listener = Listener { noisy: false };
     for i in 0..x.ne {
         let e = item(work, x, i);
-        walk_element(&mut listener, s, end, Block::DEPTH, e.at);
+        walk_element(&mut listener, s, Block::DEPTH, e.at);
     }
     !listener.noisy
 }

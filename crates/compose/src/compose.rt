@@ -11,6 +11,7 @@ use copies::pen::Pen;
 use drafts::draft::Draft;
 use plan::plan::Plan;
 use records::rules::Rules;
+use words::sheet::Sheet;
 
 // The pen behind the new sheet, its rules, and where these end, counted in words from its first.
 #[derive(Clone, Copy)]
@@ -38,7 +39,8 @@ pub fn compose(
 {
     let none = Rules::empty();
     let d = Draft { rules: none, pen };
-    let w = compose_rules(s, end, rules, p, work, trail, d);
+    let sheet = Sheet { bytes: s, end };
+    let w = compose_rules(&sheet, rules, p, work, trail, d);
     let behind = w.pen;
     let last = write_end(s, end, to, work, behind);
     Composed {

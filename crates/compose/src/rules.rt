@@ -1,12 +1,11 @@
 // The rules that stay, and the hub among them.
 ghost use Rattle.std.specs.Prelude.{◌<◌, ◌≤◌};
 ghost use Rattle.grammar.specs.Tree.{inner_depth};
-ghost use Rattle.grammar.specs.Words.{words};
-ghost use Rattle.words.specs.Room.{Room};
 ghost use Rattle.analysis.specs.Facts.{Standing};
 ghost use Rattle.planned.specs.List.{Laid, AllIn};
 ghost use Rattle.drafts.specs.Draft.{Open};
 ghost use Rattle.compose.specs.Hub.{NewHubFits, NewHubAdded, NewRulesFit, NewRulesAdded};
+ghost use Rattle.words.specs.Sheet.{text};
 
 use crate::body::write_hub;
 use analysis::names::index;
@@ -14,28 +13,21 @@ use drafts::draft::{Draft, add_row};
 use drafts::kept::copy_rules;
 use plan::plan::Plan;
 use records::rules::Rules;
+use words::sheet::Sheet;
 
 // The hub with its new body.
-fn add_hub(
-    s: &[u8],
-    end: usize,
-    rules: Rules,
-    p: Plan,
-    work: &mut [u8],
-    trail: &mut [u8],
-    d: Draft,
-) -> Draft
-    requires room { Room s.now end × Standing (words s.now) end rules × (p.hub < rules.n) }
+fn add_hub(s: &Sheet, rules: Rules, p: Plan, work: &mut [u8], trail: &mut [u8], d: Draft) -> Draft
+    requires room { Standing (text s.now) s.now.end rules × (p.hub < rules.n) }
     requires fact { Open d work.old × (d.rules.n ≤ p.hub) }
-    requires laid { Laid work.old p.l × AllIn (words s.now) end inner_depth work.old p.l }
-    requires new_hub_fits { NewHubFits (words s.now) end rules p work.old trail.old d }
-    ensures { NewHubAdded (words s.now) end rules p work.old trail.old d
+    requires laid { Laid work.old p.l × AllIn (text s.now) s.now.end inner_depth work.old p.l }
+    requires new_hub_fits { NewHubFits (text s.now) s.now.end rules p work.old trail.old d }
+    ensures { NewHubAdded (text s.now) s.now.end rules p work.old trail.old d
         work.new trail.new result }
 {
     let hub = p.hub;
     let at = index(rules.places[hub]);
     let pen = d.pen;
-    let behind = write_hub(s, end, at, p.l, work, trail, pen);
+    let behind = write_hub(s, at, p.l, work, trail, pen);
     let with = add_row(d, rules.ids[hub], rules.names[hub], behind.to - pen.to);
     Draft {
         pen: behind,
@@ -44,25 +36,24 @@ fn add_hub(
 }
 
 pub fn compose_rules(
-    s: &[u8],
-    end: usize,
+    s: &Sheet,
     rules: Rules,
     p: Plan,
     work: &mut [u8],
     trail: &mut [u8],
     d: Draft,
 ) -> Draft
-    requires room { Room s.now end × Standing (words s.now) end rules × (p.hub < rules.n) }
+    requires room { Standing (text s.now) s.now.end rules × (p.hub < rules.n) }
     requires fact { Open d work.old × (d.rules.n ≤ 0) }
-    requires laid { Laid work.old p.l × AllIn (words s.now) end inner_depth work.old p.l }
-    requires new_rules_fit { NewRulesFit (words s.now) end rules p work.old trail.old d }
-    ensures { NewRulesAdded (words s.now) end rules p work.old trail.old d
+    requires laid { Laid work.old p.l × AllIn (text s.now) s.now.end inner_depth work.old p.l }
+    requires new_rules_fit { NewRulesFit (text s.now) s.now.end rules p work.old trail.old d }
+    ensures { NewRulesAdded (text s.now) s.now.end rules p work.old trail.old d
         work.new trail.new result }
 {
     let hub = p.hub;
     let n = rules.n as usize;
     let row = [p.low, p.high];
-    let front = copy_rules(s, end, rules, row, 0, hub, work, d);
-    let with = add_hub(s, end, rules, p, work, trail, front);
-    copy_rules(s, end, rules, row, hub + 1, n, work, with)
+    let front = copy_rules(s, rules, row, 0, hub, work, d);
+    let with = add_hub(s, rules, p, work, trail, front);
+    copy_rules(s, rules, row, hub + 1, n, work, with)
 }

@@ -1,13 +1,13 @@
 // Elements copied with all that is in them: ids are fresh all the way down, outer before inner (SPECIFICATION 11.5).
 ghost use Rattle.std.specs.Prelude.{◌≤◌};
-ghost use Rattle.grammar.specs.Words.{words};
-ghost use Rattle.words.specs.Room.{Room};
 ghost use Rattle.copies.specs.Copy.{ElementFits, ElementCopied, ElementsFit, ElementsCopied};
 ghost use Rattle.copies.specs.Copy.{AlternativeFits, AlternativeCopied, AlternativesFit, AlternativesCopied};
+ghost use Rattle.words.specs.Sheet.{text};
 
 use crate::parts::{copy_count, copy_head, copy_leaf, copy_marked};
 use crate::pen::{IdSort, Pen};
 use words::numbers::Kind;
+use words::sheet::Sheet;
 use words::walk::{alternative_head, element_head, leaf_end};
 use words::words::word;
 
@@ -22,8 +22,7 @@ pub struct Copied {
 // Stays: copying a block calls itself, since blocks nest and the pass has no heap for a stack of its own.
 #[cycle(tree)]
 pub fn copy_element(
-    s: &[u8],
-    end: usize,
+    s: &Sheet,
     depth: u32,
     at: usize,
     plain: bool,
@@ -31,22 +30,21 @@ pub fn copy_element(
     trail: &mut [u8],
     pen: Pen,
 ) -> Copied
-    requires room { Room s.now end }
-    requires element_fits { ElementFits (words s.now) end depth plain at out.old trail.old pen }
-    ensures { ElementCopied (words s.now) end depth plain at out.old out.new
+    requires element_fits { ElementFits (text s.now) s.now.end depth plain at out.old trail.old pen }
+    ensures { ElementCopied (text s.now) s.now.end depth plain at out.old out.new
         trail.old trail.new pen result.next result.pen }
 {
-    let head = element_head(s, end, depth, at);
+    let head = element_head(s, depth, at);
     let kind = head.kind;
     let payload = head.payload;
-    let inside = copy_head(s, end, at, payload, plain, out, trail, pen);
+    let inside = copy_head(s, at, payload, plain, out, trail, pen);
     if kind == Kind::BLOCK {
-        let count = word(s, payload);
+        let count = word(s.bytes, payload);
         let behind = copy_count(count, out, inside);
-        return copy_alternatives(s, end, depth - 1, count, payload + 1, out, trail, behind);
+        return copy_alternatives(s, depth - 1, count, payload + 1, out, trail, behind);
     }
-    let there = leaf_end(s, end, depth, at, kind, payload);
-    let last = copy_leaf(s, end, kind, payload, there, out, trail, inside);
+    let there = leaf_end(s, depth, at, kind, payload);
+    let last = copy_leaf(s, kind, payload, there, out, trail, inside);
     Copied {
         next: there,
         pen: last,
@@ -56,8 +54,7 @@ pub fn copy_element(
 // n elements from `at` on.
 #[cycle(tree)]
 fn copy_elements(
-    s: &[u8],
-    end: usize,
+    s: &Sheet,
     depth: u32,
     n: u32,
     at: usize,
@@ -65,15 +62,15 @@ fn copy_elements(
     trail: &mut [u8],
     pen: Pen,
 ) -> Copied
-    requires room { Room s.now end × (at ≤ end) }
-    requires elements_fit { ElementsFit (words s.now) end depth n at out.old trail.old pen }
-    ensures { ElementsCopied (words s.now) end depth n at out.old out.new
+    requires room { at ≤ s.now.end }
+    requires elements_fit { ElementsFit (text s.now) s.now.end depth n at out.old trail.old pen }
+    ensures { ElementsCopied (text s.now) s.now.end depth n at out.old out.new
         trail.old trail.new pen result.next result.pen }
 {
     let mut p = at;
     let mut w = pen;
     for _ in 0..n {
-        let c = copy_element(s, end, depth, p, false, out, trail, w);
+        let c = copy_element(s, depth, p, false, out, trail, w);
         p = c.next;
         w = c.pen;
     }
@@ -83,31 +80,28 @@ fn copy_elements(
 // The alternative at `at`.
 #[cycle(tree)]
 fn copy_alternative(
-    s: &[u8],
-    end: usize,
+    s: &Sheet,
     depth: u32,
     at: usize,
     out: &mut [u8],
     trail: &mut [u8],
     pen: Pen,
 ) -> Copied
-    requires room { Room s.now end }
-    requires alternative_fits { AlternativeFits (words s.now) end depth at out.old trail.old pen }
-    ensures { AlternativeCopied (words s.now) end depth at out.old out.new
+    requires alternative_fits { AlternativeFits (text s.now) s.now.end depth at out.old trail.old pen }
+    ensures { AlternativeCopied (text s.now) s.now.end depth at out.old out.new
         trail.old trail.new pen result.next result.pen }
 {
-    let head = alternative_head(s, end, depth, at);
+    let head = alternative_head(s, depth, at);
     let count = head.count;
     let first = head.first;
-    let inside = copy_marked(s, end, at, first, IdSort::Alternative, out, trail, pen);
-    copy_elements(s, end, depth, count, first, out, trail, inside)
+    let inside = copy_marked(s, at, first, IdSort::Alternative, out, trail, pen);
+    copy_elements(s, depth, count, first, out, trail, inside)
 }
 
 // n alternatives from `at` on.
 #[cycle(tree)]
 fn copy_alternatives(
-    s: &[u8],
-    end: usize,
+    s: &Sheet,
     depth: u32,
     n: u32,
     at: usize,
@@ -115,15 +109,15 @@ fn copy_alternatives(
     trail: &mut [u8],
     pen: Pen,
 ) -> Copied
-    requires room { Room s.now end × (at ≤ end) }
-    requires alternatives_fit { AlternativesFit (words s.now) end depth n at out.old trail.old pen }
-    ensures { AlternativesCopied (words s.now) end depth n at out.old out.new
+    requires room { at ≤ s.now.end }
+    requires alternatives_fit { AlternativesFit (text s.now) s.now.end depth n at out.old trail.old pen }
+    ensures { AlternativesCopied (text s.now) s.now.end depth n at out.old out.new
         trail.old trail.new pen result.next result.pen }
 {
     let mut p = at;
     let mut w = pen;
     for _ in 0..n {
-        let c = copy_alternative(s, end, depth, p, out, trail, w);
+        let c = copy_alternative(s, depth, p, out, trail, w);
         p = c.next;
         w = c.pen;
     }

@@ -6,9 +6,11 @@ ghost use Rattle.writing.specs.Wrote.{Wrote};
 ghost use Rattle.copies.specs.Reasons.{sort_number, counter_of};
 ghost use Rattle.copies.specs.Heads.{LabelRoom, LabelGiven, HeadRoom, HeadCopied, packed_if};
 ghost use Rattle.copies.specs.Heads.{MarkedRoom, BehindRoom, CopiedBehind, MarkedCopied, LeafRoom, LeafCopied, CountCopied};
+ghost use Rattle.words.specs.Sheet.{text};
 
 use crate::pen::{Given, IdSort, Pen, Reason, fresh, write_words};
 use words::numbers::Kind;
+use words::sheet::Sheet;
 use words::words::word;
 use writing::copy::{copy_words, write};
 
@@ -59,8 +61,7 @@ fn write_head(
 
 // An element's head, with fresh ids for it and its label.
 pub fn copy_head(
-    s: &[u8],
-    end: usize,
+    s: &Sheet,
     at: usize,
     payload: usize,
     plain: bool,
@@ -68,17 +69,17 @@ pub fn copy_head(
     trail: &mut [u8],
     pen: Pen,
 ) -> Pen
-    requires { Room s.now end × (payload ≤ end) × HeadRoom (words s.now) at payload out.old trail.old pen }
-    ensures { HeadCopied (words s.now) end at payload plain out.old out.new
+    requires { (payload ≤ s.now.end) × HeadRoom (text s.now) at payload out.old trail.old pen }
+    ensures { HeadCopied (text s.now) s.now.end at payload plain out.old out.new
         trail.old trail.new pen result }
 {
     let to = pen.to + (payload - at);
-    let kind = packed(s, at + 2, plain);
-    let owner = word(s, at);
+    let kind = packed(s.bytes, at + 2, plain);
+    let owner = word(s.bytes, at);
     let given = fresh(trail, pen, IdSort::Element, Reason::BlockBoundary, owner);
     let first = given.pen;
-    let named = label_id(s, at + 3, trail, first);
-    write_head(s, at, payload, given.id, kind, named.id, out, pen.to);
+    let named = label_id(s.bytes, at + 3, trail, first);
+    write_head(s.bytes, at, payload, given.id, kind, named.id, out, pen.to);
     let behind = named.pen;
     Pen { to, ..behind }
 }
@@ -98,8 +99,7 @@ fn copy_behind(s: &[u8], at: usize, there: usize, given: Given, out: &mut [u8]) 
 // What begins with an id of a sort, up to a place, with a fresh id: an action, a predicate, or the head of a block's alternative up to
 // its first element.
 pub fn copy_marked(
-    s: &[u8],
-    end: usize,
+    s: &Sheet,
     at: usize,
     there: usize,
     sort: IdSort,
@@ -107,20 +107,19 @@ pub fn copy_marked(
     trail: &mut [u8],
     pen: Pen,
 ) -> Pen
-    requires room { Room s.now end × (there ≤ end) }
+    requires room { there ≤ s.now.end }
     requires marked_room { MarkedRoom (counter_of sort pen.counters) at there out.old trail.old pen }
-    ensures { MarkedCopied (sort_number sort) (counter_of sort pen.counters) (words s.now) at there
+    ensures { MarkedCopied (sort_number sort) (counter_of sort pen.counters) (text s.now) at there
         out.old out.new trail.old trail.new pen result }
 {
-    let owner = word(s, at);
+    let owner = word(s.bytes, at);
     let given = fresh(trail, pen, sort, Reason::BlockBoundary, owner);
-    copy_behind(s, at, there, given, out)
+    copy_behind(s.bytes, at, there, given, out)
 }
 
 // The payload of an element that is no block, up to where it ends.
 pub fn copy_leaf(
-    s: &[u8],
-    end: usize,
+    s: &Sheet,
     kind: u32,
     at: usize,
     there: usize,
@@ -128,18 +127,18 @@ pub fn copy_leaf(
     trail: &mut [u8],
     pen: Pen,
 ) -> Pen
-    requires { Room s.now end × (there ≤ end) × LeafRoom kind at there out.old trail.old pen }
-    ensures { LeafCopied (words s.now) end kind at there out.old out.new
+    requires { (there ≤ s.now.end) × LeafRoom kind at there out.old trail.old pen }
+    ensures { LeafCopied (text s.now) s.now.end kind at there out.old out.new
         trail.old trail.new pen result }
 {
     if kind == Kind::ACTION {
-        return copy_marked(s, end, at, there, IdSort::Action, out, trail, pen);
+        return copy_marked(s, at, there, IdSort::Action, out, trail, pen);
     }
     if kind == Kind::PREDICATE {
-        return copy_marked(s, end, at, there, IdSort::Predicate, out, trail, pen);
+        return copy_marked(s, at, there, IdSort::Predicate, out, trail, pen);
     }
     let to = pen.to + (there - at);
-    copy_words(s, at, out, pen.to, there - at);
+    copy_words(s.bytes, at, out, pen.to, there - at);
     Pen { to, ..pen }
 }
 

@@ -1,17 +1,17 @@
 // The rules that stay, copied word for word.
 ghost use Rattle.std.specs.Prelude.{◌<◌, ◌≤◌};
 ghost use Rattle.grammar.specs.Numbers.{rule_limit};
-ghost use Rattle.grammar.specs.Words.{words};
-ghost use Rattle.words.specs.Room.{Room};
 ghost use Rattle.analysis.specs.Facts.{Standing};
 ghost use Rattle.drafts.specs.Draft.{Open};
 ghost use Rattle.drafts.specs.Kept.{PlaceEnds, RulesFit, RulesAdded};
+ghost use Rattle.words.specs.Sheet.{text};
 
 use crate::draft::Draft;
 use analysis::names::index;
 use copies::pen::Pen;
 use reach::rows::{Row, has};
 use records::rules::Rules;
+use words::sheet::Sheet;
 use writing::copy::copy_words;
 
 // Where the i-th of n rules ends: where the next one begins, or the preserved ids.
@@ -29,8 +29,7 @@ pub fn rule_end(places: &[u32; Row::RULES], n: usize, i: usize, end: usize) -> u
 // Stays: each row is written here and not by `add_row`, which takes the draft by value; so its arrays would be copied for each rule,
 // and grammars of many small plans would take a fifth longer.
 pub fn copy_rules(
-    s: &[u8],
-    end: usize,
+    s: &Sheet,
     rules: Rules,
     row: [u64; Row::WORDS],
     from: usize,
@@ -38,9 +37,9 @@ pub fn copy_rules(
     work: &mut [u8],
     d: Draft,
 ) -> Draft
-    requires room { Room s.now end × Standing (words s.now) end rules × (from ≤ until) × (until ≤ rules.n) }
-    requires fact { Open d work.old × (d.rules.n ≤ from) × RulesFit (words s.now) end rules row from until d }
-    ensures { RulesAdded (words s.now) end rules row from until work.old work.new d result }
+    requires room { Standing (text s.now) s.now.end rules × (from ≤ until) × (until ≤ rules.n) }
+    requires fact { Open d work.old × (d.rules.n ≤ from) × RulesFit (text s.now) s.now.end rules row from until d }
+    ensures { RulesAdded (text s.now) s.now.end rules row from until work.old work.new d result }
 {
     let n = rules.n as usize;
     let pen = d.pen;
@@ -49,8 +48,8 @@ pub fn copy_rules(
     for i in from..until {
         if !has(row, i) {
             let at = index(rules.places[i]);
-            let long = rule_end(&rules.places, n, i, end) - at;
-            copy_words(s, at, work, to, long);
+            let long = rule_end(&rules.places, n, i, s.end) - at;
+            copy_words(s.bytes, at, work, to, long);
             let k = made.n as usize;
             made.ids[k] = rules.ids[i];
             made.names[k] = rules.names[i];

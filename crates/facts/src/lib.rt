@@ -4,18 +4,18 @@
 
 ghost use Rattle.std.specs.Prelude.{◌≡◌, ◌≤◌, length, replicate};
 ghost use Rattle.grammar.specs.Numbers.{work_bytes};
-ghost use Rattle.grammar.specs.Words.{words};
-ghost use Rattle.words.specs.Room.{Room};
 ghost use Rattle.sheet.specs.Answer.{read_lent, work_after};
 ghost use Rattle.analysis.specs.Survey.{reading};
 ghost use Rattle.analysis.specs.Facts.{Standing};
 ghost use Rattle.facts.specs.Told.{no_rows, reading_of, RulesTold, Tells};
+ghost use Rattle.words.specs.Sheet.{text};
 
 use analysis::rounds::{Marks, find_rows};
 use reach::cycles::list_cycles;
 use reach::rows::Row;
 use records::rules::Rules;
 use sheet::read;
+use words::sheet::Sheet;
 use words::words::clear;
 
 // The marks of all rules, and the number of cycles.
@@ -27,8 +27,7 @@ struct Told {
 
 // The facts and cycles of rules that stand in a sheet; the rows that are lent are zeros. The work area ends so too.
 fn tell(
-    s: &[u8],
-    end: usize,
+    s: &Sheet,
     rules: Rules,
     past: bool,
     calls: &mut [[u64; Row::WORDS]; Row::RULES],
@@ -36,14 +35,14 @@ fn tell(
     cycles: &mut [[u64; Row::WORDS]; Row::RULES],
     work: &mut [u8],
 ) -> Told
-    requires room { Room s.now end × (work_bytes ≤ length work.old) }
-    requires standing { Standing (words s.now) end rules }
+    requires room { work_bytes ≤ length work.old }
+    requires standing { Standing (text s.now) s.now.end rules }
     requires calls_value { (calls.old ≡ no_rows) × (corners.old ≡ no_rows) × (cycles.old ≡ no_rows) }
-    ensures rules_told { RulesTold (words s.now) end rules (reading past) result.marks result.cycles
+    ensures rules_told { RulesTold (text s.now) s.now.end rules (reading past) result.marks result.cycles
         calls.new corners.new cycles.new }
     ensures work_after { work.new ≡ replicate (length work.old) 0 }
 {
-    let marks = find_rows(s, end, rules, past, calls, corners, work);
+    let marks = find_rows(s, rules, past, calls, corners, work);
     let ids = rules.ids;
     let cycles = list_cycles(*corners, ids, rules.n as usize, cycles);
     clear(work);
@@ -76,16 +75,9 @@ pub fn find_facts(
         }
         Ok(r) => {
             let rules = r.rules;
-            let t = tell(
-                sheet,
-                r.parts.preserved as usize,
-                rules,
-                textbook != 0,
-                calls,
-                corners,
-                cycles,
-                work,
-            );
+            let end = r.parts.preserved as usize;
+            let s = Sheet { bytes: sheet, end };
+            let t = tell(&s, rules, textbook != 0, calls, corners, cycles, work);
             let nullable = t.marks.nullable;
             let stops = t.marks.stops;
             *numbers = [0, rules.n, t.cycles];

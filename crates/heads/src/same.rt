@@ -1,52 +1,40 @@
 // Elements as they stand.
 ghost use Rattle.std.specs.Prelude.{◌+◌, ◌*◌, ◌-◌, ◌≤◌, length};
-ghost use Rattle.grammar.specs.Words.{words};
-ghost use Rattle.words.specs.Room.{Room};
 ghost use Rattle.heads.specs.Same.{ItemThere, SameFits, SameCopied, SpanCopied};
+ghost use Rattle.words.specs.Sheet.{text};
 
 use copies::pen::write_words;
 use ends::ends::element_end;
 use words::numbers::Kind;
+use words::sheet::Sheet;
 use words::words::word;
 use writing::copy::copy_words;
 
 // The words from `at` up to `q`, with a kind that has no quantifier where that was taken away. Returned is where they end.
-fn copy_span(
-    s: &[u8],
-    end: usize,
-    at: usize,
-    q: usize,
-    plain: bool,
-    out: &mut [u8],
-    to: usize,
-) -> usize
-    requires { Room s.now end × (at + 6 ≤ q) × (q ≤ end) × (4 * (to + (q - at)) ≤ length out.old) }
-    ensures { SpanCopied (words s.now) at q plain to out.old out.new result }
+fn copy_span(s: &Sheet, at: usize, q: usize, plain: bool, out: &mut [u8], to: usize) -> usize
+    requires { (at + 6 ≤ q) × (q ≤ s.now.end) × (4 * (to + (q - at)) ≤ length out.old) }
+    ensures { SpanCopied (text s.now) at q plain to out.old out.new result }
 {
     let n = q - at;
     if plain {
-        write_words(out, to, &[word(s, at), word(s, at + 1), Kind::CALL]);
-        copy_words(s, at + 3, out, to + 3, n - 3);
+        write_words(
+            out,
+            to,
+            &[word(s.bytes, at), word(s.bytes, at + 1), Kind::CALL],
+        );
+        copy_words(s.bytes, at + 3, out, to + 3, n - 3);
         return to + n;
     }
-    copy_words(s, at, out, to, n);
+    copy_words(s.bytes, at, out, to, n);
     to + n
 }
 
 // The words of the element at `at`, or of what was made plain of it, which is a call. Returned is where they end.
-pub fn copy_same(
-    s: &[u8],
-    end: usize,
-    depth: u32,
-    at: usize,
-    plain: bool,
-    out: &mut [u8],
-    to: usize,
-) -> usize
-    requires room { Room s.now end × ItemThere (words s.now) end depth at plain }
-    requires same_fits { SameFits (words s.now) end depth at plain to out.old }
-    ensures { SameCopied (words s.now) end depth at plain to out.old out.new result }
+pub fn copy_same(s: &Sheet, depth: u32, at: usize, plain: bool, out: &mut [u8], to: usize) -> usize
+    requires room { ItemThere (text s.now) s.now.end depth at plain }
+    requires same_fits { SameFits (text s.now) s.now.end depth at plain to out.old }
+    ensures { SameCopied (text s.now) s.now.end depth at plain to out.old out.new result }
 {
-    let q = element_end(s, end, depth, at);
-    copy_span(s, end, at, q, plain, out, to)
+    let q = element_end(s, depth, at);
+    copy_span(s, at, q, plain, out, to)
 }

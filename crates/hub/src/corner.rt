@@ -2,18 +2,18 @@
 ghost use Rattle.std.specs.Prelude.{◌≡◌, ◌+◌, ◌<◌, ◌≤◌};
 ghost use Rattle.grammar.specs.Numbers.{rule_limit};
 ghost use Rattle.grammar.specs.Tree.{inner_depth};
-ghost use Rattle.grammar.specs.Words.{words};
 ghost use Rattle.grammar.specs.Found.{FoundElements, FoundAlternatives, FoundRule};
-ghost use Rattle.words.specs.Room.{Room};
 ghost use Rattle.analysis.specs.Names.{Told};
 ghost use Rattle.analysis.specs.Facts.{Standing};
 ghost use Rattle.hub.specs.Corner.{NameSettles, Settles, AnySettles, IsCandidate, Candidates};
+ghost use Rattle.words.specs.Sheet.{text};
 
 use analysis::names::scan;
 use ends::ends::alternative_end;
 use reach::rows::{Row, collect, has};
 use records::rules::Rules;
 use words::numbers::{Block, Kind};
+use words::sheet::Sheet;
 use words::walk::{alternative_head, element_head, leaf_end};
 use words::words::word;
 
@@ -36,74 +36,63 @@ fn name_settles(names: &[u32], c: Cycle, name: u32) -> bool
 }
 
 // n elements from `at` on: the first that is significant decides.
-fn settled_outside(
-    s: &[u8],
-    end: usize,
-    depth: u32,
-    names: &[u32],
-    c: Cycle,
-    n: u32,
-    at: usize,
-) -> bool
-    requires room { Room s.now end × (c.n ≤ rule_limit) × Told names.now c.n × (at ≤ end) }
-    requires found_elements { FoundElements (words s.now) end depth n at }
-    ensures { Settles names.now c (words s.now) end depth n at result }
+fn settled_outside(s: &Sheet, depth: u32, names: &[u32], c: Cycle, n: u32, at: usize) -> bool
+    requires room { (c.n ≤ rule_limit) × Told names.now c.n × (at ≤ s.now.end) }
+    requires found_elements { FoundElements (text s.now) s.now.end depth n at }
+    ensures { Settles names.now c (text s.now) s.now.end depth n at result }
 {
     let mut p = at;
     for _ in 0..n {
-        let head = element_head(s, end, depth, p);
+        let head = element_head(s, depth, p);
         let kind = head.kind;
         let payload = head.payload;
         if Kind::CALL < kind {
             return true;
         }
         if kind == Kind::CALL {
-            return name_settles(names, c, word(s, payload));
+            return name_settles(names, c, word(s.bytes, payload));
         }
-        p = leaf_end(s, end, depth, p, kind, payload);
+        p = leaf_end(s, depth, p, kind, payload);
     }
     true
 }
 
 // n alternatives from `at` on: one is enough.
-fn any_settled(s: &[u8], end: usize, names: &[u32], c: Cycle, n: u32, at: usize) -> bool
-    requires room { Room s.now end × (c.n ≤ rule_limit) × Told names.now c.n × (at ≤ end) }
-    requires found_alternatives { FoundAlternatives (words s.now) end inner_depth n at }
-    ensures { AnySettles names.now c (words s.now) end inner_depth n at result }
+fn any_settled(s: &Sheet, names: &[u32], c: Cycle, n: u32, at: usize) -> bool
+    requires room { (c.n ≤ rule_limit) × Told names.now c.n × (at ≤ s.now.end) }
+    requires found_alternatives { FoundAlternatives (text s.now) s.now.end inner_depth n at }
+    ensures { AnySettles names.now c (text s.now) s.now.end inner_depth n at result }
 {
     let mut p = at;
     for _ in 0..n {
-        let head = alternative_head(s, end, Block::DEPTH, p);
+        let head = alternative_head(s, Block::DEPTH, p);
         let count = head.count;
         let first = head.first;
-        if settled_outside(s, end, Block::DEPTH, names, c, count, first) {
+        if settled_outside(s, Block::DEPTH, names, c, count, first) {
             return true;
         }
-        p = alternative_end(s, end, Block::DEPTH, p);
+        p = alternative_end(s, Block::DEPTH, p);
     }
     false
 }
 
 // Rule i, which stands at `at`: a member with an alternative that begins outside.
-fn is_candidate(s: &[u8], end: usize, names: &[u32], c: Cycle, i: usize, at: usize) -> bool
-    requires room { Room s.now end × (c.n ≤ rule_limit) × Told names.now c.n × (i < c.n) × (at + 4 ≤ end) }
-    requires found_rule { FoundRule (words s.now) end at }
-    ensures { IsCandidate names.now c (words s.now) end i at result }
+fn is_candidate(s: &Sheet, names: &[u32], c: Cycle, i: usize, at: usize) -> bool
+    requires room { (c.n ≤ rule_limit) × Told names.now c.n × (i < c.n) × (at + 4 ≤ s.now.end) }
+    requires found_rule { FoundRule (text s.now) s.now.end at }
+    ensures { IsCandidate names.now c (text s.now) s.now.end i at result }
 {
     let members = c.members;
-    has(members, i) && any_settled(s, end, names, c, word(s, at + 3), at + 4)
+    has(members, i) && any_settled(s, names, c, word(s.bytes, at + 3), at + 4)
 }
 
 // Every rule looked at.
-pub fn candidates(s: &[u8], end: usize, rules: Rules, c: Cycle) -> [u64; Row::WORDS]
-    requires room { Room s.now end × (c.n ≡ rules.n) × (rules.n ≤ rule_limit) × Told rules.names c.n }
-    requires standing { Standing (words s.now) end rules }
-    ensures { Candidates rules.names c (words s.now) end rules.places rules.n result }
+pub fn candidates(s: &Sheet, rules: Rules, c: Cycle) -> [u64; Row::WORDS]
+    requires room { (c.n ≡ rules.n) × (rules.n ≤ rule_limit) × Told rules.names c.n }
+    requires standing { Standing (text s.now) s.now.end rules }
+    ensures { Candidates rules.names c (text s.now) s.now.end rules.places rules.n result }
 {
     let names = rules.names;
     let places = rules.places;
-    collect(
-        c.n,
-        |i| is_candidate(s, end, &names, c, i, places[i] as usize),
-    )
+    collect(c.n, |i| is_candidate(s, &names, c, i, places[i] as usize))
 }

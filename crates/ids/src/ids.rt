@@ -2,12 +2,13 @@
 ghost use Rattle.std.specs.Prelude.{◌≡◌, ℕ, List, [], ◌∷◌, ◌++◌, ◌+◌, ◌*◌, ◌≤◌, length, take};
 ghost use Rattle.grammar.specs.Words.{words};
 ghost use Rattle.grammar.specs.Found.{FoundRules};
-ghost use Rattle.words.specs.Room.{Room};
 ghost use Rattle.std.proofs.Common.{rules};
 ghost use Rattle.ids.specs.Ids.{seeing_past_block, seeing_past_alternative};
 ghost use Rattle.ids.specs.Ids.{own_of, own_ids, alternative_id, seeing, behind, CollectedSort};
+ghost use Rattle.words.specs.Sheet.{text};
 
 use words::numbers::{Kind, Sort};
+use words::sheet::Sheet;
 use words::visit::{Visitor, walk_rules};
 use words::walk::Head;
 use words::words::{put_word, word};
@@ -95,28 +96,28 @@ impl Visitor for Collector<'_> {
 
     ghost Kept = { λ ws end a b. (a.work.ghost_name ≡ b.work.ghost_name) × (a.sort ≡ b.sort) };
 
-    fn leaf(&mut self, s: &[u8], _end: usize, _depth: u32, at: usize, head: Head) {
-        self.out = put_own(s, self.sort, at, head.payload, self.work, self.out);
+    fn leaf(&mut self, s: &Sheet, _depth: u32, at: usize, head: Head) {
+        self.out = put_own(s.bytes, self.sort, at, head.payload, self.work, self.out);
     }
 
-    fn enter_block(&mut self, s: &[u8], _end: usize, _depth: u32, at: usize, head: Head) {
-        self.out = put_own(s, self.sort, at, head.payload, self.work, self.out);
+    fn enter_block(&mut self, s: &Sheet, _depth: u32, at: usize, head: Head) {
+        self.out = put_own(s.bytes, self.sort, at, head.payload, self.work, self.out);
     }
 
-    fn enter_alternative(&mut self, s: &[u8], _end: usize, _depth: u32, at: usize) {
-        self.out = put_alternative(s, self.sort, at, self.work, self.out);
+    fn enter_alternative(&mut self, s: &Sheet, _depth: u32, at: usize) {
+        self.out = put_alternative(s.bytes, self.sort, at, self.work, self.out);
     }
 
     ghost laws = { Prim.search (rules, seeing_past_block, seeing_past_alternative) };
 }
 
 // All ids of one sort, written from the first word on; returned is how many there are.
-pub fn collect(s: &[u8], end: usize, n: u32, sort: u32, work: &mut [u8]) -> usize
-    requires room { Room s.now end × (4 * end + 4 ≤ length work.old) }
-    requires found_rules { FoundRules (words s.now) end n 0 }
-    ensures { CollectedSort (words s.now) end n sort (words work.new) result }
+pub fn collect(s: &Sheet, n: u32, sort: u32, work: &mut [u8]) -> usize
+    requires room { 4 * s.now.end + 4 ≤ length work.old }
+    requires found_rules { FoundRules (text s.now) s.now.end n 0 }
+    ensures { CollectedSort (text s.now) s.now.end n sort (words work.new) result }
 {
     let mut collector = Collector { sort, work, out: 0 };
-    walk_rules(&mut collector, s, end, n, 0);
+    walk_rules(&mut collector, s, n, 0);
     collector.out
 }

@@ -4,13 +4,14 @@ ghost use Rattle.std.specs.Prelude.{◌≡◌, ◌+◌, ◌*◌, ◌<◌, ◌≤
 ghost use Rattle.std.proofs.Common.{rules};
 ghost use Rattle.grammar.specs.Words.{words};
 ghost use Rattle.grammar.specs.Found.{FoundRules};
-ghost use Rattle.words.specs.Room.{Room};
 ghost use Rattle.ids.specs.Ids.{own_of, seeing, seeing_past_block, seeing_past_alternative};
 ghost use Rattle.ids.specs.Survey.{seen, tracked, OwnSeen, AlternativeSeen, surveyed, Surveyed};
 ghost use Rattle.ids.specs.declared.survey.Survey.{Survey};
+ghost use Rattle.words.specs.Sheet.{text};
 
 use crate::ids::own_id;
 use words::numbers::Sort;
+use words::sheet::Sheet;
 use words::visit::{Visitor, walk_rules};
 use words::walk::Head;
 use words::words::word;
@@ -92,28 +93,27 @@ impl Visitor for Survey {
 
     ghost Kept = { λ ws end a b. Unit {0} };
 
-    fn leaf(&mut self, s: &[u8], _end: usize, _depth: u32, at: usize, head: Head) {
-        self.see_own(s, at, head.payload);
+    fn leaf(&mut self, s: &Sheet, _depth: u32, at: usize, head: Head) {
+        self.see_own(s.bytes, at, head.payload);
     }
 
-    fn enter_block(&mut self, s: &[u8], _end: usize, _depth: u32, at: usize, head: Head) {
-        self.see_own(s, at, head.payload);
+    fn enter_block(&mut self, s: &Sheet, _depth: u32, at: usize, head: Head) {
+        self.see_own(s.bytes, at, head.payload);
     }
 
-    fn enter_alternative(&mut self, s: &[u8], _end: usize, _depth: u32, at: usize) {
-        self.see_alternative(s, at);
+    fn enter_alternative(&mut self, s: &Sheet, _depth: u32, at: usize) {
+        self.see_alternative(s.bytes, at);
     }
 
     ghost laws = { Prim.search (rules, seeing_past_block, seeing_past_alternative) };
 }
 
 // What is to be known of all the ids in the bodies of n rules.
-pub fn survey_all(s: &[u8], end: usize, n: u32) -> Survey
-    requires room { Room s.now end }
-    requires found_rules { FoundRules (words s.now) end n 0 }
-    ensures { Surveyed (words s.now) end n result }
+pub fn survey_all(s: &Sheet, n: u32) -> Survey
+    requires found_rules { FoundRules (text s.now) s.now.end n 0 }
+    ensures { Surveyed (text s.now) s.now.end n result }
 {
     let mut survey = Survey::default();
-    walk_rules(&mut survey, s, end, n, 0);
+    walk_rules(&mut survey, s, n, 0);
     survey
 }

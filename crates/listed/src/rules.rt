@@ -1,42 +1,42 @@
 // The lines of all rules of a sheet.
 ghost use Rattle.std.specs.Prelude.{[], ◌∷◌, ◌+◌, ◌*◌, ◌<◌, ◌≤◌, ◌^◌, length};
-ghost use Rattle.grammar.specs.Words.{words};
 ghost use Rattle.grammar.specs.Found.{FoundRule, FoundRules};
-ghost use Rattle.words.specs.Room.{Room};
 ghost use Rattle.listed.specs.Walk.{pen, RuleListed, RulesListed};
 ghost use Rattle.listed.specs.Ready.{Ruled, Counted, RulesPut};
+ghost use Rattle.words.specs.Sheet.{text};
 
 use crate::lines::line;
 use crate::walk::{Passed, alternatives};
 use records::rules::read_rules;
 use words::numbers::Block;
+use words::sheet::Sheet;
 use words::words::word;
 
 // The rule at `at`, with all that is in it.
-fn rule(s: &[u8], end: usize, at: usize, text: &mut [u8], n: usize) -> Passed
-    requires room { Room s.now end × (at + 4 ≤ end) × (n ≤ 10 * at + 64) }
-    requires found_rule { FoundRule (words s.now) end at }
-    ensures { (result.n ≤ 10 * result.at + 64) × RuleListed (words s.now) end at
+fn rule(s: &Sheet, at: usize, text: &mut [u8], n: usize) -> Passed
+    requires room { (at + 4 ≤ s.now.end) × (n ≤ 10 * at + 64) }
+    requires found_rule { FoundRule (text s.now) s.now.end at }
+    ensures { (result.n ≤ 10 * result.at + 64) × RuleListed (text s.now) s.now.end at
         (pen text.old n 0) result.at (pen text.new result.n 0) }
 {
-    let id = word(s, at);
-    let name = word(s, at + 1);
-    let count = word(s, at + 3);
+    let id = word(s.bytes, at);
+    let name = word(s.bytes, at + 1);
+    let count = word(s.bytes, at + 3);
     let p = line(text, n, b"r", &[id, name]);
-    alternatives(s, end, Block::DEPTH, 0, count, at + 4, text, p)
+    alternatives(s, Block::DEPTH, 0, count, at + 4, text, p)
 }
 
 // The rules from the first word on.
-fn rules(s: &[u8], end: usize, count: u32, text: &mut [u8], n: usize) -> Passed
-    requires room { Room s.now end × (n ≤ 64) }
-    requires found_rules { FoundRules (words s.now) end count 0 }
-    ensures { (result.n ≤ 10 * result.at + 64) × RulesListed (words s.now) end count 0
+fn rules(s: &Sheet, count: u32, text: &mut [u8], n: usize) -> Passed
+    requires room { n ≤ 64 }
+    requires found_rules { FoundRules (text s.now) s.now.end count 0 }
+    ensures { (result.n ≤ 10 * result.at + 64) × RulesListed (text s.now) s.now.end count 0
         (pen text.old n 0) result.at (pen text.new result.n 0) }
 {
     let mut p = 0;
     let mut q = n;
     for _ in 0..count {
-        let r = rule(s, end, p, text, q);
+        let r = rule(s, p, text, q);
         p = r.at;
         q = r.n;
     }
@@ -44,20 +44,20 @@ fn rules(s: &[u8], end: usize, count: u32, text: &mut [u8], n: usize) -> Passed
 }
 
 // How many rules there are.
-fn rule_count(s: &[u8], end: usize) -> u32
-    requires { Room s.now end × Ruled (words s.now) end }
-    ensures { Counted (words s.now) end result }
+fn rule_count(s: &Sheet) -> u32
+    requires { Ruled (text s.now) s.now.end }
+    ensures { Counted (text s.now) s.now.end result }
 {
-    let rules = read_rules(s, end).unwrap();
+    let rules = read_rules(s.bytes).unwrap();
     rules.n
 }
 
 // All rules, whose end is known.
-pub fn list_rules(s: &[u8], end: usize, text: &mut [u8], n: usize) -> usize
-    requires { Room s.now end × Ruled (words s.now) end × (n ≤ 64) }
-    ensures { RulesPut (words s.now) end text.old text.new n result }
+pub fn list_rules(s: &Sheet, text: &mut [u8], n: usize) -> usize
+    requires { Ruled (text s.now) s.now.end × (n ≤ 64) }
+    ensures { RulesPut (text s.now) s.now.end text.old text.new n result }
 {
-    let count = rule_count(s, end);
-    let r = rules(s, end, count, text, n);
+    let count = rule_count(s);
+    let r = rules(s, count, text, n);
     r.n
 }

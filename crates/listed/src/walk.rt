@@ -5,14 +5,15 @@ ghost use Rattle.grammar.specs.Numbers.{kind_end};
 ghost use Rattle.grammar.specs.Words.{words};
 ghost use Rattle.grammar.specs.Found.{FoundAlternatives};
 ghost use Rattle.grammar.specs.Fold.{AlternativesWalked};
-ghost use Rattle.words.specs.Room.{Room};
 ghost use Rattle.listed.specs.Text.{line};
 ghost use Rattle.listed.specs.Listed.{element_word, alternative_line};
 ghost use Rattle.listed.specs.Put.{PutFew};
 ghost use Rattle.listed.specs.Walk.{Pen, pen, listing, name_of};
+ghost use Rattle.words.specs.Sheet.{text};
 
 use crate::lines::line;
 use words::numbers::Kind;
+use words::sheet::Sheet;
 use words::visit::{Visitor, walk_alternatives};
 use words::walk::Head;
 use words::words::word;
@@ -95,19 +96,35 @@ impl Visitor for Lister<'_> {
 
     ghost Kept = { λ ws end a b. (a.text.ghost_name ≡ b.text.ghost_name) × (a.top ≡ b.top) };
 
-    fn leaf(&mut self, s: &[u8], _end: usize, depth: u32, at: usize, head: Head) {
+    fn leaf(&mut self, s: &Sheet, depth: u32, at: usize, head: Head) {
         let level = self.level(depth);
-        self.n = element_line(s, at, head.kind, head.payload, level, self.text, self.n);
+        self.n = element_line(
+            s.bytes,
+            at,
+            head.kind,
+            head.payload,
+            level,
+            self.text,
+            self.n,
+        );
     }
 
-    fn enter_block(&mut self, s: &[u8], _end: usize, depth: u32, at: usize, head: Head) {
+    fn enter_block(&mut self, s: &Sheet, depth: u32, at: usize, head: Head) {
         let level = self.level(depth);
-        self.n = element_line(s, at, head.kind, head.payload, level, self.text, self.n);
+        self.n = element_line(
+            s.bytes,
+            at,
+            head.kind,
+            head.payload,
+            level,
+            self.text,
+            self.n,
+        );
     }
 
-    fn enter_alternative(&mut self, s: &[u8], _end: usize, depth: u32, at: usize) {
+    fn enter_alternative(&mut self, s: &Sheet, depth: u32, at: usize) {
         let level = self.level(depth);
-        self.n = alternative_line(s, at, level, self.text, self.n);
+        self.n = alternative_line(s.bytes, at, level, self.text, self.n);
     }
 
     ghost laws = { Prim.search rules };
@@ -115,8 +132,7 @@ impl Visitor for Lister<'_> {
 
 // n alternatives from `at` on, with all that is in them.
 pub fn alternatives(
-    s: &[u8],
-    end: usize,
+    s: &Sheet,
     depth: u32,
     level: u32,
     count: u32,
@@ -124,14 +140,14 @@ pub fn alternatives(
     text: &mut [u8],
     n: usize,
 ) -> Passed
-    requires room { Room s.now end × (level + depth ≤ 8) × (n ≤ 10 * at + 64) × (at ≤ end) }
-    requires found_alternatives { FoundAlternatives (words s.now) end depth count at }
-    ensures { (result.n ≤ 10 * result.at + 64) × AlternativesWalked listing (words s.now) end depth count at
+    requires room { (level + depth ≤ 8) × (n ≤ 10 * at + 64) × (at ≤ s.now.end) }
+    requires found_alternatives { FoundAlternatives (text s.now) s.now.end depth count at }
+    ensures { (result.n ≤ 10 * result.at + 64) × AlternativesWalked listing (text s.now) s.now.end depth count at
         (pen text.old n level) result.at (pen text.new result.n level) }
 {
     let top = level + depth;
     let mut lister = Lister { text, n, top };
-    let there = walk_alternatives(&mut lister, s, end, depth, count, at);
+    let there = walk_alternatives(&mut lister, s, depth, count, at);
     Passed {
         at: there,
         n: lister.n,

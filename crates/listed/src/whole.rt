@@ -7,7 +7,7 @@ ghost use Rattle.listed.specs.Ready.{Held, Recorded, RulesEnd, JoinedPut, most_t
 use crate::entries::list_entries;
 use crate::lines::line;
 use crate::rules::list_rules;
-use words::numbers::Sheet;
+use words::sheet::Sheet;
 use words::words::word;
 
 // The line of a refusal.
@@ -44,6 +44,7 @@ pub fn list_joined(
 {
     let end = rules_end(res, n);
     let p = line(text, 0, b"ok", &[plans, steps]);
-    let q = list_rules(res, end, text, p);
+    let s = Sheet { bytes: res, end };
+    let q = list_rules(&s, text, p);
     list_entries(trail, entries, text, q)
 }

@@ -9,7 +9,7 @@ mod reasons;
 use answer::list_answer;
 use input::read_input;
 use reasons::{explain, fail};
-use words::numbers::Sheet;
+use words::sheet::Sheet;
 
 // Room for the longest listing.
 #[derive(Drop)]

@@ -8,7 +8,8 @@ use run::unit::run_unit;
 use sheet::Reading;
 use sheet::answer::examine;
 use turns::state::Limits;
-use words::numbers::{Refusal, Sheet, UnitKind};
+use words::numbers::{Refusal, UnitKind};
+use words::sheet::Sheet;
 use writing::copy::copy_words;
 
 // A sheet that was read is copied to the result, and the run of a parser's unit is made there; other units come back as they are.

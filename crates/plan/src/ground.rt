@@ -1,16 +1,16 @@
 // What the decisions rest on: what is found out about the rules of a sheet.
 ghost use Rattle.std.specs.Prelude.{◌≡◌, ◌≤◌, length};
 ghost use Rattle.grammar.specs.Numbers.{rule_limit, work_bytes};
-ghost use Rattle.grammar.specs.Words.{words};
-ghost use Rattle.words.specs.Room.{Room};
 ghost use Rattle.analysis.specs.Names.{table_with};
 ghost use Rattle.analysis.specs.Facts.{Standing, FactsFound};
 ghost use Rattle.plan.specs.Ground.{KeptAt, KeptOf};
+ghost use Rattle.words.specs.Sheet.{text};
 
 use analysis::rounds::{Marks, find_rows};
 use hub::preserved::preserved_rows;
 use reach::rows::Row;
 use records::rules::Rules;
+use words::sheet::Sheet;
 
 // The marks of the rules, and the row of the preserved ones.
 #[derive(Clone, Copy, Debug, PartialEq, Eq)]
@@ -22,8 +22,7 @@ pub struct Ground {
 // What is found out about rules whose preserved ids stand from their end up to `to`; calls and left corners are put into the rows,
 // and the places of the names into the work area.
 pub fn find_out(
-    s: &[u8],
-    end: usize,
+    s: &Sheet,
     to: usize,
     rules: Rules,
     past: bool,
@@ -31,15 +30,15 @@ pub fn find_out(
     corners: &mut [[u64; Row::WORDS]; Row::RULES],
     work: &mut [u8],
 ) -> Ground
-    requires room { Room s.now end × (work_bytes ≤ length work.old) × KeptAt s.now end to }
-    requires standing { Standing (words s.now) end rules }
+    requires room { (work_bytes ≤ length work.old) × KeptAt s.now.bytes.now s.now.end to }
+    requires standing { Standing (text s.now) s.now.end rules }
     requires calls_len { (length calls.old ≡ rule_limit) × (length corners.old ≡ rule_limit) }
-    ensures facts_found { FactsFound (words s.now) end rules past calls.new corners.new result.marks }
-    ensures kept_of { KeptOf (words s.now) end to rules result.kept }
+    ensures facts_found { FactsFound (text s.now) s.now.end rules past calls.new corners.new result.marks }
+    ensures kept_of { KeptOf (text s.now) s.now.end to rules result.kept }
     ensures calls_len_2 { (length calls.new ≡ rule_limit) × (length corners.new ≡ rule_limit) }
     ensures work_after { work.new ≡ table_with rules.names rules.n work.old }
 {
-    let marks = find_rows(s, end, rules, past, calls, corners, work);
-    let kept = preserved_rows(s, rules, end, to);
+    let marks = find_rows(s, rules, past, calls, corners, work);
+    let kept = preserved_rows(s.bytes, rules, s.end, to);
     Ground { marks, kept }
 }

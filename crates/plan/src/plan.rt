@@ -3,14 +3,13 @@
 ghost use Rattle.std.specs.Prelude.{◌≡◌, ◌+◌, ◌<◌, ◌≤◌, length};
 ghost use Rattle.grammar.specs.Numbers.{rule_limit, most_words, work_bytes};
 ghost use Rattle.grammar.specs.Tree.{inner_depth};
-ghost use Rattle.grammar.specs.Words.{words};
 ghost use Rattle.grammar.specs.Found.{FoundRule};
-ghost use Rattle.words.specs.Room.{Room};
 ghost use Rattle.analysis.specs.Facts.{Standing};
 ghost use Rattle.planned.specs.List.{Laid, AllIn};
 ghost use Rattle.turns.specs.Midway.{LimitsFit};
 ghost use Rattle.plan.specs.Known.{CycleKnown, HubKnown};
 ghost use Rattle.plan.specs.Decision.{TakesArguments, PlanOf, PlanWith, PlanMade, PlanLast};
+ghost use Rattle.words.specs.Sheet.{text};
 
 use analysis::leaf::Known;
 use analysis::names::index;
@@ -28,6 +27,7 @@ use steps::decide::Clause;
 use substitution::turning::{Done, substitute};
 use turns::state::Limits;
 use turns::turn::Unplanned;
+use words::sheet::Sheet;
 use words::words::word;
 
 // What takes a cycle's place: the hub's place among the rules, its new alternatives in the work area, the steps that these took, and
@@ -43,8 +43,7 @@ pub struct Plan {
 
 // Behind the substitution: a step was made, what it left can be rewritten; then the rules that may go.
 fn finish(
-    s: &[u8],
-    end: usize,
+    s: &Sheet,
     rules: Rules,
     past: bool,
     calls: &[[u64; Row::WORDS]; Row::RULES],
@@ -55,9 +54,9 @@ fn finish(
     work: &[u8],
     done: Done,
 ) -> Result<Plan, Unplanned>
-    requires room { Room s.now end × Standing (words s.now) end rules × (length calls.now ≡ rule_limit) × (hub < rules.n) }
-    requires laid { Laid work.now done.l × AllIn (words s.now) end inner_depth work.now done.l }
-    ensures { PlanLast (words s.now) end rules past calls.now marks kept members hub done
+    requires room { Standing (text s.now) s.now.end rules × (length calls.now ≡ rule_limit) × (hub < rules.n) }
+    requires laid { Laid work.now done.l × AllIn (text s.now) s.now.end inner_depth work.now done.l }
+    ensures { PlanLast (text s.now) s.now.end rules past calls.now marks kept members hub done
         work.now result }
 {
     if done.steps == 0 {
@@ -67,7 +66,7 @@ fn finish(
     let l = done.l;
     let nullable = marks.nullable;
     let known = Known { n, nullable, past };
-    let Some(planned) = judge(s, end, rules, known, members, hub, work, l) else {
+    let Some(planned) = judge(s, rules, known, members, hub, work, l) else {
         return Err(Unplanned::Declined(Clause::NotDirectlyRewritable));
     };
     let row = removable(calls, n, members, kept, planned, hub);
@@ -82,8 +81,7 @@ fn finish(
 
 // The substitution within its budget, and what is behind it.
 fn make(
-    s: &[u8],
-    end: usize,
+    s: &Sheet,
     rules: Rules,
     past: bool,
     calls: &[[u64; Row::WORDS]; Row::RULES],
@@ -94,36 +92,33 @@ fn make(
     limits: Limits,
     work: &mut [u8],
 ) -> Result<Plan, Unplanned>
-    requires room { Room s.now end × (end ≤ most_words) × (work_bytes ≤ length work.old) × LimitsFit limits }
-    requires calls_len { (length calls.now ≡ rule_limit) × HubKnown (words s.now) end rules past calls.now marks kept members hub }
-    ensures { PlanMade (words s.now) end rules past calls.now marks kept members limits hub
+    requires room { (s.now.end ≤ most_words) × (work_bytes ≤ length work.old) × LimitsFit limits }
+    requires calls_len { (length calls.now ≡ rule_limit) × HubKnown (text s.now) s.now.end rules past calls.now marks kept members hub }
+    ensures { PlanMade (text s.now) s.now.end rules past calls.now marks kept members limits hub
         work.new result }
 {
     let n = rules.n as usize;
-    let most = budget(s, end, rules, members, limits.floor);
+    let most = budget(s, rules, members, limits.floor);
     let c = Cycle { n, members, hub };
-    let Some(done) = substitute(s, end, rules, c, limits, most, work)? else {
+    let Some(done) = substitute(s, rules, c, limits, most, work)? else {
         return Err(Unplanned::Declined(Clause::NoSteps));
     };
-    finish(
-        s, end, rules, past, calls, marks, kept, members, hub, work, done,
-    )
+    finish(s, rules, past, calls, marks, kept, members, hub, work, done)
 }
 
 // Whether the rule at `at` takes arguments: its flags are odd.
 #[tactic(auto, using(crate::proofs::Laws::With::takes_word))]
-fn takes_arguments(s: &[u8], end: usize, at: usize) -> bool
-    requires room { Room s.now end × (at + 4 ≤ end) }
-    requires found_rule { FoundRule (words s.now) end at }
-    ensures { TakesArguments (words s.now) end at result }
+fn takes_arguments(s: &Sheet, at: usize) -> bool
+    requires room { at + 4 ≤ s.now.end }
+    requires found_rule { FoundRule (text s.now) s.now.end at }
+    ensures { TakesArguments (text s.now) s.now.end at result }
 {
-    word(s, at + 2) % 2 != 0
+    word(s.bytes, at + 2) % 2 != 0
 }
 
 // From the hub on: the tests of the rules, then the substitution.
 fn with_hub(
-    s: &[u8],
-    end: usize,
+    s: &Sheet,
     rules: Rules,
     past: bool,
     calls: &[[u64; Row::WORDS]; Row::RULES],
@@ -134,14 +129,14 @@ fn with_hub(
     limits: Limits,
     work: &mut [u8],
 ) -> Result<Plan, Unplanned>
-    requires room { Room s.now end × (end ≤ most_words) × (work_bytes ≤ length work.old) × LimitsFit limits }
+    requires room { (s.now.end ≤ most_words) × (work_bytes ≤ length work.old) × LimitsFit limits }
     requires calls_len { (length calls.now ≡ rule_limit) × (hub < rules.n) }
-    requires cycle_known { CycleKnown (words s.now) end rules past calls.now marks kept members }
-    ensures { PlanWith (words s.now) end rules past calls.now marks kept members limits hub
+    requires cycle_known { CycleKnown (text s.now) s.now.end rules past calls.now marks kept members }
+    ensures { PlanWith (text s.now) s.now.end rules past calls.now marks kept members limits hub
         work.new result }
 {
     let places = rules.places;
-    if takes_arguments(s, end, index(places[hub])) {
+    if takes_arguments(s, index(places[hub])) {
         return Err(Unplanned::Declined(Clause::HubWithArguments));
     }
     let stops = marks.stops;
@@ -149,14 +144,13 @@ fn with_hub(
         return Err(Unplanned::Declined(Clause::SatelliteNotInlinable));
     }
     make(
-        s, end, rules, past, calls, marks, kept, members, hub, limits, work,
+        s, rules, past, calls, marks, kept, members, hub, limits, work,
     )
 }
 
 // The whole decision for a cycle, whose members are the row.
 pub fn plan_cycle(
-    s: &[u8],
-    end: usize,
+    s: &Sheet,
     rules: Rules,
     past: bool,
     calls: &[[u64; Row::WORDS]; Row::RULES],
@@ -166,17 +160,17 @@ pub fn plan_cycle(
     limits: Limits,
     work: &mut [u8],
 ) -> Result<Plan, Unplanned>
-    requires room { Room s.now end × (end ≤ most_words) × (work_bytes ≤ length work.old) × LimitsFit limits }
+    requires room { (s.now.end ≤ most_words) × (work_bytes ≤ length work.old) × LimitsFit limits }
     requires calls_len { length calls.now ≡ rule_limit }
-    requires cycle_known { CycleKnown (words s.now) end rules past calls.now marks kept members }
-    ensures { PlanOf (words s.now) end rules past calls.now marks kept members limits
+    requires cycle_known { CycleKnown (text s.now) s.now.end rules past calls.now marks kept members }
+    ensures { PlanOf (text s.now) s.now.end rules past calls.now marks kept members limits
         work.new result }
 {
     let nullable = marks.nullable;
-    let Some(hub) = choose_hub(s, end, rules, nullable, calls, members, kept) else {
+    let Some(hub) = choose_hub(s, rules, nullable, calls, members, kept) else {
         return Err(Unplanned::Declined(Clause::NoHub));
     };
     with_hub(
-        s, end, rules, past, calls, marks, kept, members, hub, limits, work,
+        s, rules, past, calls, marks, kept, members, hub, limits, work,
     )
 }

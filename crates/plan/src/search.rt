@@ -2,10 +2,9 @@
 // No cycle is looked for before those in front of it are declined.
 ghost use Rattle.std.specs.Prelude.{◌≡◌, ◌≤◌, length};
 ghost use Rattle.grammar.specs.Numbers.{rule_limit, most_words, work_bytes};
-ghost use Rattle.grammar.specs.Words.{words};
-ghost use Rattle.words.specs.Room.{Room};
 ghost use Rattle.turns.specs.Midway.{LimitsFit};
 ghost use Rattle.plan.specs.Search.{IsNone, Ended, RulesKnown, FoundOf, JoinedKnown, TriedOf};
+ghost use Rattle.words.specs.Sheet.{text};
 
 use crate::plan::{Plan, plan_cycle};
 use analysis::rounds::Marks;
@@ -15,6 +14,7 @@ use reach::rows::Row;
 use records::rules::Rules;
 use turns::state::Limits;
 use turns::turn::Unplanned;
+use words::sheet::Sheet;
 
 // A plan, and the members of its cycle as the two words of a row.
 #[derive(Clone, Copy)]
@@ -65,8 +65,7 @@ fn ended(answer: Search, declined: usize, clauses: [u32; Row::RULES]) -> Found
 
 // The cycles of rules that are joined.
 fn try_cycles(
-    s: &[u8],
-    end: usize,
+    s: &Sheet,
     rules: Rules,
     past: bool,
     calls: &[[u64; Row::WORDS]; Row::RULES],
@@ -76,10 +75,10 @@ fn try_cycles(
     limits: Limits,
     work: &mut [u8],
 ) -> Found
-    requires room { Room s.now end × (end ≤ most_words) × (work_bytes ≤ length work.old) × LimitsFit limits }
+    requires room { (s.now.end ≤ most_words) × (work_bytes ≤ length work.old) × LimitsFit limits }
     requires calls_len { (length calls.now ≡ rule_limit) × (length closed.now ≡ rule_limit) × (rules.n ≤ rule_limit) }
-    requires joined_known { JoinedKnown (words s.now) end rules past calls.now marks kept closed.now }
-    ensures { TriedOf (words s.now) end rules past calls.now marks kept closed.now limits
+    requires joined_known { JoinedKnown (text s.now) s.now.end rules past calls.now marks kept closed.now }
+    ensures { TriedOf (text s.now) s.now.end rules past calls.now marks kept closed.now limits
         work.new result }
 {
     let n = rules.n as usize;
@@ -92,9 +91,7 @@ fn try_cycles(
             return ended(Search::NoPlan, k, clauses);
         };
         let members = ahead.members;
-        match plan_cycle(
-            s, end, rules, past, calls, marks, kept, members, limits, work,
-        ) {
+        match plan_cycle(s, rules, past, calls, marks, kept, members, limits, work) {
             Ok(plan) => {
                 let answer = Search::Planned(FoundPlan {
                     plan,
@@ -116,8 +113,7 @@ fn try_cycles(
 // The cycles of the rules, by their left corners.
 #[tactic(auto, using(crate::proofs::Laws::Cycles::found_of))]
 pub fn find_plan(
-    s: &[u8],
-    end: usize,
+    s: &Sheet,
     rules: Rules,
     past: bool,
     calls: &[[u64; Row::WORDS]; Row::RULES],
@@ -127,14 +123,12 @@ pub fn find_plan(
     limits: Limits,
     work: &mut [u8],
 ) -> Found
-    requires room { Room s.now end × (end ≤ most_words) × (work_bytes ≤ length work.old) × LimitsFit limits }
+    requires room { (s.now.end ≤ most_words) × (work_bytes ≤ length work.old) × LimitsFit limits }
     requires calls_len { length calls.now ≡ rule_limit }
-    requires rules_known { RulesKnown (words s.now) end rules past calls.now corners.now marks kept }
-    ensures { FoundOf (words s.now) end rules past calls.now corners.now marks kept limits
+    requires rules_known { RulesKnown (text s.now) s.now.end rules past calls.now corners.now marks kept }
+    ensures { FoundOf (text s.now) s.now.end rules past calls.now corners.now marks kept limits
         work.new result }
 {
     let closed = joined(*corners, rules.n as usize);
-    try_cycles(
-        s, end, rules, past, calls, &closed, marks, kept, limits, work,
-    )
+    try_cycles(s, rules, past, calls, &closed, marks, kept, limits, work)
 }

@@ -1,11 +1,10 @@
 // The first cycle with a plan, and how it is told in numbers.
 ghost use Rattle.std.specs.Prelude.{◌≡◌, ◌≤◌, length};
 ghost use Rattle.grammar.specs.Numbers.{most_words, work_bytes};
-ghost use Rattle.grammar.specs.Words.{words};
-ghost use Rattle.words.specs.Room.{Room};
 ghost use Rattle.analysis.specs.Facts.{Standing};
 ghost use Rattle.plan.specs.Ground.{KeptAt};
 ghost use Rattle.plans.specs.First.{FirstOf, search_numbers, search_cycle, search_row};
+ghost use Rattle.words.specs.Sheet.{text};
 
 use crate::nth::capped;
 use plan::ground::find_out;
@@ -14,6 +13,7 @@ use plan::search::{Found, Search, find_plan};
 use reach::rows::Row;
 use records::rules::Rules;
 use turns::state::Limits;
+use words::sheet::Sheet;
 
 // Numbers, the row of a cycle's members, and that of the rules that may go.
 #[derive(Clone, Copy, Debug, PartialEq, Eq)]
@@ -24,27 +24,18 @@ pub struct FirstTold {
 }
 
 // The first plan for rules that stand in a sheet, with their preserved ids behind them up to `to`.
-pub fn decide_first(
-    s: &[u8],
-    end: usize,
-    to: usize,
-    rules: Rules,
-    past: bool,
-    work: &mut [u8],
-) -> Found
-    requires room { Room s.now end × (end ≤ most_words) × (work_bytes ≤ length work.old) × KeptAt s.now end to }
-    requires standing { Standing (words s.now) end rules }
-    ensures { FirstOf (words s.now) end to rules past work.new result }
+pub fn decide_first(s: &Sheet, to: usize, rules: Rules, past: bool, work: &mut [u8]) -> Found
+    requires room { (s.now.end ≤ most_words) × (work_bytes ≤ length work.old) × KeptAt s.now.bytes.now s.now.end to }
+    requires standing { Standing (text s.now) s.now.end rules }
+    ensures { FirstOf (text s.now) s.now.end to rules past work.new result }
 {
     let mut calls = [[0u64; Row::WORDS]; Row::RULES];
     let mut corners = [[0u64; Row::WORDS]; Row::RULES];
-    let ground = find_out(s, end, to, rules, past, &mut calls, &mut corners, work);
+    let ground = find_out(s, to, rules, past, &mut calls, &mut corners, work);
     let marks = ground.marks;
     let kept = ground.kept;
     let limits = Limits::standard();
-    find_plan(
-        s, end, rules, past, &calls, &corners, marks, kept, limits, work,
-    )
+    find_plan(s, rules, past, &calls, &corners, marks, kept, limits, work)
 }
 
 // A search in numbers, where so many cycles were declined.

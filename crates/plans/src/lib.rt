@@ -13,6 +13,7 @@ ghost use Rattle.plans.specs.Told.{NthTold, FirstTold};
 use crate::first::{decide_first, tell_search};
 use crate::nth::{decide_nth, leave, tell_nth};
 use sheet::read;
+use words::sheet::Sheet;
 
 // The decision for the nth cycle of a sheet, in numbers; 0 is the cycle with the least id. The reading of left corners is the
 // original's where `textbook` is 0. Where there is a plan, its list is left in the work area; else that ends as after `read`.
@@ -36,7 +37,8 @@ pub fn plan_nth(
         Ok(r) => {
             let end = r.parts.preserved as usize;
             let to = end + r.parts.count as usize;
-            let t = tell_nth(decide_nth(sheet, end, to, r.rules, textbook != 0, nth, work));
+            let s = Sheet { bytes: sheet, end };
+            let t = tell_nth(decide_nth(&s, to, r.rules, textbook != 0, nth, work));
             let told = t.numbers;
             let row = t.row;
             leave(told, work);
@@ -72,7 +74,8 @@ pub fn first_plan(
         Ok(r) => {
             let end = r.parts.preserved as usize;
             let to = end + r.parts.count as usize;
-            let found = decide_first(sheet, end, to, r.rules, textbook != 0, work);
+            let s = Sheet { bytes: sheet, end };
+            let found = decide_first(&s, to, r.rules, textbook != 0, work);
             let declines = found.clauses;
             let answer = found.answer;
             let t = tell_search(found.declined, answer);

@@ -1,11 +1,10 @@
 // The decision for one of the cycles, and how it is told in numbers.
 ghost use Rattle.std.specs.Prelude.{◌≡◌, ◌≤◌, length};
 ghost use Rattle.grammar.specs.Numbers.{most_words, work_bytes};
-ghost use Rattle.grammar.specs.Words.{words};
-ghost use Rattle.words.specs.Room.{Room};
 ghost use Rattle.analysis.specs.Facts.{Standing};
 ghost use Rattle.plan.specs.Ground.{KeptAt};
 ghost use Rattle.plans.specs.Nth.{NthOf, nth_numbers, nth_row, capped, decision_numbers, decision_row, left_by};
+ghost use Rattle.words.specs.Sheet.{text};
 
 use plan::ground::find_out;
 use plan::plan::{Plan, plan_cycle};
@@ -14,6 +13,7 @@ use reach::rows::Row;
 use records::rules::Rules;
 use turns::state::Limits;
 use turns::turn::Unplanned;
+use words::sheet::Sheet;
 use words::words::clear;
 
 // How many cycles there are, and the decision; none where there is no such cycle.
@@ -40,23 +40,15 @@ impl Told {
 }
 
 // The decision for the nth cycle of rules that stand in a sheet, with their preserved ids behind them up to `to`.
-pub fn decide_nth(
-    s: &[u8],
-    end: usize,
-    to: usize,
-    rules: Rules,
-    past: bool,
-    nth: u32,
-    work: &mut [u8],
-) -> Nth
-    requires room { Room s.now end × (end ≤ most_words) × (work_bytes ≤ length work.old) × KeptAt s.now end to }
-    requires standing { Standing (words s.now) end rules }
-    ensures { NthOf (words s.now) end to rules past nth work.new result }
+pub fn decide_nth(s: &Sheet, to: usize, rules: Rules, past: bool, nth: u32, work: &mut [u8]) -> Nth
+    requires room { (s.now.end ≤ most_words) × (work_bytes ≤ length work.old) × KeptAt s.now.bytes.now s.now.end to }
+    requires standing { Standing (text s.now) s.now.end rules }
+    ensures { NthOf (text s.now) s.now.end to rules past nth work.new result }
 {
     let mut calls = [[0u64; Row::WORDS]; Row::RULES];
     let mut corners = [[0u64; Row::WORDS]; Row::RULES];
     let mut cycles = [[0u64; Row::WORDS]; Row::RULES];
-    let ground = find_out(s, end, to, rules, past, &mut calls, &mut corners, work);
+    let ground = find_out(s, to, rules, past, &mut calls, &mut corners, work);
     let marks = ground.marks;
     let kept = ground.kept;
     let ids = rules.ids;
@@ -69,9 +61,7 @@ pub fn decide_nth(
     }
     let members = cycles[nth as usize];
     let limits = Limits::standard();
-    let decision = plan_cycle(
-        s, end, rules, past, &calls, marks, kept, members, limits, work,
-    );
+    let decision = plan_cycle(s, rules, past, &calls, marks, kept, members, limits, work);
     Nth {
         cycles: n,
         choice: Some(decision),

@@ -1,11 +1,10 @@
 // After a plan was applied: the rows of the rules that stay, and the hub surveyed anew.
 ghost use Rattle.std.specs.Prelude.{◌≡◌, ◌<◌, ◌≤◌, length};
 ghost use Rattle.grammar.specs.Numbers.{rule_limit, work_bytes};
-ghost use Rattle.grammar.specs.Words.{words};
-ghost use Rattle.words.specs.Room.{Room};
 ghost use Rattle.analysis.specs.Names.{table_with};
 ghost use Rattle.analysis.specs.Facts.{Standing};
 ghost use Rattle.renew.specs.Renewed.{BitPut, HubSurveyed, Renewable, RenewedOf};
+ghost use Rattle.words.specs.Sheet.{text};
 
 use crate::places::rules_less;
 use analysis::leaf::Known;
@@ -14,6 +13,7 @@ use analysis::rounds::Marks;
 use analysis::survey::survey_rule;
 use reach::rows::{Row, add_if, without};
 use records::rules::Rules;
+use words::sheet::Sheet;
 
 // What is known of the rules that stay, and the hub's place among them.
 #[derive(Clone, Copy, Debug, PartialEq, Eq)]
@@ -34,8 +34,7 @@ fn put_bit(row: [u64; Row::WORDS], j: usize, on: bool) -> [u64; Row::WORDS]
 
 // The rule at a place surveyed anew; the result is the row of those that cannot be inlined. The table of names is left in the work area.
 fn survey_hub(
-    s: &[u8],
-    end: usize,
+    s: &Sheet,
     rules: Rules,
     hub: usize,
     past: bool,
@@ -45,10 +44,10 @@ fn survey_hub(
     corners: &mut [[u64; Row::WORDS]; Row::RULES],
     work: &mut [u8],
 ) -> [u64; Row::WORDS]
-    requires room { Room s.now end × (work_bytes ≤ length work.old) × (hub < rules.n) }
-    requires standing { Standing (words s.now) end rules }
+    requires room { (work_bytes ≤ length work.old) × (hub < rules.n) }
+    requires standing { Standing (text s.now) s.now.end rules }
     requires calls_len { (length calls.old ≡ rule_limit) × (length corners.old ≡ rule_limit) }
-    ensures hub_surveyed { HubSurveyed (words s.now) end rules hub past nullable
+    ensures hub_surveyed { HubSurveyed (text s.now) s.now.end rules hub past nullable
         calls.old corners.old stops calls.new corners.new result }
     ensures work_after { work.new ≡ table_with rules.names rules.n work.old }
 {
@@ -57,7 +56,7 @@ fn survey_hub(
     let n = rules.n as usize;
     put_names(&names, n, work);
     let known = Known { n, nullable, past };
-    let v = survey_rule(s, end, &names, known, work, places[hub] as usize);
+    let v = survey_rule(s, &names, known, work, places[hub] as usize);
     let c = v.calls;
     let k = v.corners;
     calls[hub] = c;
@@ -67,8 +66,7 @@ fn survey_hub(
 
 // What is known of the rules after a plan, by what was known before it: n rules, with the hub at a place, and those in a row gone.
 pub fn renew(
-    s: &[u8],
-    end: usize,
+    s: &Sheet,
     rules: Rules,
     n: usize,
     hub: usize,
@@ -80,10 +78,10 @@ pub fn renew(
     kept: [u64; Row::WORDS],
     work: &mut [u8],
 ) -> Renewed
-    requires room { Room s.now end × (work_bytes ≤ length work.old) }
+    requires room { work_bytes ≤ length work.old }
     requires calls_len { (length calls.old ≡ rule_limit) × (length corners.old ≡ rule_limit) }
-    requires renewable { Renewable (words s.now) end rules n hub gone past calls.old corners.old marks kept }
-    ensures renewed_of { RenewedOf (words s.now) end rules n hub gone past
+    requires renewable { Renewable (text s.now) s.now.end rules n hub gone past calls.old corners.old marks kept }
+    ensures renewed_of { RenewedOf (text s.now) s.now.end rules n hub gone past
         calls.old corners.old marks kept calls.new corners.new result }
     ensures calls_len_2 { (length calls.new ≡ rule_limit) × (length corners.new ≡ rule_limit) }
     ensures work_after { work.new ≡ table_with rules.names rules.n work.old }
@@ -94,9 +92,7 @@ pub fn renew(
     let nullable = known.nullable;
     let c = known.stops;
     let kept = rest.kept;
-    let stops = survey_hub(
-        s, end, rules, rest.hub, past, nullable, c, calls, corners, work,
-    );
+    let stops = survey_hub(s, rules, rest.hub, past, nullable, c, calls, corners, work);
     Renewed {
         marks: Marks { nullable, stops },
         kept,

@@ -2,25 +2,24 @@
 // first element is nullable.
 ghost use Rattle.std.specs.Prelude.{◌≤◌, length, drop};
 ghost use Rattle.grammar.specs.Numbers.{rule_limit};
-ghost use Rattle.grammar.specs.Words.{words};
-ghost use Rattle.words.specs.Room.{Room};
 ghost use Rattle.analysis.specs.Names.{Tabled};
 ghost use Rattle.analysis.specs.Survey.{view_of, seen_of};
 ghost use Rattle.planned.specs.Layout.{meaning};
 ghost use Rattle.planned.specs.List.{Located, ListedIn};
 ghost use Rattle.rewritable.specs.Walks.{ItemStands, ItemWalked, RestWalked, WalkOf};
+ghost use Rattle.words.specs.Sheet.{text};
 
 use analysis::leaf::{Known, Passing, Slot, see_leaf};
 use analysis::walk::element;
 use planned::list::{Item, Listed};
 use planned::read::item;
 use reach::rows::Row;
+use words::sheet::Sheet;
 use words::walk::element_head;
 
 // One element. One that was made plain is a call that cannot be left out.
 fn walk_item(
-    s: &[u8],
-    end: usize,
+    s: &Sheet,
     depth: u32,
     names: &[u32],
     known: Known,
@@ -29,18 +28,17 @@ fn walk_item(
     p: Passing,
     t: &mut [u64],
 ) -> Passing
-    requires room { Room s.now end × (known.n ≤ rule_limit) × (5 ≤ length t.old) }
+    requires room { (known.n ≤ rule_limit) × (5 ≤ length t.old) }
     requires tabled { Tabled names.now known.n table.now }
-    requires item_stands { ItemStands (words s.now) end depth e.at e.plain }
-    ensures { ItemWalked (view_of names.now known) (words s.now) end depth e.at e.plain
+    requires item_stands { ItemStands (text s.now) s.now.end depth e.at e.plain }
+    ensures { ItemWalked (view_of names.now known) (text s.now) s.now.end depth e.at e.plain
         (seen_of t.old p.seeks p.null) (seen_of t.new result.seeks result.null) }
 {
     let at = e.at;
     if e.plain {
-        let head = element_head(s, end, depth, at);
+        let head = element_head(s, depth, at);
         return see_leaf(
             s,
-            end,
             depth,
             at,
             head.kind,
@@ -53,7 +51,7 @@ fn walk_item(
             t,
         );
     }
-    let w = element(s, end, depth, names, known, table, at, p.seeks, p.null, t);
+    let w = element(s, depth, names, known, table, at, p.seeks, p.null, t);
     Passing {
         seeks: w.seeks,
         null: w.null,
@@ -62,8 +60,7 @@ fn walk_item(
 
 // The elements of an alternative from an index on.
 fn walk_rest(
-    s: &[u8],
-    end: usize,
+    s: &Sheet,
     depth: u32,
     names: &[u32],
     known: Known,
@@ -74,17 +71,17 @@ fn walk_rest(
     p: Passing,
     t: &mut [u64],
 ) -> Passing
-    requires room { Room s.now end × (known.n ≤ rule_limit) × (5 ≤ length t.old) }
+    requires room { (known.n ≤ rule_limit) × (5 ≤ length t.old) }
     requires tabled { Tabled names.now known.n table.now }
-    requires located { Located work.now x × ListedIn (words s.now) end depth work.now x }
+    requires located { Located work.now x × ListedIn (text s.now) s.now.end depth work.now x }
     ensures { RestWalked (view_of names.now known) depth
-        (drop from (meaning (words s.now) end depth work.now x).elements)
+        (drop from (meaning (text s.now) s.now.end depth work.now x).elements)
         (seen_of t.old p.seeks p.null) (seen_of t.new result.seeks result.null) }
 {
     let mut q = p;
     for i in from..x.ne {
         let e = item(work, x, i);
-        q = walk_item(s, end, depth, names, known, table, e, q, t);
+        q = walk_item(s, depth, names, known, table, e, q, t);
     }
     q
 }
@@ -98,8 +95,7 @@ pub struct Walk {
 
 // A whole alternative. Behind its first element the count of what is nullable starts anew.
 pub fn walk_alternative(
-    s: &[u8],
-    end: usize,
+    s: &Sheet,
     depth: u32,
     names: &[u32],
     known: Known,
@@ -107,11 +103,11 @@ pub fn walk_alternative(
     work: &[u8],
     x: Listed,
 ) -> Walk
-    requires room { Room s.now end × (known.n ≤ rule_limit) }
+    requires room { known.n ≤ rule_limit }
     requires tabled { Tabled names.now known.n table.now }
-    requires located { Located work.now x × ListedIn (words s.now) end depth work.now x }
+    requires located { Located work.now x × ListedIn (text s.now) s.now.end depth work.now x }
     ensures { WalkOf (view_of names.now known) depth
-        (meaning (words s.now) end depth work.now x).elements result }
+        (meaning (text s.now) s.now.end depth work.now x).elements result }
 {
     if x.ne == 0 {
         return Walk {
@@ -126,14 +122,12 @@ pub fn walk_alternative(
         null: true,
     };
     let e = item(work, x, 0);
-    let p = walk_item(s, end, depth, names, known, table, e, front, &mut t);
+    let p = walk_item(s, depth, names, known, table, e, front, &mut t);
     let behind = Passing {
         seeks: p.seeks,
         null: true,
     };
-    let q = walk_rest(
-        s, end, depth, names, known, table, work, x, 1, behind, &mut t,
-    );
+    let q = walk_rest(s, depth, names, known, table, work, x, 1, behind, &mut t);
     Walk {
         calls: [t[0], t[1]],
         corners: [t[2], t[3]],

@@ -17,6 +17,7 @@ use reach::rows::Row;
 use renew::renew::renew;
 use turns::state::Limits;
 use words::numbers::Refusal;
+use words::sheet::Sheet;
 
 // What is known after a plan that was applied: the rows of the rules that stay, the hub surveyed anew, one plan more.
 fn bring_up(
@@ -47,8 +48,12 @@ fn bring_up(
     let rules = a.rules;
     let counters = a.counters;
     let gone = [p.low, p.high];
+    let s = Sheet {
+        bytes: res,
+        end: a.end,
+    };
     let r = renew(
-        res, a.end, rules, n, p.hub, gone, past, calls, corners, marks, kept, work,
+        &s, rules, n, p.hub, gone, past, calls, corners, marks, kept, work,
     );
     let known = r.marks;
     let preserved = r.kept;
@@ -119,9 +124,11 @@ pub fn take_turn(
     let rules = st.rules;
     let marks = st.marks;
     let kept = st.kept;
-    let found = find_plan(
-        res, st.end, rules, past, calls, corners, marks, kept, limits, work,
-    );
+    let s = Sheet {
+        bytes: res,
+        end: st.end,
+    };
+    let found = find_plan(&s, rules, past, calls, corners, marks, kept, limits, work);
     let answer = found.answer;
     match answer {
         Search::NoPlan => Ok(None),

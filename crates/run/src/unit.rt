@@ -12,7 +12,8 @@ use plan::ground::find_out;
 use reach::rows::Row;
 use records::rules::Rules;
 use turns::state::Limits;
-use words::numbers::{Refusal, Sheet};
+use words::numbers::Refusal;
+use words::sheet::Sheet;
 use writing::counters::Counters;
 
 // The sheet stands in the result, where the new one stands then; `room` are the words that it may have, and `recorded` what the trail
@@ -39,7 +40,8 @@ pub fn run_unit(
 {
     let mut calls = [[0u64; Row::WORDS]; Row::RULES];
     let mut corners = [[0u64; Row::WORDS]; Row::RULES];
-    let ground = find_out(res, end, to, rules, past, &mut calls, &mut corners, work);
+    let s = Sheet { bytes: res, end };
+    let ground = find_out(&s, to, rules, past, &mut calls, &mut corners, work);
     let marks = ground.marks;
     let kept = ground.kept;
     let mut st = State::begin(rules, marks, kept, counters, end, to, recorded);

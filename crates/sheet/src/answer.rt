@@ -10,7 +10,8 @@ ghost use Rattle.sheet.specs.Answer.{CountersAt, EndAt, Lent, ReadAs, TrailerAt}
 use crate::judge::judge;
 use ids::lists::is_rising;
 use records::rules::{Rules, read_rules};
-use words::numbers::{Refusal, Sheet, UnitKind};
+use words::numbers::{Refusal, UnitKind};
+use words::sheet::Sheet;
 use words::words::word;
 use writing::counters::Counters;
 
@@ -85,7 +86,8 @@ fn judged(s: &[u8], t: usize, end: usize, rules: Rules, work: &mut [u8]) -> Resu
         → ReadAs (judge (words s.now) (got f.found.trees end)) result }
 {
     let counters = counters_at(s, t);
-    judge(s, end, rules, counters, work)?;
+    let sheet = Sheet { bytes: s, end };
+    judge(&sheet, rules, counters, work)?;
     let parts = Parts {
         kind: word(s, t),
         preserved: end as u32,

@@ -6,6 +6,7 @@ ghost use Rattle.sheet.specs.Sizes.{Counted, Standing, numbers_from};
 
 use crate::answer::Parts;
 use ids::survey::survey_all;
+use words::sheet::Sheet;
 
 // The numbers of rules, alternatives, elements and preserved ids, nested ones counted.
 #[derive(Clone, Copy, Debug, PartialEq, Eq)]
@@ -22,7 +23,9 @@ pub fn counted(s: &[u8], parts: Parts, n: u32) -> Sizes
     ensures { (f : FoundRules (words s.now) parts.preserved n 0)
         → Counted f.trees n parts.count result }
 {
-    let v = survey_all(s, parts.preserved as usize, n);
+    let end = parts.preserved as usize;
+    let sheet = Sheet { bytes: s, end };
+    let v = survey_all(&sheet, n);
     Sizes {
         rules: n,
         alternatives: v.alternatives,

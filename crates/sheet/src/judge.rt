@@ -1,21 +1,21 @@
 // Refusals 5 and 6: ids and names that two share, and ids that are not below their counter.
 ghost use Rattle.std.specs.Prelude.{◌≡◌, ◌&&◌, ◌+◌, ◌*◌, ◌<◌, ◌≤◌, length, take, leb};
 ghost use Rattle.grammar.specs.Numbers.{rule_limit};
-ghost use Rattle.grammar.specs.Words.{words};
 ghost use Rattle.grammar.specs.Ids.{is_distinct, is_below};
 ghost use Rattle.grammar.specs.Lists.{distinct};
 ghost use Rattle.grammar.specs.Found.{FoundRules};
-ghost use Rattle.words.specs.Room.{Room};
 ghost use Rattle.records.specs.Rules.{FoundRows};
 ghost use Rattle.writing.specs.Taken.{counters_of};
 ghost use Rattle.ids.specs.Survey.{RisesApart, Surveyed, SortDistinct, PartsDistinct, BodiesDistinct, all_under};
 ghost use Rattle.sheet.specs.Verdict.{verdict};
+ghost use Rattle.words.specs.Sheet.{text};
 
 use ids::ids::collect;
 use ids::lists::{is_distinct, put_row};
 use ids::survey::{Survey, survey_all};
 use records::rules::Rules;
 use words::numbers::{Refusal, Sort};
+use words::sheet::Sheet;
 use writing::counters::Counters;
 
 // Whether no two of the first n numbers of a row are equal.
@@ -39,37 +39,37 @@ fn rows_are_distinct(rules: Rules, work: &mut [u8]) -> bool
 }
 
 // Whether no two ids of one sort are equal: those that rise are not, the others are collected and parted.
-fn sort_is_distinct(s: &[u8], end: usize, n: u32, sort: u32, falls: u64, work: &mut [u8]) -> bool
-    requires room { Room s.now end × (4 * end + 4 ≤ length work.old) }
-    requires found_rules { FoundRules (words s.now) end n 0 × RisesApart (words s.now) end n sort falls }
-    ensures { SortDistinct (words s.now) end n sort result }
+fn sort_is_distinct(s: &Sheet, n: u32, sort: u32, falls: u64, work: &mut [u8]) -> bool
+    requires room { 4 * s.now.end + 4 ≤ length work.old }
+    requires found_rules { FoundRules (text s.now) s.now.end n 0 × RisesApart (text s.now) s.now.end n sort falls }
+    ensures { SortDistinct (text s.now) s.now.end n sort result }
 {
     if falls == 0 {
         return true;
     }
-    let k = collect(s, end, n, sort, work);
+    let k = collect(s, n, sort, work);
     is_distinct(work, k)
 }
 
 // Labels, actions and predicates.
-fn parts_are_distinct(s: &[u8], end: usize, n: u32, v: Survey, work: &mut [u8]) -> bool
-    requires room { Room s.now end × (4 * end + 4 ≤ length work.old) }
-    requires found_rules { FoundRules (words s.now) end n 0 × Surveyed (words s.now) end n v }
-    ensures { PartsDistinct (words s.now) end n result }
+fn parts_are_distinct(s: &Sheet, n: u32, v: Survey, work: &mut [u8]) -> bool
+    requires room { 4 * s.now.end + 4 ≤ length work.old }
+    requires found_rules { FoundRules (text s.now) s.now.end n 0 × Surveyed (text s.now) s.now.end n v }
+    ensures { PartsDistinct (text s.now) s.now.end n result }
 {
-    sort_is_distinct(s, end, n, Sort::LABEL, v.label.falls, work)
-        && sort_is_distinct(s, end, n, Sort::ACTION, v.action.falls, work)
-        && sort_is_distinct(s, end, n, Sort::PREDICATE, v.predicate.falls, work)
+    sort_is_distinct(s, n, Sort::LABEL, v.label.falls, work)
+        && sort_is_distinct(s, n, Sort::ACTION, v.action.falls, work)
+        && sort_is_distinct(s, n, Sort::PREDICATE, v.predicate.falls, work)
 }
 
-fn bodies_are_distinct(s: &[u8], end: usize, n: u32, v: Survey, work: &mut [u8]) -> bool
-    requires room { Room s.now end × (4 * end + 4 ≤ length work.old) }
-    requires found_rules { FoundRules (words s.now) end n 0 × Surveyed (words s.now) end n v }
-    ensures { BodiesDistinct (words s.now) end n result }
+fn bodies_are_distinct(s: &Sheet, n: u32, v: Survey, work: &mut [u8]) -> bool
+    requires room { 4 * s.now.end + 4 ≤ length work.old }
+    requires found_rules { FoundRules (text s.now) s.now.end n 0 × Surveyed (text s.now) s.now.end n v }
+    ensures { BodiesDistinct (text s.now) s.now.end n result }
 {
-    sort_is_distinct(s, end, n, Sort::ALTERNATIVE, v.alternative.falls, work)
-        && sort_is_distinct(s, end, n, Sort::ELEMENT, v.element.falls, work)
-        && parts_are_distinct(s, end, n, v, work)
+    sort_is_distinct(s, n, Sort::ALTERNATIVE, v.alternative.falls, work)
+        && sort_is_distinct(s, n, Sort::ELEMENT, v.element.falls, work)
+        && parts_are_distinct(s, n, v, work)
 }
 
 fn is_under(top: u64, counter: u32) -> bool
@@ -89,24 +89,18 @@ fn bodies_are_below(v: Survey, counters: Counters) -> bool
 }
 
 // Refusals 5 and 6, of good rules, whose rows are given; the work area is left in any state.
-pub fn judge(
-    s: &[u8],
-    end: usize,
-    rules: Rules,
-    counters: Counters,
-    work: &mut [u8],
-) -> Result<(), Refusal>
-    requires room { Room s.now end × (4 * (end + rule_limit) ≤ length work.old) }
-    requires found_rows { FoundRows (words s.now) end rules }
-    ensures { (f : FoundRows (words s.now) end rules)
+pub fn judge(s: &Sheet, rules: Rules, counters: Counters, work: &mut [u8]) -> Result<(), Refusal>
+    requires room { (4 * (s.now.end + rule_limit) ≤ length work.old) }
+    requires found_rows { FoundRows (text s.now) s.now.end rules }
+    ensures { (f : FoundRows (text s.now) s.now.end rules)
         → result ≡ verdict (is_distinct f.found.trees) (is_below (counters_of counters) f.found.trees) }
 {
     let n = rules.n;
-    let v = survey_all(s, end, n);
+    let v = survey_all(s, n);
     if !rows_are_distinct(rules, work) {
         return Err(Refusal::SharedNumber);
     }
-    if !bodies_are_distinct(s, end, n, v, work) {
+    if !bodies_are_distinct(s, n, v, work) {
         return Err(Refusal::SharedNumber);
     }
     if !bodies_are_below(v, counters) {

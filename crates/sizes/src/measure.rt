@@ -2,24 +2,24 @@
 ghost use Rattle.std.specs.Prelude.{◌≤◌};
 ghost use Rattle.grammar.specs.Numbers.{most_words};
 ghost use Rattle.grammar.specs.Tree.{inner_depth};
-ghost use Rattle.grammar.specs.Words.{words};
 ghost use Rattle.grammar.specs.Found.{FoundElement};
-ghost use Rattle.words.specs.Room.{Room};
 ghost use Rattle.planned.specs.Layout.{meaning, settled};
 ghost use Rattle.planned.specs.List.{Laid, Located, ListedIn, AllIn};
 ghost use Rattle.sizes.specs.Sized.{ElementSized, ElementsSized, AlternativeSized, Measured};
+ghost use Rattle.words.specs.Sheet.{text};
 
 use crate::sums::Measure;
 use crate::tally::{Tally, element};
 use planned::list::{Listed, Mark, Sizes};
 use planned::read::{Cursor, item, read_settled};
 use words::numbers::Block;
+use words::sheet::Sheet;
 
 // The copy of the element at `at`.
-fn measure_element(s: &[u8], end: usize, depth: u32, at: usize) -> Measure
-    requires room { Room s.now end × (end ≤ most_words) }
-    requires found_element { FoundElement (words s.now) end depth at }
-    ensures { ElementSized (words s.now) end depth at result }
+fn measure_element(s: &Sheet, depth: u32, at: usize) -> Measure
+    requires room { s.now.end ≤ most_words }
+    requires found_element { FoundElement (text s.now) s.now.end depth at }
+    ensures { ElementSized (text s.now) s.now.end depth at result }
 {
     let none = Tally {
         alternatives: 0,
@@ -28,7 +28,7 @@ fn measure_element(s: &[u8], end: usize, depth: u32, at: usize) -> Measure
         actions: 0,
         predicates: 0,
     };
-    let r = element(s, end, depth, at, none);
+    let r = element(s, depth, at, none);
     let t = r.tally;
     Measure {
         alternatives: t.alternatives,
@@ -41,26 +41,26 @@ fn measure_element(s: &[u8], end: usize, depth: u32, at: usize) -> Measure
 }
 
 // The copies of the elements of an alternative that is listed.
-fn measure_elements(s: &[u8], end: usize, depth: u32, work: &[u8], x: Listed) -> Measure
-    requires room { Room s.now end × (end ≤ most_words) × Located work.now x }
-    requires listed_in { ListedIn (words s.now) end depth work.now x }
-    ensures { ElementsSized depth (meaning (words s.now) end depth work.now x).elements result }
+fn measure_elements(s: &Sheet, depth: u32, work: &[u8], x: Listed) -> Measure
+    requires room { (s.now.end ≤ most_words) × Located work.now x }
+    requires listed_in { ListedIn (text s.now) s.now.end depth work.now x }
+    ensures { ElementsSized depth (meaning (text s.now) s.now.end depth work.now x).elements result }
 {
     let mut m = Measure::default();
     for i in 0..x.ne {
         let e = item(work, x, i);
-        m = m + measure_element(s, end, depth, e.at);
+        m = m + measure_element(s, depth, e.at);
     }
     m
 }
 
 // An alternative that is listed. One that is still what filled its slot keeps its ids.
-fn measure_alternative(s: &[u8], end: usize, depth: u32, work: &[u8], x: Listed) -> Measure
-    requires room { Room s.now end × (end ≤ most_words) × Located work.now x }
-    requires listed_in { ListedIn (words s.now) end depth work.now x }
-    ensures { AlternativeSized depth (meaning (words s.now) end depth work.now x) result }
+fn measure_alternative(s: &Sheet, depth: u32, work: &[u8], x: Listed) -> Measure
+    requires room { (s.now.end ≤ most_words) × Located work.now x }
+    requires listed_in { ListedIn (text s.now) s.now.end depth work.now x }
+    ensures { AlternativeSized depth (meaning (text s.now) s.now.end depth work.now x) result }
 {
-    let m = measure_elements(s, end, depth, work, x);
+    let m = measure_elements(s, depth, work, x);
     let words = 5 + 2 * x.no + m.words;
     if x.slot < Mark::BIT {
         return Measure {
@@ -75,26 +75,26 @@ fn measure_alternative(s: &[u8], end: usize, depth: u32, work: &[u8], x: Listed)
     }
 }
 
-fn measure_list(s: &[u8], end: usize, depth: u32, work: &[u8], l: Sizes) -> Measure
-    requires room { Room s.now end × (end ≤ most_words) }
-    requires laid { Laid work.now l × AllIn (words s.now) end depth work.now l }
-    ensures { Measured depth (settled (words s.now) end depth work.now l) result }
+fn measure_list(s: &Sheet, depth: u32, work: &[u8], l: Sizes) -> Measure
+    requires room { s.now.end ≤ most_words }
+    requires laid { Laid work.now l × AllIn (text s.now) s.now.end depth work.now l }
+    ensures { Measured depth (settled (text s.now) s.now.end depth work.now l) result }
 {
     let mut m = Measure::default();
     let mut c = Cursor::front();
     for _ in 0..l.outa {
         let r = read_settled(work, l, c);
-        m = m + measure_alternative(s, end, depth, work, r.x);
+        m = m + measure_alternative(s, depth, work, r.x);
         c = r.next;
     }
     m
 }
 
 // The settled alternatives, for a hub's own body.
-pub fn measure(s: &[u8], end: usize, work: &[u8], l: Sizes) -> Measure
-    requires room { Room s.now end × (end ≤ most_words) }
-    requires laid { Laid work.now l × AllIn (words s.now) end inner_depth work.now l }
-    ensures { Measured inner_depth (settled (words s.now) end inner_depth work.now l) result }
+pub fn measure(s: &Sheet, work: &[u8], l: Sizes) -> Measure
+    requires room { s.now.end ≤ most_words }
+    requires laid { Laid work.now l × AllIn (text s.now) s.now.end inner_depth work.now l }
+    ensures { Measured inner_depth (settled (text s.now) s.now.end inner_depth work.now l) result }
 {
-    measure_list(s, end, Block::DEPTH, work, l)
+    measure_list(s, Block::DEPTH, work, l)
 }

@@ -3,12 +3,13 @@ ghost use Rattle.std.specs.Prelude.{◌≡◌, ◌+◌, ◌*◌, ◌<◌, ◌≤
 ghost use Rattle.grammar.specs.Words.{words};
 ghost use Rattle.grammar.specs.Found.{FoundElement};
 ghost use Rattle.grammar.specs.Fold.{ElementWalked};
-ghost use Rattle.words.specs.Room.{Room};
 ghost use Rattle.sizes.specs.Tally.{ids_in, counting, OwnCounted, AlternativeCounted};
 ghost use Rattle.sizes.specs.declared.tally.Tally.{Tally};
 ghost use Rattle.std.proofs.Common.{rules};
+ghost use Rattle.words.specs.Sheet.{text};
 
 use words::numbers::Kind;
+use words::sheet::Sheet;
 use words::visit::{Visitor, walk_element};
 use words::walk::Head;
 use words::words::word;
@@ -70,15 +71,15 @@ impl Visitor for Tally {
 
     ghost Kept = { λ ws end a b. Unit {0} };
 
-    fn leaf(&mut self, s: &[u8], _end: usize, _depth: u32, at: usize, head: Head) {
-        *self = with_own(s, at, head.kind, *self);
+    fn leaf(&mut self, s: &Sheet, _depth: u32, at: usize, head: Head) {
+        *self = with_own(s.bytes, at, head.kind, *self);
     }
 
-    fn enter_block(&mut self, s: &[u8], _end: usize, _depth: u32, at: usize, head: Head) {
-        *self = with_own(s, at, head.kind, *self);
+    fn enter_block(&mut self, s: &Sheet, _depth: u32, at: usize, head: Head) {
+        *self = with_own(s.bytes, at, head.kind, *self);
     }
 
-    fn enter_alternative(&mut self, _s: &[u8], _end: usize, _depth: u32, _at: usize) {
+    fn enter_alternative(&mut self, _s: &Sheet, _depth: u32, _at: usize) {
         *self = with_alternative(*self);
     }
 
@@ -86,13 +87,13 @@ impl Visitor for Tally {
 }
 
 // The element at `at`, with all that is in it.
-pub fn element(s: &[u8], end: usize, depth: u32, at: usize, t: Tally) -> Passed
-    requires room { Room s.now end × (ids_in t ≤ at) }
-    requires found_element { FoundElement (words s.now) end depth at }
+pub fn element(s: &Sheet, depth: u32, at: usize, t: Tally) -> Passed
+    requires room { ids_in t ≤ at }
+    requires found_element { FoundElement (text s.now) s.now.end depth at }
     ensures { (ids_in result.tally ≤ result.at)
-        × ElementWalked counting (words s.now) end depth at t result.at result.tally }
+        × ElementWalked counting (text s.now) s.now.end depth at t result.at result.tally }
 {
     let mut tally = t;
-    let there = walk_element(&mut tally, s, end, depth, at);
+    let there = walk_element(&mut tally, s, depth, at);
     Passed { at: there, tally }
 }

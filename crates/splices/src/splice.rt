@@ -2,13 +2,13 @@
 ghost use Rattle.std.specs.Prelude.{◌≡◌, ◌+◌, ◌-◌, ◌<◌, ◌≤◌};
 ghost use Rattle.grammar.specs.Numbers.{most_words};
 ghost use Rattle.grammar.specs.Tree.{inner_depth};
-ghost use Rattle.grammar.specs.Words.{words};
 ghost use Rattle.grammar.specs.Found.{FoundElements, FoundAlternative, FoundRule};
 ghost use Rattle.words.specs.Room.{Room};
 ghost use Rattle.planned.specs.List.{Laid, HasRoom, Located};
 ghost use Rattle.splices.specs.Moves.{Spliceable, PushedSplice};
 ghost use Rattle.planned.specs.Laws.Kept.{with_top};
 ghost use Rattle.splices.specs.Splice.{ElementsPut, HandIn, PartsFit, PartsPut, OneFits, OnePut, AllFit, AllPut};
+ghost use Rattle.words.specs.Sheet.{text};
 
 use crate::options::put_options;
 use crate::places::{parts_at, put_places};
@@ -17,12 +17,12 @@ use planned::hand::place;
 use planned::list::{Listed, Sizes};
 use planned::record::put_head;
 use words::numbers::Block;
+use words::sheet::Sheet;
 
 // The elements in hand, with the n from `at` on in place of the one at an index, listed from half `to` on; returned is where
 // those end.
 fn put_elements(
-    s: &[u8],
-    end: usize,
+    s: &Sheet,
     depth: u32,
     work: &mut [u8],
     h: Listed,
@@ -31,16 +31,16 @@ fn put_elements(
     at: usize,
     to: usize,
 ) -> usize
-    requires room { Room s.now end × (end ≤ most_words) × Located work.old h × (index < h.ne) }
-    requires found_elements { FoundElements (words s.now) end depth count at × (at ≤ end) × (to + (h.ne - 1 + count) ≤ h.e) }
-    ensures { ElementsPut (words s.now) end depth h index count at work.old work.new to result }
+    requires room { (s.now.end ≤ most_words) × Located work.old h × (index < h.ne) }
+    requires found_elements { FoundElements (text s.now) s.now.end depth count at × (at ≤ s.now.end) × (to + (h.ne - 1 + count) ≤ h.e) }
+    ensures { ElementsPut (text s.now) s.now.end depth h index count at work.old work.new to result }
 {
     let next = index + 1;
     let mid = to + index;
     let back = mid + count as usize;
     let rest = h.ne - next;
     move_halves(work, h.e, to, index);
-    let r = put_places(s, end, depth, count, at, work, mid);
+    let r = put_places(s, depth, count, at, work, mid);
     move_halves(work, h.e + next, back, rest);
     r
 }
@@ -64,8 +64,7 @@ struct Ends {
 
 // Elements and options of what the alternative at `at` becomes, from two halves on.
 fn put_parts(
-    s: &[u8],
-    end: usize,
+    s: &Sheet,
     depth: u32,
     work: &mut [u8],
     h: Listed,
@@ -74,40 +73,32 @@ fn put_parts(
     e: usize,
     to: usize,
 ) -> Ends
-    requires room { Room s.now end × (end ≤ most_words) × HandIn (words s.now) end depth h index work.old }
-    requires found_alternative { FoundAlternative (words s.now) end depth at × (to ≤ h.o) }
-    requires parts_fit { PartsFit (words s.now) end depth h at work.old e to }
-    ensures { PartsPut (words s.now) end depth h index at work.old work.new
+    requires room { (s.now.end ≤ most_words) × HandIn (text s.now) s.now.end depth h index work.old }
+    requires found_alternative { FoundAlternative (text s.now) s.now.end depth at × (to ≤ h.o) }
+    requires parts_fit { PartsFit (text s.now) s.now.end depth h at work.old e to }
+    ensures { PartsPut (text s.now) s.now.end depth h index at work.old work.new
         e to result.at result.ne result.back }
 {
-    let p = parts_at(s, end, depth, at);
+    let p = parts_at(s, depth, at);
     let ne = h.ne - 1 + p.ne;
-    let next = put_elements(s, end, depth, work, h, index, p.count, p.first, e);
-    let back = put_options(s, end, depth, work, h, at, to);
+    let next = put_elements(s, depth, work, h, index, p.count, p.first, e);
+    let back = put_options(s, depth, work, h, at, to);
     Ends { at: next, ne, back }
 }
 
 // What the alternative at `f.at` becomes, as a record; returned is what comes next.
-fn put_one(
-    s: &[u8],
-    end: usize,
-    depth: u32,
-    work: &mut [u8],
-    h: Listed,
-    index: usize,
-    f: Spot,
-) -> Spot
-    requires room { Room s.now end × (end ≤ most_words) × HandIn (words s.now) end depth h index work.old }
-    requires found_alternative { FoundAlternative (words s.now) end depth f.at }
-    requires one_fits { OneFits (words s.now) end depth h f.at work.old f.a f.e f.o }
+fn put_one(s: &Sheet, depth: u32, work: &mut [u8], h: Listed, index: usize, f: Spot) -> Spot
+    requires room { (s.now.end ≤ most_words) × HandIn (text s.now) s.now.end depth h index work.old }
+    requires found_alternative { FoundAlternative (text s.now) s.now.end depth f.at }
+    requires one_fits { OneFits (text s.now) s.now.end depth h f.at work.old f.a f.e f.o }
     ensures a_value { result.a ≡ f.a + 1 }
-    ensures one_put { OnePut (words s.now) end depth h index f.at work.old work.new
+    ensures one_put { OnePut (text s.now) s.now.end depth h index f.at work.old work.new
         f.a f.e f.o result.e result.o result.at }
 {
     let to = Sizes::FIRST_OPTION + f.o;
     let next = f.a + 1;
     let slot = place(h.slot);
-    let r = put_parts(s, end, depth, work, h, index, f.at, f.e, to);
+    let r = put_parts(s, depth, work, h, index, f.at, f.e, to);
     let origin = f.at as u16;
     put_head(work, f.a, slot, origin, r.ne, r.back - to);
     Spot {
@@ -120,8 +111,7 @@ fn put_one(
 
 // What the n alternatives from `f.at` on become, as records on the stack of l.
 fn put_all(
-    s: &[u8],
-    end: usize,
+    s: &Sheet,
     depth: u32,
     work: &mut [u8],
     l: Sizes,
@@ -130,15 +120,15 @@ fn put_all(
     n: usize,
     f: Spot,
 ) -> Sizes
-    requires room { Room s.now end × (end ≤ most_words) × HandIn (words s.now) end depth h index work.old }
-    requires all_fit { AllFit (words s.now) end depth h index n f.at work.old f.a f.e f.o l.tope l.topo }
+    requires room { (s.now.end ≤ most_words) × HandIn (text s.now) s.now.end depth h index work.old }
+    requires all_fit { AllFit (text s.now) s.now.end depth h index n f.at work.old f.a f.e f.o l.tope l.topo }
     ensures value { result ≡ with_top l f.a f.e f.o }
-    ensures all_put { AllPut (words s.now) end depth h index n f.at work.old work.new
+    ensures all_put { AllPut (text s.now) s.now.end depth h index n f.at work.old work.new
         f.a f.e f.o l.tope l.topo }
 {
     let mut p = f;
     for _ in 0..n {
-        p = put_one(s, end, depth, work, h, index, p);
+        p = put_one(s, depth, work, h, index, p);
     }
     Sizes {
         topa: f.a,
@@ -159,8 +149,7 @@ pub struct Size {
 // The alternatives of the rule at `at`, each in place of the element at an index of the alternative in hand, come on top of the
 // stack.
 pub fn push_splice(
-    s: &[u8],
-    end: usize,
+    s: &Sheet,
     work: &mut [u8],
     l: Sizes,
     h: Listed,
@@ -168,10 +157,10 @@ pub fn push_splice(
     at: usize,
     z: Size,
 ) -> Sizes
-    requires room { Room s.now end × (end ≤ most_words) × (at + 4 ≤ end) × FoundRule (words s.now) end at }
-    requires laid { Laid work.old l × HasRoom l z.a z.e z.o × HandIn (words s.now) end inner_depth h index work.old }
-    requires spliceable { Spliceable (words s.now) end inner_depth at work.old h index z.a z.e z.o }
-    ensures { PushedSplice (words s.now) end inner_depth at work.old work.new
+    requires room { (s.now.end ≤ most_words) × (at + 4 ≤ s.now.end) × FoundRule (text s.now) s.now.end at }
+    requires laid { Laid work.old l × HasRoom l z.a z.e z.o × HandIn (text s.now) s.now.end inner_depth h index work.old }
+    requires spliceable { Spliceable (text s.now) s.now.end inner_depth at work.old h index z.a z.e z.o }
+    ensures { PushedSplice (text s.now) s.now.end inner_depth at work.old work.new
         l result h index z.a z.e z.o }
 {
     let f = Spot {
@@ -180,5 +169,5 @@ pub fn push_splice(
         e: l.tope - z.e,
         o: l.topo - z.o,
     };
-    put_all(s, end, Block::DEPTH, work, l, h, index, z.a, f)
+    put_all(s, Block::DEPTH, work, l, h, index, z.a, f)
 }

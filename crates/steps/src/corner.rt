@@ -4,16 +4,17 @@ ghost use Rattle.grammar.specs.Numbers.{rule_limit, call_kind};
 ghost use Rattle.grammar.specs.Tree.{inner_depth};
 ghost use Rattle.grammar.specs.Words.{words};
 ghost use Rattle.grammar.specs.Found.{FoundElement, HeadAt};
-ghost use Rattle.words.specs.Room.{Room};
 ghost use Rattle.analysis.specs.Names.{Told};
 ghost use Rattle.planned.specs.List.{Located, ListedIn};
 ghost use Rattle.steps.specs.Corner.{bare_at, quantifier_at, met_member, CallMet, ItemMet, CornerAt};
+ghost use Rattle.words.specs.Sheet.{text};
 
 use analysis::names::scan;
 use planned::list::{Item, Listed};
 use planned::read::item;
 use reach::rows::{Row, has};
 use words::numbers::{Block, Kind, Quantifier};
+use words::sheet::Sheet;
 use words::walk::element_head;
 use words::words::word;
 
@@ -104,12 +105,12 @@ fn quantifier_of(s: &[u8], x: Item) -> u32
 }
 
 // One element of the list.
-fn meet_item(s: &[u8], end: usize, names: &[u32], c: Cycle, x: Item) -> Met
-    requires room { Room s.now end × (c.n ≤ rule_limit) × Told names.now c.n }
-    requires found_element { FoundElement (words s.now) end inner_depth x.at }
-    ensures { ItemMet names.now c (words s.now) end inner_depth x.at x.plain result }
+fn meet_item(s: &Sheet, names: &[u32], c: Cycle, x: Item) -> Met
+    requires room { (c.n ≤ rule_limit) × Told names.now c.n }
+    requires found_element { FoundElement (text s.now) s.now.end inner_depth x.at }
+    ensures { ItemMet names.now c (text s.now) s.now.end inner_depth x.at x.plain result }
 {
-    let head = element_head(s, end, Block::DEPTH, x.at);
+    let head = element_head(s, Block::DEPTH, x.at);
     let kind = head.kind;
     let payload = head.payload;
     if Kind::CALL < kind {
@@ -118,20 +119,20 @@ fn meet_item(s: &[u8], end: usize, names: &[u32], c: Cycle, x: Item) -> Met
     if kind < Kind::CALL {
         return Met::Silent;
     }
-    let bare = is_bare(s, x.at, payload);
-    let quantifier = quantifier_of(s, x);
-    meet_call(names, c, word(s, payload), bare, quantifier)
+    let bare = is_bare(s.bytes, x.at, payload);
+    let quantifier = quantifier_of(s.bytes, x);
+    meet_call(names, c, word(s.bytes, payload), bare, quantifier)
 }
 
 // The corner of an alternative that is listed.
-pub fn find_corner(s: &[u8], end: usize, names: &[u32], c: Cycle, work: &[u8], x: Listed) -> Corner
-    requires room { Room s.now end × (c.n ≤ rule_limit) × Told names.now c.n }
-    requires located { Located work.now x × ListedIn (words s.now) end inner_depth work.now x }
-    ensures { CornerAt names.now c (words s.now) end inner_depth work.now x result }
+pub fn find_corner(s: &Sheet, names: &[u32], c: Cycle, work: &[u8], x: Listed) -> Corner
+    requires room { (c.n ≤ rule_limit) × Told names.now c.n }
+    requires located { Located work.now x × ListedIn (text s.now) s.now.end inner_depth work.now x }
+    ensures { CornerAt names.now c (text s.now) s.now.end inner_depth work.now x result }
 {
     let n = x.ne;
     for i in 0..n {
-        match meet_item(s, end, names, c, item(work, x, i)) {
+        match meet_item(s, names, c, item(work, x, i)) {
             Met::Silent => {}
             Met::Settled => return Corner::Settled,
             Met::Blocked => return Corner::Blocked,

@@ -3,12 +3,11 @@
 ghost use Rattle.std.specs.Prelude.{◌≡◌, ◌+◌, ◌<◌, ◌≤◌, ◌^◌};
 ghost use Rattle.grammar.specs.Numbers.{most_words};
 ghost use Rattle.grammar.specs.Tree.{inner_depth};
-ghost use Rattle.grammar.specs.Words.{words};
 ghost use Rattle.grammar.specs.Found.{FoundAlternative, FoundRule};
-ghost use Rattle.words.specs.Room.{Room};
 ghost use Rattle.planned.specs.List.{Located, ListedIn};
 ghost use Rattle.steps.specs.Decide.{clause_of, Searchable, CollisionAt, OneAt, IsCounted, SmallSize, HandFits};
 ghost use Rattle.steps.specs.Decide.{AlternativeCounted, RuleSized};
+ghost use Rattle.words.specs.Sheet.{text};
 
 use collisions::clash::clash_at;
 use ends::ends::alternative_end;
@@ -16,6 +15,7 @@ use planned::list::Listed;
 use splices::options::options_added;
 use splices::splice::Size;
 use words::numbers::Block;
+use words::sheet::Sheet;
 use words::walk::alternative_head;
 use words::words::word;
 
@@ -61,15 +61,15 @@ impl From<Clause> for u32 {
 
 // Whether the names in the alternative at `at` collide with those around the element that it would replace.
 #[tactic(auto, using(crate::proofs::Laws::Decide::collides))]
-fn collision(s: &[u8], end: usize, work: &[u8], quiet: bool, at: usize) -> Result<(), Clause>
-    requires room { Room s.now end × Searchable (words s.now) end work.now quiet }
-    requires found_alternative { FoundAlternative (words s.now) end inner_depth at }
-    ensures { CollisionAt (words s.now) end inner_depth at work.now quiet result }
+fn collision(s: &Sheet, work: &[u8], quiet: bool, at: usize) -> Result<(), Clause>
+    requires room { Searchable (text s.now) s.now.end work.now quiet }
+    requires found_alternative { FoundAlternative (text s.now) s.now.end inner_depth at }
+    ensures { CollisionAt (text s.now) s.now.end inner_depth at work.now quiet result }
 {
     if quiet {
         return Ok(());
     }
-    let c = clash_at(s, end, work, at);
+    let c = clash_at(s, work, at);
     if c.label {
         return Err(Clause::LabelCollision);
     }
@@ -80,21 +80,14 @@ fn collision(s: &[u8], end: usize, work: &[u8], quiet: bool, at: usize) -> Resul
 }
 
 // The alternative at `at` in place of an element of the one in hand: how many options it adds, or the clause of a decline.
-fn splice_one(
-    s: &[u8],
-    end: usize,
-    work: &[u8],
-    quiet: bool,
-    h: Listed,
-    at: usize,
-) -> Result<usize, Clause>
-    requires room { Room s.now end × (end ≤ most_words) × Searchable (words s.now) end work.now quiet }
-    requires located { Located work.now h × ListedIn (words s.now) end inner_depth work.now h }
-    requires found_alternative { FoundAlternative (words s.now) end inner_depth at }
-    ensures { OneAt (words s.now) end inner_depth at work.now h quiet result }
+fn splice_one(s: &Sheet, work: &[u8], quiet: bool, h: Listed, at: usize) -> Result<usize, Clause>
+    requires room { (s.now.end ≤ most_words) × Searchable (text s.now) s.now.end work.now quiet }
+    requires located { Located work.now h × ListedIn (text s.now) s.now.end inner_depth work.now h }
+    requires found_alternative { FoundAlternative (text s.now) s.now.end inner_depth at }
+    ensures { OneAt (text s.now) s.now.end inner_depth at work.now h quiet result }
 {
-    collision(s, end, work, quiet, at)?;
-    options_added(s, end, Block::DEPTH, work, h, at).ok_or(Clause::OptionCollision)
+    collision(s, work, quiet, at)?;
+    options_added(s, Block::DEPTH, work, h, at).ok_or(Clause::OptionCollision)
 }
 
 // One alternative more, with so many elements and options.
@@ -111,38 +104,37 @@ fn counted(z: Size, ne: usize, no: usize) -> Size
 
 // The alternative at `at` is counted, which adds so many options.
 #[tactic(auto, using(crate::proofs::Laws::Added::counts))]
-fn count_one(s: &[u8], end: usize, h: Listed, at: usize, more: usize, z: Size) -> Size
-    requires room { Room s.now end × (end ≤ most_words) × HandFits h × (at + 5 ≤ end) × (more ≤ most_words) }
+fn count_one(s: &Sheet, h: Listed, at: usize, more: usize, z: Size) -> Size
+    requires room { (s.now.end ≤ most_words) × HandFits h × (at + 5 ≤ s.now.end) × (more ≤ most_words) }
     requires small_size { SmallSize z }
-    requires found_alternative { FoundAlternative (words s.now) end inner_depth at }
-    ensures { AlternativeCounted (words s.now) end inner_depth at h more z result }
+    requires found_alternative { FoundAlternative (text s.now) s.now.end inner_depth at }
+    ensures { AlternativeCounted (text s.now) s.now.end inner_depth at h more z result }
 {
-    let head = alternative_head(s, end, Block::DEPTH, at);
+    let head = alternative_head(s, Block::DEPTH, at);
     let ne = h.ne - 1 + head.count as usize;
     counted(z, ne, h.no + more)
 }
 
 // Every alternative of the rule at `at` in place of an element of the one in hand: what would be pushed; the first decline ends it.
 pub fn splice_size(
-    s: &[u8],
-    end: usize,
+    s: &Sheet,
     work: &[u8],
     quiet: bool,
     h: Listed,
     at: usize,
 ) -> Result<Size, Clause>
-    requires room { Room s.now end × (end ≤ most_words) × Located work.now h × HandFits h }
-    requires listed_in { ListedIn (words s.now) end inner_depth work.now h × Searchable (words s.now) end work.now quiet }
-    requires found_rule { FoundRule (words s.now) end at × (at + 4 ≤ end) }
-    ensures { RuleSized (words s.now) end inner_depth at work.now h quiet result }
+    requires room { (s.now.end ≤ most_words) × Located work.now h × HandFits h }
+    requires listed_in { ListedIn (text s.now) s.now.end inner_depth work.now h × Searchable (text s.now) s.now.end work.now quiet }
+    requires found_rule { FoundRule (text s.now) s.now.end at × (at + 4 ≤ s.now.end) }
+    ensures { RuleSized (text s.now) s.now.end inner_depth at work.now h quiet result }
 {
     let mut z = Size { a: 0, e: 0, o: 0 };
-    let n = word(s, at + 3);
+    let n = word(s.bytes, at + 3);
     let mut p = at + 4;
     for _ in 0..n {
-        let more = splice_one(s, end, work, quiet, h, p)?;
-        z = count_one(s, end, h, p, more, z);
-        p = alternative_end(s, end, Block::DEPTH, p);
+        let more = splice_one(s, work, quiet, h, p)?;
+        z = count_one(s, h, p, more, z);
+        p = alternative_end(s, Block::DEPTH, p);
     }
     Ok(z)
 }

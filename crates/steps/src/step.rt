@@ -2,18 +2,18 @@
 ghost use Rattle.std.specs.Prelude.{◌≡◌, false, ◌+◌, ◌<◌, ◌≤◌};
 ghost use Rattle.grammar.specs.Numbers.{most_words};
 ghost use Rattle.grammar.specs.Tree.{inner_depth};
-ghost use Rattle.grammar.specs.Words.{words};
 ghost use Rattle.grammar.specs.Found.{FoundRule};
-ghost use Rattle.words.specs.Room.{Room};
 ghost use Rattle.planned.specs.Layout.{meaning};
 ghost use Rattle.planned.specs.List.{Located, InHand, ListedIn};
 ghost use Rattle.steps.specs.Step.{RuleNamed, RuleUnreferring, PreparedFor, DecidedAt};
+ghost use Rattle.words.specs.Sheet.{text};
 
 use crate::decide::{Clause, splice_size};
 use collisions::mark::mark_around;
 use collisions::quiet::is_quiet;
 use planned::list::Listed;
 use splices::splice::Size;
+use words::sheet::Sheet;
 
 // What is known of the elements around one: that nothing in them can collide, or that a reference in them would dangle.
 #[derive(Clone, Copy, Debug, PartialEq, Eq)]
@@ -23,20 +23,20 @@ pub struct Prepared {
 }
 
 // Sets of names are made only where anything is labelled or refers.
-fn prepare(s: &[u8], end: usize, work: &mut [u8], h: Listed, index: usize, name: u32) -> Prepared
-    requires room { Room s.now end × (end ≤ most_words) × Located work.old h × (index < h.ne) }
-    requires listed_in { ListedIn (words s.now) end inner_depth work.old h }
-    ensures { PreparedFor (words s.now) end inner_depth
-        (meaning (words s.now) end inner_depth work.old h).elements index name
+fn prepare(s: &Sheet, work: &mut [u8], h: Listed, index: usize, name: u32) -> Prepared
+    requires room { (s.now.end ≤ most_words) × Located work.old h × (index < h.ne) }
+    requires listed_in { ListedIn (text s.now) s.now.end inner_depth work.old h }
+    ensures { PreparedFor (text s.now) s.now.end inner_depth
+        (meaning (text s.now) s.now.end inner_depth work.old h).elements index name
         work.old work.new result }
 {
-    if is_quiet(s, end, work, h) {
+    if is_quiet(s, work, h) {
         return Prepared {
             quiet: true,
             dangling: false,
         };
     }
-    let dangling = mark_around(s, end, work, h, index, name);
+    let dangling = mark_around(s, work, h, index, name);
     Prepared {
         quiet: false,
         dangling,
@@ -46,8 +46,7 @@ fn prepare(s: &[u8], end: usize, work: &mut [u8], h: Listed, index: usize, name:
 // What takes the place of the element at an index of the alternative in hand, a call of the rule at `at`: how much would be pushed, or
 // the clause of a decline.
 pub fn decide(
-    s: &[u8],
-    end: usize,
+    s: &Sheet,
     work: &mut [u8],
     h: Listed,
     index: usize,
@@ -55,13 +54,13 @@ pub fn decide(
     at: usize,
     optional: bool,
 ) -> Result<Size, Clause>
-    requires room { Room s.now end × (end ≤ most_words) × Located work.old h × InHand h × (index < h.ne) }
-    requires listed_in { ListedIn (words s.now) end inner_depth work.old h }
-    requires found_rule { FoundRule (words s.now) end at × (at + 4 ≤ end) × RuleNamed (words s.now) end inner_depth at name }
-    requires rule_unreferring { optional ≡ false → RuleUnreferring (words s.now) end inner_depth at }
-    ensures { DecidedAt (words s.now) end inner_depth at work.old work.new h index optional result }
+    requires room { (s.now.end ≤ most_words) × Located work.old h × InHand h × (index < h.ne) }
+    requires listed_in { ListedIn (text s.now) s.now.end inner_depth work.old h }
+    requires found_rule { FoundRule (text s.now) s.now.end at × (at + 4 ≤ s.now.end) × RuleNamed (text s.now) s.now.end inner_depth at name }
+    requires rule_unreferring { optional ≡ false → RuleUnreferring (text s.now) s.now.end inner_depth at }
+    ensures { DecidedAt (text s.now) s.now.end inner_depth at work.old work.new h index optional result }
 {
-    let p = prepare(s, end, work, h, index, name);
+    let p = prepare(s, work, h, index, name);
     if p.dangling {
         return Err(Clause::DanglingReference);
     }
@@ -72,5 +71,5 @@ pub fn decide(
             o: 2 * h.no,
         });
     }
-    splice_size(s, end, work, p.quiet, h, at)
+    splice_size(s, work, p.quiet, h, at)
 }

@@ -3,12 +3,11 @@
 ghost use Rattle.std.specs.Prelude.{◌≡◌, ◌+◌, ◌≤◌, length, get_or};
 ghost use Rattle.grammar.specs.Numbers.{most_words, work_bytes};
 ghost use Rattle.grammar.specs.Tree.{inner_depth};
-ghost use Rattle.grammar.specs.Words.{words};
 ghost use Rattle.grammar.specs.Found.{FoundAlternative};
-ghost use Rattle.words.specs.Room.{Room};
 ghost use Rattle.planned.specs.List.{Located, InHand, ListedIn};
 ghost use Rattle.turns.specs.Ground.{Ground};
 ghost use Rattle.substitution.specs.Over.{Reached, StepLooked, HandLooked, LookedAt, Unstored};
+ghost use Rattle.words.specs.Sheet.{text};
 
 use crate::turning::Done;
 use analysis::names::index;
@@ -20,12 +19,12 @@ use steps::decide::Clause;
 use steps::step::decide;
 use turns::turn::{Unplanned, stuck};
 use words::numbers::Block;
+use words::sheet::Sheet;
 use words::words::word;
 
 // A member is met in the alternative in hand: the step is declined, or goes, and leaves the list beyond the limits.
 fn look_step(
-    s: &[u8],
-    end: usize,
+    s: &Sheet,
     names: &[u32],
     places: &[u32],
     c: Cycle,
@@ -35,10 +34,10 @@ fn look_step(
     p: Place,
     optional: bool,
 ) -> Result<(), Unplanned>
-    requires room { Room s.now end × (end ≤ most_words) × Located work.old h × InHand h × Reached c h.ne p optional }
-    requires listed_in { ListedIn (words s.now) end inner_depth work.old h }
-    requires ground { Ground (words s.now) end names.now places.now c }
-    ensures { StepLooked (words s.now) end names.now places.now c budget
+    requires room { (s.now.end ≤ most_words) × Located work.old h × InHand h × Reached c h.ne p optional }
+    requires listed_in { ListedIn (text s.now) s.now.end inner_depth work.old h }
+    requires ground { Ground (text s.now) s.now.end names.now places.now c }
+    ensures { StepLooked (text s.now) s.now.end names.now places.now c budget
         work.old work.new h p optional result }
 {
     if budget == 0 {
@@ -47,14 +46,13 @@ fn look_step(
     let t = p.target;
     let name = names[t];
     let at = index(places[t]);
-    decide(s, end, work, h, p.index, name, at, optional)?;
+    decide(s, work, h, p.index, name, at, optional)?;
     Err(Unplanned::Overfull)
 }
 
 // The alternative in hand.
 fn look_hand(
-    s: &[u8],
-    end: usize,
+    s: &Sheet,
     names: &[u32],
     places: &[u32],
     c: Cycle,
@@ -62,24 +60,23 @@ fn look_hand(
     work: &mut [u8],
     h: Listed,
 ) -> Result<(), Unplanned>
-    requires room { Room s.now end × (end ≤ most_words) × Located work.old h × InHand h }
-    requires listed_in { ListedIn (words s.now) end inner_depth work.old h }
-    requires ground { Ground (words s.now) end names.now places.now c }
-    ensures { HandLooked (words s.now) end names.now places.now c budget
+    requires room { (s.now.end ≤ most_words) × Located work.old h × InHand h }
+    requires listed_in { ListedIn (text s.now) s.now.end inner_depth work.old h }
+    requires ground { Ground (text s.now) s.now.end names.now places.now c }
+    ensures { HandLooked (text s.now) s.now.end names.now places.now c budget
         work.old work.new h result }
 {
-    match find_corner(s, end, names, c, work, h) {
+    match find_corner(s, names, c, work, h) {
         Corner::Settled => Ok(()),
         Corner::Blocked => Err(Unplanned::Declined(stuck(budget))),
-        Corner::Optional(p) => look_step(s, end, names, places, c, budget, work, h, p, true),
-        Corner::Satellite(p) => look_step(s, end, names, places, c, budget, work, h, p, false),
+        Corner::Optional(p) => look_step(s, names, places, c, budget, work, h, p, true),
+        Corner::Satellite(p) => look_step(s, names, places, c, budget, work, h, p, false),
     }
 }
 
 // The hub's alternative at `at`.
 fn look_at(
-    s: &[u8],
-    end: usize,
+    s: &Sheet,
     names: &[u32],
     places: &[u32],
     c: Cycle,
@@ -87,20 +84,19 @@ fn look_at(
     work: &mut [u8],
     at: usize,
 ) -> Result<(), Unplanned>
-    requires room { Room s.now end × (end ≤ most_words) × (work_bytes ≤ length work.old) }
-    requires found_alternative { FoundAlternative (words s.now) end inner_depth at }
-    requires ground { Ground (words s.now) end names.now places.now c }
-    ensures { LookedAt (words s.now) end names.now places.now c budget at
+    requires room { (s.now.end ≤ most_words) × (work_bytes ≤ length work.old) }
+    requires found_alternative { FoundAlternative (text s.now) s.now.end inner_depth at }
+    requires ground { Ground (text s.now) s.now.end names.now places.now c }
+    ensures { LookedAt (text s.now) s.now.end names.now places.now c budget at
         work.old work.new result }
 {
-    let h = hub_in_hand(s, end, Block::DEPTH, at, work);
-    look_hand(s, end, names, places, c, budget, work, h)
+    let h = hub_in_hand(s, Block::DEPTH, at, work);
+    look_hand(s, names, places, c, budget, work, h)
 }
 
 // The rule at `at` is the hub: its first alternative that is in need of work decides.
 fn look_all(
-    s: &[u8],
-    end: usize,
+    s: &Sheet,
     names: &[u32],
     places: &[u32],
     c: Cycle,
@@ -108,36 +104,35 @@ fn look_all(
     work: &mut [u8],
     at: usize,
 ) -> Result<Option<Done>, Unplanned>
-    requires room { Room s.now end × (end ≤ most_words) × (work_bytes ≤ length work.old) }
-    requires at_value { (at ≡ get_or places.now c.hub 0) × (at + 4 ≤ end) }
-    requires ground { Ground (words s.now) end names.now places.now c }
-    ensures { Unstored (words s.now) end names.now places.now c budget
+    requires room { (s.now.end ≤ most_words) × (work_bytes ≤ length work.old) }
+    requires at_value { (at ≡ get_or places.now c.hub 0) × (at + 4 ≤ s.now.end) }
+    requires ground { Ground (text s.now) s.now.end names.now places.now c }
+    ensures { Unstored (text s.now) s.now.end names.now places.now c budget
         work.new result }
 {
-    let n = word(s, at + 3);
+    let n = word(s.bytes, at + 3);
     let mut p = at + 4;
     for _ in 0..n {
-        look_at(s, end, names, places, c, budget, work, p)?;
-        p = alternative_end(s, end, Block::DEPTH, p);
+        look_at(s, names, places, c, budget, work, p)?;
+        p = alternative_end(s, Block::DEPTH, p);
     }
     Ok(None)
 }
 
 // The hub of a cycle.
 pub fn unstored(
-    s: &[u8],
-    end: usize,
+    s: &Sheet,
     names: &[u32],
     places: &[u32],
     c: Cycle,
     budget: usize,
     work: &mut [u8],
 ) -> Result<Option<Done>, Unplanned>
-    requires room { Room s.now end × (end ≤ most_words) × (work_bytes ≤ length work.old) }
-    requires ground { Ground (words s.now) end names.now places.now c }
-    ensures { Unstored (words s.now) end names.now places.now c budget
+    requires room { (s.now.end ≤ most_words) × (work_bytes ≤ length work.old) }
+    requires ground { Ground (text s.now) s.now.end names.now places.now c }
+    ensures { Unstored (text s.now) s.now.end names.now places.now c budget
         work.new result }
 {
     let hub = c.hub;
-    look_all(s, end, names, places, c, budget, work, index(places[hub]))
+    look_all(s, names, places, c, budget, work, index(places[hub]))
 }

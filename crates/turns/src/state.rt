@@ -1,17 +1,18 @@
 // A substitution on its way: the settled alternatives and the stack in the work area, the hub's remaining ones in the sheet.
 ghost use Rattle.std.specs.Prelude.{◌≡◌, true, ◌≤◌};
 ghost use Rattle.grammar.specs.Numbers.{most_words};
-ghost use Rattle.grammar.specs.Words.{words};
 ghost use Rattle.words.specs.Room.{Room};
 ghost use Rattle.planned.specs.List.{Laid, HasTop, HasRoom, Located, Movable};
 ghost use Rattle.planned.specs.Moves.{IsDrained};
 ghost use Rattle.turns.specs.Midway.{IsStandard, Shut, Ready, HasNext, StackTaken, TakenFrom, PutSettled};
+ghost use Rattle.words.specs.Sheet.{text};
 
 use ends::ends::alternative_end;
 use planned::list::{Listed, Sizes, is_drained, settle, take_top};
 use splices::bring::hub_in_hand;
 use splices::splice::Size;
 use words::numbers::Block;
+use words::sheet::Sheet;
 
 // The least budget, and how large a planned list may be after a step.
 #[derive(Clone, Copy, Debug, PartialEq, Eq)]
@@ -76,13 +77,13 @@ fn take_stack(work: &[u8], st: State) -> Taken
 }
 
 // The first of the hub's remaining alternatives.
-fn take_hub(s: &[u8], end: usize, work: &mut [u8], st: State) -> Taken
-    requires room { Room s.now end × (end ≤ most_words) × (st.left ≡ 0 → ⊥) × IsDrained st.l true }
-    requires shut { Shut (Ready (words s.now) end work.old st 0 0 0) }
-    ensures { TakenFrom (words s.now) end work.old work.new st result }
+fn take_hub(s: &Sheet, work: &mut [u8], st: State) -> Taken
+    requires room { (s.now.end ≤ most_words) × (st.left ≡ 0 → ⊥) × IsDrained st.l true }
+    requires shut { Shut (Ready (text s.now) s.now.end work.old st 0 0 0) }
+    ensures { TakenFrom (text s.now) s.now.end work.old work.new st result }
 {
-    let x = hub_in_hand(s, end, Block::DEPTH, st.at, work);
-    let at = alternative_end(s, end, Block::DEPTH, st.at);
+    let x = hub_in_hand(s, Block::DEPTH, st.at, work);
+    let at = alternative_end(s, Block::DEPTH, st.at);
     let left = st.left - 1;
     Taken {
         x,
@@ -92,17 +93,17 @@ fn take_hub(s: &[u8], end: usize, work: &mut [u8], st: State) -> Taken
 }
 
 // The next alternative: the stack comes before what is still in the sheet.
-pub fn take(s: &[u8], end: usize, work: &mut [u8], st: State) -> Taken
-    requires room { Room s.now end × (end ≤ most_words) × HasNext st }
-    requires shut { Shut (Ready (words s.now) end work.old st 0 0 0) }
-    ensures { TakenFrom (words s.now) end work.old work.new st result }
+pub fn take(s: &Sheet, work: &mut [u8], st: State) -> Taken
+    requires room { (s.now.end ≤ most_words) × HasNext st }
+    requires shut { Shut (Ready (text s.now) s.now.end work.old st 0 0 0) }
+    ensures { TakenFrom (text s.now) s.now.end work.old work.new st result }
 {
     let l = st.l;
     if st.left == 0 {
         return take_stack(work, st);
     }
     if is_drained(l) {
-        return take_hub(s, end, work, st);
+        return take_hub(s, work, st);
     }
     take_stack(work, st)
 }

@@ -2,7 +2,6 @@
 ghost use Rattle.std.specs.Prelude.{◌≡◌, true, false, ◌+◌, ◌<◌, ◌≤◌, ◌^◌, get_or};
 ghost use Rattle.grammar.specs.Numbers.{most_words};
 ghost use Rattle.grammar.specs.Tree.{inner_depth};
-ghost use Rattle.grammar.specs.Words.{words};
 ghost use Rattle.grammar.specs.Found.{FoundRule};
 ghost use Rattle.words.specs.Room.{Room};
 ghost use Rattle.planned.specs.List.{Laid, Located, Movable, InHand, InList, HasRoom};
@@ -12,6 +11,7 @@ ghost use Rattle.turns.specs.Ground.{Ground};
 ghost use Rattle.steps.specs.Step.{Goable, PushedBy};
 ghost use Rattle.turns.specs.Turn.{Called, CalledAt, SteppedTo, StuckAt, ActedOn, TurnedTo};
 ghost use Rattle.turns.specs.Midway.{Shut, Ready, HasNext, With, within_limits, LimitsFit, Held, CanReplace, SizeAfter};
+ghost use Rattle.words.specs.Sheet.{text};
 
 use crate::state::{Limits, State, Taken, put_settled, take};
 use analysis::names::index;
@@ -21,6 +21,7 @@ use splices::splice::{Size, push_splice};
 use steps::corner::{Corner, Cycle, Place, find_corner};
 use steps::decide::Clause;
 use steps::step::decide;
+use words::sheet::Sheet;
 
 // The alternative that was taken comes into the hand.
 fn hold(work: &mut [u8], t: Taken) -> Listed
@@ -57,8 +58,7 @@ fn size_after(all: Size, h: Listed, z: Size) -> Size
 
 // What was decided is put on the stack.
 fn push(
-    s: &[u8],
-    end: usize,
+    s: &Sheet,
     work: &mut [u8],
     l: Sizes,
     h: Listed,
@@ -67,15 +67,15 @@ fn push(
     z: Size,
     optional: bool,
 ) -> Sizes
-    requires room { Room s.now end × (end ≤ most_words) × (at + 4 ≤ end) × FoundRule (words s.now) end at }
-    requires laid { Laid work.old l × HasRoom l z.a z.e z.o × HandIn (words s.now) end inner_depth h index work.old }
-    requires goable { Goable (words s.now) end inner_depth at work.old h index optional z }
-    ensures { PushedBy (words s.now) end inner_depth at work.old work.new l result h index optional z }
+    requires room { (s.now.end ≤ most_words) × (at + 4 ≤ s.now.end) × FoundRule (text s.now) s.now.end at }
+    requires laid { Laid work.old l × HasRoom l z.a z.e z.o × HandIn (text s.now) s.now.end inner_depth h index work.old }
+    requires goable { Goable (text s.now) s.now.end inner_depth at work.old h index optional z }
+    ensures { PushedBy (text s.now) s.now.end inner_depth at work.old work.new l result h index optional z }
 {
     if optional {
         return push_split(work, l, h, index);
     }
-    push_splice(s, end, work, l, h, index, at, z)
+    push_splice(s, work, l, h, index, at, z)
 }
 
 // Why there is no plan: a decline by its clause; or refusal 7, a list beyond the limits.
@@ -97,8 +97,7 @@ impl From<Clause> for Unplanned {
 
 // What was decided is done, if the list is within the limits then.
 fn advance(
-    s: &[u8],
-    end: usize,
+    s: &Sheet,
     limits: Limits,
     work: &mut [u8],
     st: State,
@@ -108,12 +107,12 @@ fn advance(
     z: Size,
     optional: bool,
 ) -> Result<State, Unplanned>
-    requires room { Room s.now end × (end ≤ most_words) × LimitsFit limits × SmallSize z }
+    requires room { (s.now.end ≤ most_words) × LimitsFit limits × SmallSize z }
     requires fact { (st.budget ≡ 0 → ⊥) × (st.steps + st.budget < 2 ^ 64) }
-    requires shut { Shut (With (words s.now) end work.old st h) × InHand h × (index < h.ne) }
-    requires at_bound { (at + 4 ≤ end) × FoundRule (words s.now) end at }
-    requires goable { Goable (words s.now) end inner_depth at work.old h index optional z }
-    ensures { SteppedTo (words s.now) end work.old work.new st h index at optional limits result }
+    requires shut { Shut (With (text s.now) s.now.end work.old st h) × InHand h × (index < h.ne) }
+    requires at_bound { (at + 4 ≤ s.now.end) × FoundRule (text s.now) s.now.end at }
+    requires goable { Goable (text s.now) s.now.end inner_depth at work.old h index optional z }
+    ensures { SteppedTo (text s.now) s.now.end work.old work.new st h index at optional limits result }
 {
     let budget = st.budget - 1;
     let steps = st.steps + 1;
@@ -121,7 +120,7 @@ fn advance(
     let l = st.l;
     let more = size_after(all, h, z);
     if is_within(limits, more) {
-        let l = push(s, end, work, l, h, index, at, z, optional);
+        let l = push(s, work, l, h, index, at, z, optional);
         return Ok(State {
             l,
             all: more,
@@ -135,8 +134,7 @@ fn advance(
 
 // The step on the alternative in hand is decided, then done.
 fn step_in_hand(
-    s: &[u8],
-    end: usize,
+    s: &Sheet,
     limits: Limits,
     work: &mut [u8],
     st: State,
@@ -146,19 +144,18 @@ fn step_in_hand(
     at: usize,
     optional: bool,
 ) -> Result<State, Unplanned>
-    requires room { Room s.now end × (end ≤ most_words) × LimitsFit limits × (st.budget ≡ 0 → ⊥) × (index < h.ne) }
-    requires shut { Shut (With (words s.now) end work.old st h) × InHand h × Located work.old h }
-    requires called { Called (words s.now) end work.old h index name at optional }
-    ensures { SteppedTo (words s.now) end work.old work.new st h index at optional limits result }
+    requires room { (s.now.end ≤ most_words) × LimitsFit limits × (st.budget ≡ 0 → ⊥) × (index < h.ne) }
+    requires shut { Shut (With (text s.now) s.now.end work.old st h) × InHand h × Located work.old h }
+    requires called { Called (text s.now) s.now.end work.old h index name at optional }
+    ensures { SteppedTo (text s.now) s.now.end work.old work.new st h index at optional limits result }
 {
-    let z = decide(s, end, work, h, index, name, at, optional)?;
-    advance(s, end, limits, work, st, h, index, at, z, optional)
+    let z = decide(s, work, h, index, name, at, optional)?;
+    advance(s, limits, work, st, h, index, at, z, optional)
 }
 
 // A step on the alternative that was taken; the one beyond the budget is not looked at.
 fn step(
-    s: &[u8],
-    end: usize,
+    s: &Sheet,
     limits: Limits,
     work: &mut [u8],
     t: Taken,
@@ -167,11 +164,11 @@ fn step(
     at: usize,
     optional: bool,
 ) -> Result<State, Unplanned>
-    requires room { Room s.now end × (end ≤ most_words) × LimitsFit limits × (index < t.x.ne) }
-    requires shut { Shut (With (words s.now) end work.old t.st t.x) }
+    requires room { (s.now.end ≤ most_words) × LimitsFit limits × (index < t.x.ne) }
+    requires shut { Shut (With (text s.now) s.now.end work.old t.st t.x) }
     requires in_hand { (t.hand ≡ true → InHand t.x) × (t.hand ≡ false → InList t.x) }
-    requires called { Called (words s.now) end work.old t.x index name at optional }
-    ensures { SteppedTo (words s.now) end work.old work.new t.st t.x index
+    requires called { Called (text s.now) s.now.end work.old t.x index name at optional }
+    ensures { SteppedTo (text s.now) s.now.end work.old work.new t.st t.x index
         at optional limits result }
 {
     let st = t.st;
@@ -179,13 +176,12 @@ fn step(
         return Err(Unplanned::Declined(Clause::Budget));
     }
     let h = hold(work, t);
-    step_in_hand(s, end, limits, work, st, h, index, name, at, optional)
+    step_in_hand(s, limits, work, st, h, index, name, at, optional)
 }
 
 // A step at a member of the cycle that is called.
 fn step_at(
-    s: &[u8],
-    end: usize,
+    s: &Sheet,
     names: &[u32],
     places: &[u32],
     limits: Limits,
@@ -194,17 +190,17 @@ fn step_at(
     p: Place,
     optional: bool,
 ) -> Result<State, Unplanned>
-    requires room { Room s.now end × (end ≤ most_words) × LimitsFit limits }
-    requires shut { Shut (With (words s.now) end work.old t.st t.x) }
+    requires room { (s.now.end ≤ most_words) × LimitsFit limits }
+    requires shut { Shut (With (text s.now) s.now.end work.old t.st t.x) }
     requires in_hand { (t.hand ≡ true → InHand t.x) × (t.hand ≡ false → InList t.x) }
-    requires called_at { CalledAt (words s.now) end work.old names.now places.now t.x p optional }
-    ensures { SteppedTo (words s.now) end work.old work.new t.st t.x p.index
+    requires called_at { CalledAt (text s.now) s.now.end work.old names.now places.now t.x p optional }
+    ensures { SteppedTo (text s.now) s.now.end work.old work.new t.st t.x p.index
         (get_or places.now p.target 0) optional limits result }
 {
     let i = p.target;
     let name = names[i];
     let at = index(places[i]);
-    step(s, end, limits, work, t, p.index, name, at, optional)
+    step(s, limits, work, t, p.index, name, at, optional)
 }
 
 // The clause by which a corner that is in the way declines: the budget is asked first.
@@ -219,8 +215,7 @@ pub fn stuck(budget: usize) -> Clause
 
 // What was taken is settled, or a step is made on it.
 fn act(
-    s: &[u8],
-    end: usize,
+    s: &Sheet,
     names: &[u32],
     places: &[u32],
     c: Cycle,
@@ -228,27 +223,26 @@ fn act(
     work: &mut [u8],
     t: Taken,
 ) -> Result<State, Unplanned>
-    requires room { Room s.now end × (end ≤ most_words) × LimitsFit limits }
-    requires shut { Shut (With (words s.now) end work.old t.st t.x) }
+    requires room { (s.now.end ≤ most_words) × LimitsFit limits }
+    requires shut { Shut (With (text s.now) s.now.end work.old t.st t.x) }
     requires in_hand { (t.hand ≡ true → InHand t.x) × (t.hand ≡ false → InList t.x) }
-    requires shut_2 { Shut (Ground (words s.now) end names.now places.now c) }
-    ensures { ActedOn (words s.now) end names.now places.now c limits
+    requires shut_2 { Shut (Ground (text s.now) s.now.end names.now places.now c) }
+    ensures { ActedOn (text s.now) s.now.end names.now places.now c limits
         work.old work.new t.st t.x result }
 {
     let x = t.x;
     let st = t.st;
-    match find_corner(s, end, names, c, work, x) {
+    match find_corner(s, names, c, work, x) {
         Corner::Settled => Ok(put_settled(work, st, x)),
         Corner::Blocked => Err(Unplanned::Declined(stuck(st.budget))),
-        Corner::Optional(p) => step_at(s, end, names, places, limits, work, t, p, true),
-        Corner::Satellite(p) => step_at(s, end, names, places, limits, work, t, p, false),
+        Corner::Optional(p) => step_at(s, names, places, limits, work, t, p, true),
+        Corner::Satellite(p) => step_at(s, names, places, limits, work, t, p, false),
     }
 }
 
 // The next alternative is taken, and settled, or a step is made on it.
 pub fn take_turn(
-    s: &[u8],
-    end: usize,
+    s: &Sheet,
     names: &[u32],
     places: &[u32],
     c: Cycle,
@@ -256,12 +250,12 @@ pub fn take_turn(
     work: &mut [u8],
     st: State,
 ) -> Result<State, Unplanned>
-    requires room { Room s.now end × (end ≤ most_words) × LimitsFit limits × HasNext st }
-    requires shut { Shut (Ready (words s.now) end work.old st 0 0 0) }
-    requires shut_2 { Shut (Ground (words s.now) end names.now places.now c) }
-    ensures { TurnedTo (words s.now) end names.now places.now c limits
+    requires room { (s.now.end ≤ most_words) × LimitsFit limits × HasNext st }
+    requires shut { Shut (Ready (text s.now) s.now.end work.old st 0 0 0) }
+    requires shut_2 { Shut (Ground (text s.now) s.now.end names.now places.now c) }
+    ensures { TurnedTo (text s.now) s.now.end names.now places.now c limits
         work.old work.new st result }
 {
-    let t = take(s, end, work, st);
-    act(s, end, names, places, c, limits, work, t)
+    let t = take(s, work, st);
+    act(s, names, places, c, limits, work, t)
 }

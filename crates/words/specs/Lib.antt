@@ -1,4 +1,5 @@
 pub mod Refusal
 pub mod Room
+pub mod Sheet
 pub mod Visit
 pub mod Words

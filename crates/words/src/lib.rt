@@ -3,6 +3,7 @@
 #![tactic(auto)]
 
 pub mod numbers;
+pub mod sheet;
 pub mod visit;
 pub mod walk;
 pub mod words;

@@ -1,17 +1,6 @@
 // The limits of a sheet, and the numbers that have a meaning in it.
 ghost use Rattle.std.specs.Prelude.{◌≡◌};
 
-#[derive(Drop)]
-pub struct Sheet;
-
-impl Sheet {
-    pub const LEAST_BYTES: usize = 32;
-
-    pub const MOST_BYTES: usize = 32768;
-
-    pub const TRAILER_WORDS: usize = 8;
-}
-
 // The area that a caller lends.
 #[derive(Drop)]
 pub struct Work;

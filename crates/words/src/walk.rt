@@ -1,11 +1,11 @@
 // The walking layer: where the parts of a tree that stands in a sheet begin and end.
 ghost use Rattle.std.specs.Prelude.{◌≡◌, ◌+◌, ◌*◌, ◌<◌, ◌≤◌, ◌^◌};
 ghost use Rattle.grammar.specs.Numbers.{block_kind};
-ghost use Rattle.grammar.specs.Words.{words};
 ghost use Rattle.grammar.specs.Found.{FoundElement, FoundAlternative, HeadAt, AlternativeAt, LeafEnd};
-ghost use Rattle.words.specs.Room.{Room};
+ghost use Rattle.words.specs.Sheet.{text};
 
 use crate::numbers::Kind;
+use crate::sheet::Sheet;
 use crate::words::word;
 
 // Where an element's payload begins, and its kind.
@@ -30,32 +30,31 @@ fn past_options(from: usize, n: u32) -> usize
     from + 2 * (n as usize)
 }
 
-pub fn element_head(s: &[u8], end: usize, depth: u32, at: usize) -> Head
-    requires room { Room s.now end × (at + 6 ≤ end) }
-    requires found_element { FoundElement (words s.now) end depth at }
-    ensures { HeadAt (words s.now) end at result.kind result.payload }
+pub fn element_head(s: &Sheet, depth: u32, at: usize) -> Head
+    requires room { at + 6 ≤ s.now.end }
+    requires found_element { FoundElement (text s.now) s.now.end depth at }
+    ensures { HeadAt (text s.now) s.now.end at result.kind result.payload }
 {
-    let kind = word(s, at + 2) % Kind::END;
-    let payload = past_options(at + 6, word(s, at + 5));
+    let kind = word(s.bytes, at + 2) % Kind::END;
+    let payload = past_options(at + 6, word(s.bytes, at + 5));
     Head { kind, payload }
 }
 
-pub fn alternative_head(s: &[u8], end: usize, depth: u32, at: usize) -> Elements
-    requires room { Room s.now end × (at + 5 ≤ end) }
-    requires found_alternative { FoundAlternative (words s.now) end depth at }
-    ensures { AlternativeAt (words s.now) end at result.count result.first }
+pub fn alternative_head(s: &Sheet, depth: u32, at: usize) -> Elements
+    requires room { at + 5 ≤ s.now.end }
+    requires found_alternative { FoundAlternative (text s.now) s.now.end depth at }
+    ensures { AlternativeAt (text s.now) s.now.end at result.count result.first }
 {
-    let count = word(s, at + 4);
-    let first = past_options(at + 5, word(s, at + 3));
+    let count = word(s.bytes, at + 4);
+    let first = past_options(at + 5, word(s.bytes, at + 3));
     Elements { count, first }
 }
 
 // Where an element that is no block ends.
-pub fn leaf_end(s: &[u8], end: usize, depth: u32, at: usize, kind: u32, payload: usize) -> usize
-    requires room { Room s.now end }
-    requires head_at { (HeadAt (words s.now) end at kind payload) × (kind ≡ block_kind → ⊥) }
-    requires found_element { FoundElement (words s.now) end depth at }
-    ensures { LeafEnd (words s.now) end depth at payload result }
+pub fn leaf_end(s: &Sheet, depth: u32, at: usize, kind: u32, payload: usize) -> usize
+    requires head_at { (HeadAt (text s.now) s.now.end at kind payload) × (kind ≡ block_kind → ⊥) }
+    requires found_element { FoundElement (text s.now) s.now.end depth at }
+    ensures { LeafEnd (text s.now) s.now.end depth at payload result }
 {
     if kind == Kind::CALL {
         return payload + 2;
@@ -64,10 +63,10 @@ pub fn leaf_end(s: &[u8], end: usize, depth: u32, at: usize, kind: u32, payload:
         return payload + 1;
     }
     if kind == Kind::ACTION {
-        return past_options(payload + 2, word(s, payload + 1));
+        return past_options(payload + 2, word(s.bytes, payload + 1));
     }
     if kind == Kind::PREDICATE {
-        return past_options(payload + 2, word(s, payload + 1));
+        return past_options(payload + 2, word(s.bytes, payload + 1));
     }
     payload
 }

@@ -1,20 +1,19 @@
 // The elements of a planned alternative.
 ghost use Rattle.std.specs.Prelude.{◌≤◌};
-ghost use Rattle.grammar.specs.Words.{words};
-ghost use Rattle.words.specs.Room.{Room};
 ghost use Rattle.heads.specs.Front.{compose_at};
 ghost use Rattle.written.specs.Items.{ItemFits, ItemDrawn, Readable, ItemsFit, ItemsDrawn};
+ghost use Rattle.words.specs.Sheet.{text};
 
 use copies::copy::copy_element;
 use copies::pen::Pen;
 use heads::same::copy_same;
 use planned::list::{Item, Listed};
 use planned::read::item;
+use words::sheet::Sheet;
 
 // One element: a copy with fresh ids, or as it stands.
 fn write_item(
-    s: &[u8],
-    end: usize,
+    s: &Sheet,
     depth: u32,
     e: Item,
     fresh: bool,
@@ -22,23 +21,21 @@ fn write_item(
     trail: &mut [u8],
     pen: Pen,
 ) -> Pen
-    requires room { Room s.now end }
-    requires item_fits { ItemFits (words s.now) end depth e.at e.plain fresh work.old trail.old pen }
-    ensures { ItemDrawn (words s.now) end depth e.at e.plain fresh work.old work.new
+    requires item_fits { ItemFits (text s.now) s.now.end depth e.at e.plain fresh work.old trail.old pen }
+    ensures { ItemDrawn (text s.now) s.now.end depth e.at e.plain fresh work.old work.new
         trail.old trail.new pen result }
 {
     if fresh {
-        let c = copy_element(s, end, depth, e.at, e.plain, work, trail, pen);
+        let c = copy_element(s, depth, e.at, e.plain, work, trail, pen);
         return c.pen;
     }
-    let to = copy_same(s, end, depth, e.at, e.plain, work, pen.to);
+    let to = copy_same(s, depth, e.at, e.plain, work, pen.to);
     Pen { to, ..pen }
 }
 
 // All elements of an alternative that is listed.
 pub fn write_items(
-    s: &[u8],
-    end: usize,
+    s: &Sheet,
     depth: u32,
     work: &mut [u8],
     x: Listed,
@@ -46,15 +43,15 @@ pub fn write_items(
     trail: &mut [u8],
     pen: Pen,
 ) -> Pen
-    requires room { Room s.now end × (compose_at ≤ pen.to) }
-    requires readable { Readable (words s.now) end depth work.old x × ItemsFit (words s.now) end depth work.old x fresh trail.old pen }
-    ensures { ItemsDrawn (words s.now) end depth work.old x fresh work.new
+    requires room { compose_at ≤ pen.to }
+    requires readable { Readable (text s.now) s.now.end depth work.old x × ItemsFit (text s.now) s.now.end depth work.old x fresh trail.old pen }
+    ensures { ItemsDrawn (text s.now) s.now.end depth work.old x fresh work.new
         trail.old trail.new pen result }
 {
     let mut w = pen;
     for i in 0..x.ne {
         let e = item(work, x, i);
-        w = write_item(s, end, depth, e, fresh, work, trail, w);
+        w = write_item(s, depth, e, fresh, work, trail, w);
     }
     w
 }

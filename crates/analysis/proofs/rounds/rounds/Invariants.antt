@@ -1,3 +1,4 @@
+use Rattle.words.specs.Sheet.{text}
 use Prim.Native.Nat.{◌-◌}
 use Rattle.grammar.specs.Words.{words}
 use Rattle.reach.specs.Rows.{Behind}
@@ -5,4 +6,4 @@ use Rattle.analysis.proofs.Laws.Rounded.{Finding}
 use Rattle.analysis.proofs.rounds.rounds.Given as goal
 
 abbrev pub invariant-loop : goal.invariant-loop
-invariant-loop l = Finding (words l.s) l.end l.rules (l.n - l.counter) l.found l.count × Behind l.rules.n l.initial.calls l.calls × Behind l.rules.n l.initial.corners l.corners
+invariant-loop l = Finding (text l.s) l.s.end l.rules (l.n - l.counter) l.found l.count × Behind l.rules.n l.initial.calls l.calls × Behind l.rules.n l.initial.corners l.corners

@@ -1,3 +1,4 @@
+use Rattle.words.specs.Sheet.{text}
 use mathlib.Core.Path.{◌≡◌}
 use Prim.Native.Nat.{◌-◌}
 use lib.ListN.{length}
@@ -7,4 +8,4 @@ use Rattle.analysis.proofs.Laws.Walks.{BodyFolding}
 use Rattle.analysis.proofs.survey.body.Given as goal
 
 abbrev pub invariant-loop : goal.invariant-loop
-invariant-loop l = (length l.t ≡ length l.initial.t) × BodyFolding (view_of l.names l.known) (words l.s) l.end l.n l.at (seen_of l.initial.t l.seeks l.null) (l.n - l.counter) l.p.at (seen_of l.t l.p.seeks l.p.null)
+invariant-loop l = (length l.t ≡ length l.initial.t) × BodyFolding (view_of l.names l.known) (text l.s) l.s.end l.n l.at (seen_of l.initial.t l.seeks l.null) (l.n - l.counter) l.p.at (seen_of l.t l.p.seeks l.p.null)

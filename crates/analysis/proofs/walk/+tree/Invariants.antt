@@ -1,3 +1,4 @@
+use Rattle.words.specs.Sheet.{text}
 use mathlib.Core.Path.{◌≡◌}
 use Prim.Native.Nat.{◌+◌, ◌-◌, ◌*◌}
 use lib.ListN.{length}
@@ -22,7 +23,7 @@ abbrev pub decreases-other_element : goal.decreases-other_element
 decreases-other_element l = l.depth * 5
 
 abbrev pub invariant-alternatives-loop : goal.invariant-alternatives-loop
-invariant-alternatives-loop l = (length l.t ≡ length l.initial.t) × AlternativesFolding (surveying (view_of l.names l.known)) (words l.s) l.end l.depth l.n l.at (seen_of l.initial.t l.seeks l.null) (l.n - l.counter) l.p.at (seen_of l.t l.p.seeks l.p.null)
+invariant-alternatives-loop l = (length l.t ≡ length l.initial.t) × AlternativesFolding (surveying (view_of l.names l.known)) (text l.s) l.s.end l.depth l.n l.at (seen_of l.initial.t l.seeks l.null) (l.n - l.counter) l.p.at (seen_of l.t l.p.seeks l.p.null)
 
 abbrev pub invariant-elements-loop : goal.invariant-elements-loop
-invariant-elements-loop l = (length l.t ≡ length l.initial.t) × ElementsFolding (surveying (view_of l.names l.known)) (words l.s) l.end l.depth l.n l.at (seen_of l.initial.t l.seeks l.null) (l.n - l.counter) l.p.at (seen_of l.t l.p.seeks l.p.null)
+invariant-elements-loop l = (length l.t ≡ length l.initial.t) × ElementsFolding (surveying (view_of l.names l.known)) (text l.s) l.s.end l.depth l.n l.at (seen_of l.initial.t l.seeks l.null) (l.n - l.counter) l.p.at (seen_of l.t l.p.seeks l.p.null)

@@ -1,3 +1,4 @@
+use Rattle.words.specs.Sheet.{text}
 use Rattle.std.specs.Prelude.{◌≡◌}
 use Rattle.grammar.specs.Tree.{inner_depth}
 use Rattle.grammar.specs.Words.{words}
@@ -10,6 +11,6 @@ use Rattle.collisions.proofs.mark.mark_items.Given as goal
 abbrev pub invariant-loop-i : goal.invariant-loop-i
 invariant-loop-i l =
     let v = l.initial.marker in
-    (v.work.ghost_name ≡ l.marker.work.ghost_name) × (v.name ≡ l.marker.name) × Kept (words l.s) l.end v.work.now l.marker.work.now
-    × Itemizing (marking v.name) inner_depth (meaning (words l.s) l.end inner_depth v.work.now l.x).elements l.from l.to
-    (marks_of (words l.s) v.work.now v.dangling) l.i (marks_of (words l.s) l.marker.work.now l.marker.dangling)
+    (v.work.ghost_name ≡ l.marker.work.ghost_name) × (v.name ≡ l.marker.name) × Kept (text l.s) l.s.end v.work.now l.marker.work.now
+    × Itemizing (marking v.name) inner_depth (meaning (text l.s) l.s.end inner_depth v.work.now l.x).elements l.from l.to
+    (marks_of (text l.s) v.work.now v.dangling) l.i (marks_of (text l.s) l.marker.work.now l.marker.dangling)

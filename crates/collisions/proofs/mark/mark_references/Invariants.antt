@@ -1,3 +1,4 @@
+use Rattle.words.specs.Sheet.{text}
 use Prim.Native.Nat.{◌-◌, ◌<◌}
 use Rattle.grammar.specs.Words.{words}
 use Rattle.collisions.specs.Names.{Kept}
@@ -7,5 +8,5 @@ use Rattle.collisions.proofs.mark.mark_references.Given as goal
 
 abbrev pub invariant-loop : goal.invariant-loop
 invariant-loop l =
-    Kept (words l.s) l.end l.initial.work l.work × (0 < l.p)
-    × ReferencesFolding l.name (words l.s) l.end l.n l.at (marks_of (words l.s) l.initial.work l.dangling) (l.n - l.counter) l.p (marks_of (words l.s) l.work l.refers)
+    Kept (text l.s) l.s.end l.initial.work l.work × (0 < l.p)
+    × ReferencesFolding l.name (text l.s) l.s.end l.n l.at (marks_of (text l.s) l.initial.work l.dangling) (l.n - l.counter) l.p (marks_of (text l.s) l.work l.refers)

@@ -10,14 +10,14 @@ use Rattle.copies.proofs.Laws.Alternatives.{alternating}
 ruleset trees = (inner, copying, rooms, elementary, alternating, growth)
 
 -- src/copy.rt:100:9
-pub copy_alternative-alternative_head-head-requires-clause-room :
-    goal.copy_alternative-alternative_head-head-requires-clause-room
-copy_alternative-alternative_head-head-requires-clause-room t c = search (rules, trees)
+pub copy_alternative-alternative_head-head-requires :
+    goal.copy_alternative-alternative_head-head-requires
+copy_alternative-alternative_head-head-requires t c = search (rules, trees)
 
 -- src/copy.rt:103:9
-pub copy_alternative-copy_marked-inside-requires-clause-marked_room :
-    goal.copy_alternative-copy_marked-inside-requires-clause-marked_room
-copy_alternative-copy_marked-inside-requires-clause-marked_room t c = search (rules, trees)
+pub copy_alternative-copy_marked-inside-requires :
+    goal.copy_alternative-copy_marked-inside-requires
+copy_alternative-copy_marked-inside-requires t c = search (rules, trees)
 
 -- src/copy.rt:104:5
 pub copy_alternative-copy_elements-requires : goal.copy_alternative-copy_elements-requires
@@ -41,9 +41,9 @@ pub copy_alternatives-returns : goal.copy_alternatives-returns
 copy_alternatives-returns t c = search (rules, trees)
 
 -- src/copy.rt:38:9
-pub copy_element-element_head-head-requires-clause-room :
-    goal.copy_element-element_head-head-requires-clause-room
-copy_element-element_head-head-requires-clause-room t c = search (rules, trees)
+pub copy_element-element_head-head-requires :
+    goal.copy_element-element_head-head-requires
+copy_element-element_head-head-requires t c = search (rules, trees)
 
 -- src/copy.rt:41:9
 pub copy_element-copy_head-inside-requires : goal.copy_element-copy_head-inside-requires

@@ -1,3 +1,4 @@
+use Rattle.words.specs.Sheet.{text}
 use Prim.Native.Nat.{◌+◌, ◌*◌}
 use Rattle.grammar.specs.Words.{words}
 use Rattle.copies.proofs.Laws.Copying.{ElementsCopying, AlternativesCopying}
@@ -16,7 +17,7 @@ abbrev pub decreases-copy_elements : goal.decreases-copy_elements
 decreases-copy_elements l = l.depth * 4 + 1
 
 abbrev pub invariant-copy_alternatives-loop : goal.invariant-copy_alternatives-loop
-invariant-copy_alternatives-loop l = AlternativesCopying (words l.s) l.end l.depth l.n l.at l.initial.out l.initial.trail l.initial.w l.counter l.p l.out l.trail l.w
+invariant-copy_alternatives-loop l = AlternativesCopying (text l.s) l.s.end l.depth l.n l.at l.initial.out l.initial.trail l.initial.w l.counter l.p l.out l.trail l.w
 
 abbrev pub invariant-copy_elements-loop : goal.invariant-copy_elements-loop
-invariant-copy_elements-loop l = ElementsCopying (words l.s) l.end l.depth l.n l.at l.initial.out l.initial.trail l.initial.w l.counter l.p l.out l.trail l.w
+invariant-copy_elements-loop l = ElementsCopying (text l.s) l.s.end l.depth l.n l.at l.initial.out l.initial.trail l.initial.w l.counter l.p l.out l.trail l.w

@@ -1,6 +1,7 @@
+use Rattle.words.specs.Sheet.{text}
 use Rattle.grammar.specs.Words.{words}
 use Rattle.hub.specs.Budget.{Summed}
 use Rattle.hub.proofs.budget.alternatives.Given as goal
 
 abbrev pub invariant-loop-i : goal.invariant-loop-i
-invariant-loop-i l = Summed (words l.s) l.end l.places l.members l.i l.sum
+invariant-loop-i l = Summed (text l.s) l.s.end l.places l.members l.i l.sum

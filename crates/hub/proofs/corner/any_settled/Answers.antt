@@ -21,9 +21,9 @@ pub returns-then-settled_outside : goal.returns-then-settled_outside
 returns-then-settled_outside c = search (rules, trying)
 
 -- src/corner.rt:90:9
-pub alternative_end-p-requires-clause-found_alternative :
-    goal.alternative_end-p-requires-clause-found_alternative
-alternative_end-p-requires-clause-found_alternative c = search (rules, trying)
+pub alternative_end-p-requires :
+    goal.alternative_end-p-requires
+alternative_end-p-requires c = search (rules, trying)
 
 -- src/corner.rt:83:5
 pub loop-preserved : goal.loop-preserved

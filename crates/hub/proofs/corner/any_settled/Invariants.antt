@@ -1,3 +1,4 @@
+use Rattle.words.specs.Sheet.{text}
 use Prim.Native.Nat.{◌-◌}
 use Rattle.grammar.specs.Words.{words}
 use Rattle.grammar.specs.Tree.{inner_depth}
@@ -5,4 +6,4 @@ use Rattle.hub.proofs.Laws.Able.{Trying}
 use Rattle.hub.proofs.corner.any_settled.Given as goal
 
 abbrev pub invariant-loop : goal.invariant-loop
-invariant-loop l = Trying l.names l.c (words l.s) l.end inner_depth l.n l.at (l.n - l.counter) l.p
+invariant-loop l = Trying l.names l.c (text l.s) l.s.end inner_depth l.n l.at (l.n - l.counter) l.p

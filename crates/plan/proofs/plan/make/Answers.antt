@@ -16,8 +16,8 @@ returns-in_default c =
     let w : c.substitute.result ≡ Ok None = c.in_ok-done.was ∙ ap Ok c.in_default.is in
     search (rules, made_idle)
 
-pub finish-requires-clause-laid : goal.finish-requires-clause-laid
-finish-requires-clause-laid c =
+pub finish-requires : goal.finish-requires
+finish-requires c =
     let w : c.substitute.result ≡ Ok (Some c.in-Some.done) = c.in_ok-done.was ∙ ap Ok c.in-Some.is in
     search (rules, made_laid, made_listed)
 

@@ -1,3 +1,4 @@
+use Rattle.words.specs.Sheet.{text}
 use Rattle.std.proofs.Common.{rules}
 use Rattle.grammar.specs.Words.{words}
 use Rattle.planned.specs.Laws.Parts.{options_count}
@@ -6,6 +7,6 @@ use Rattle.splices.proofs.Laws.Options.{listed_at}
 
 pub returns : goal.returns
 returns c =
-    let ws = words c.args.s.now in
-    c.meets_among.ensures _ (options_count ws c.args.end c.args.depth c.args.work.now c.args.from c.args.n)
-    (record { each = λ i p l h. listed_at ws c.args.end c.args.depth c.args.work.now c.args.from c.args.n (search rules) l })
+    let ws = text c.args.s.now in
+    c.meets_among.ensures _ (options_count ws c.args.s.now.end c.args.depth c.args.work.now c.args.from c.args.n)
+    (record { each = λ i p l h. listed_at ws c.args.s.now.end c.args.depth c.args.work.now c.args.from c.args.n (search rules) l })

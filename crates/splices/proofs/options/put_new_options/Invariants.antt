@@ -1,6 +1,7 @@
+use Rattle.words.specs.Sheet.{text}
 use Rattle.grammar.specs.Words.{words}
 use Rattle.splices.proofs.Laws.OptionsPut.{Putting}
 use Rattle.splices.proofs.options.put_new_options.Given as goal
 
 abbrev pub invariant-loop-j : goal.invariant-loop-j
-invariant-loop-j l = Putting (words l.s) l.end l.depth l.at l.initial.work l.h l.to l.n l.work l.j l.t
+invariant-loop-j l = Putting (text l.s) l.s.end l.depth l.at l.initial.work l.h l.to l.n l.work l.j l.t

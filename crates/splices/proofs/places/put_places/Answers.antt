@@ -3,8 +3,8 @@ use Rattle.splices.proofs.places.put_places.Goals as goal
 use Rattle.splices.proofs.Laws.Places.{placing}
 
 -- src/places.rt:34:9
-pub element_end-p-requires-clause-found_element : goal.element_end-p-requires-clause-found_element
-element_end-p-requires-clause-found_element c = search (rules, placing)
+pub element_end-p-requires : goal.element_end-p-requires
+element_end-p-requires c = search (rules, placing)
 
 -- src/places.rt:32:5
 pub loop-i-preserved : goal.loop-i-preserved

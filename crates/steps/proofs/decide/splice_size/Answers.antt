@@ -24,8 +24,8 @@ count_one-z-requires-clause-small_size c = search (rules, bodies, sizing)
 pub count_one-z-requires-clause-found_alternative : goal.count_one-z-requires-clause-found_alternative
 count_one-z-requires-clause-found_alternative c = search (rules, bodies, sizing)
 
-pub alternative_end-p-requires-clause-found_alternative : goal.alternative_end-p-requires-clause-found_alternative
-alternative_end-p-requires-clause-found_alternative c = search (rules, bodies, sizing)
+pub alternative_end-p-requires : goal.alternative_end-p-requires
+alternative_end-p-requires c = search (rules, bodies, sizing)
 
 pub loop-preserved : goal.loop-preserved
 loop-preserved c = let w = c.in_ok-more.was in search (rules, bodies, sizing)

@@ -15,9 +15,9 @@ returns-in_err-look_at c =
     let w = c.in_err-look_at.was in
     rw (raised c.in_err-look_at.field-0.0 c.from_residual.result c.from_residual.ensures.1) (search (rules, looking, looking_found))
 
-pub alternative_end-p-requires-clause-found_alternative :
-    goal.alternative_end-p-requires-clause-found_alternative
-alternative_end-p-requires-clause-found_alternative c = search (rules, looking, looking_found)
+pub alternative_end-p-requires :
+    goal.alternative_end-p-requires
+alternative_end-p-requires c = search (rules, looking, looking_found)
 
 pub loop-preserved : goal.loop-preserved
 loop-preserved c = let w = c.in_ok-look_at.was in search (rules, looking, looking_found)

@@ -9,9 +9,9 @@ loop-init c = search (rules, bodies, counting)
 pub with_one-z-requires : goal.with_one-z-requires
 with_one-z-requires c = search (rules, bodies, counting)
 
-pub alternative_end-p-requires-clause-found_alternative :
-    goal.alternative_end-p-requires-clause-found_alternative
-alternative_end-p-requires-clause-found_alternative c = search (rules, bodies, counting)
+pub alternative_end-p-requires :
+    goal.alternative_end-p-requires
+alternative_end-p-requires c = search (rules, bodies, counting)
 
 pub loop-preserved : goal.loop-preserved
 loop-preserved c = search (rules, bodies, counting)

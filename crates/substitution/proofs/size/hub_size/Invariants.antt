@@ -1,7 +1,8 @@
+use Rattle.words.specs.Sheet.{text}
 use Rattle.grammar.specs.Tree.{inner_depth}
 use Rattle.grammar.specs.Words.{words}
 use Rattle.substitution.proofs.Laws.Size.{Counting}
 use Rattle.substitution.proofs.size.hub_size.Given as goal
 
 abbrev pub invariant-loop : goal.invariant-loop
-invariant-loop l = Counting (words l.s) l.end inner_depth l.n l.initial.p l.counter l.p l.z
+invariant-loop l = Counting (text l.s) l.s.end inner_depth l.n l.initial.p l.counter l.p l.z

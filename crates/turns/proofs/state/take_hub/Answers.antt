@@ -8,9 +8,9 @@ pub hub_in_hand-x-requires-clause-found_alternative :
 hub_in_hand-x-requires-clause-found_alternative c = search (rules, taking)
 
 -- src/state.rt:95:9
-pub alternative_end-at-requires-clause-found_alternative :
-    goal.alternative_end-at-requires-clause-found_alternative
-alternative_end-at-requires-clause-found_alternative c = search (rules, taking)
+pub alternative_end-at-requires :
+    goal.alternative_end-at-requires
+alternative_end-at-requires c = search (rules, taking)
 
 -- src/state.rt:87:1
 pub returns : goal.returns

@@ -1,3 +1,4 @@
+use Rattle.words.specs.Sheet.{text}
 use Rattle.std.proofs.Common.{◌+◌, ◌-◌, rules, arith}
 use Rattle.grammar.specs.Words.{words}
 use Rattle.grammar.specs.Fold.{element_fold, alternative_fold, block_fold}
@@ -13,7 +14,7 @@ pub walk_alternative-walk_elements-requires : goal.walk_alternative-walk_element
 walk_alternative-walk_elements-requires g t c κs within =
     let past = c.alternative_head-inner.ensures.past in
     let on =
-    g.met.V.Visitor.laws.on (words c.args.s.now) c.args.end c.args.depth _ c.alternative_head-inner.result.first c.enter_alternative.new.self
+    g.met.V.Visitor.laws.on (text c.args.s.now) c.args.s.now.end c.args.depth _ c.alternative_head-inner.result.first c.enter_alternative.new.self
     past c.enter_alternative.ensures.1 in
     search (rules, inner)
 
@@ -47,14 +48,14 @@ pub walk_element-walk_alternatives-requires : goal.walk_element-walk_alternative
 walk_element-walk_alternatives-requires g t c κs within =
     let past = c.element_head-head.ensures.past in
     let on =
-    g.met.V.Visitor.laws.on (words c.args.s.now) c.args.end (c.args.depth - 1) _ (c.element_head-head.result.payload + 1)
+    g.met.V.Visitor.laws.on (text c.args.s.now) c.args.s.now.end (c.args.depth - 1) _ (c.element_head-head.result.payload + 1)
     c.enter_block.new.self (omega arith) c.enter_block.ensures.1 in
     search (rules, inner)
 
 pub walk_element-returns-then-kind-eq-BLOCK : goal.walk_element-returns-then-kind-eq-BLOCK
 walk_element-returns-then-kind-eq-BLOCK g t c =
     let deep = block_depth c.element_head-head.ensures c.if-kind-eq-BLOCK.true c.args.depth c.requires.found_element in
-    visited_block g.met.V.Visitor.laws c.args.depth c.element_head-head.ensures c.if-kind-eq-BLOCK.true deep c.requires.room.1
+    visited_block g.met.V.Visitor.laws c.args.depth c.element_head-head.ensures c.if-kind-eq-BLOCK.true deep c.requires.room
     c.word-count.ensures c.enter_block.ensures c.walk_alternatives.ensures
 
 pub walk_element-returns : goal.walk_element-returns

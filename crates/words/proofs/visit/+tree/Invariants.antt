@@ -1,3 +1,4 @@
+use Rattle.words.specs.Sheet.{text}
 use Prim.Native.Nat.{◌+◌, ◌-◌, ◌*◌}
 use Rattle.grammar.specs.Words.{words}
 use Rattle.grammar.specs.Laws.Fold.{ElementsFolding, AlternativesFolding}
@@ -18,15 +19,15 @@ decreases-walk_elements g l = l.depth * 4 + 1
 abbrev pub invariant-walk_alternatives-loop : goal.invariant-walk_alternatives-loop
 invariant-walk_alternatives-loop g l =
     let m = g.V.Visitor in
-    let ws = words l.s in
-    m.Kept ws l.end l.initial.v l.v × m.Fits ws l.end l.depth l.p l.v
-    × AlternativesFolding (m.steps ws l.initial.v) ws l.end l.depth l.n l.at (m.state ws l.depth l.initial.v) (l.n - l.counter) l.p
+    let ws = text l.s in
+    m.Kept ws l.s.end l.initial.v l.v × m.Fits ws l.s.end l.depth l.p l.v
+    × AlternativesFolding (m.steps ws l.initial.v) ws l.s.end l.depth l.n l.at (m.state ws l.depth l.initial.v) (l.n - l.counter) l.p
     (m.state ws l.depth l.v)
 
 abbrev pub invariant-walk_elements-loop : goal.invariant-walk_elements-loop
 invariant-walk_elements-loop g l =
     let m = g.V.Visitor in
-    let ws = words l.s in
-    m.Kept ws l.end l.initial.v l.v × m.Fits ws l.end l.depth l.p l.v
-    × ElementsFolding (m.steps ws l.initial.v) ws l.end l.depth l.n l.at (m.state ws l.depth l.initial.v) (l.n - l.counter) l.p
+    let ws = text l.s in
+    m.Kept ws l.s.end l.initial.v l.v × m.Fits ws l.s.end l.depth l.p l.v
+    × ElementsFolding (m.steps ws l.initial.v) ws l.s.end l.depth l.n l.at (m.state ws l.depth l.initial.v) (l.n - l.counter) l.p
     (m.state ws l.depth l.v)

@@ -3,8 +3,8 @@ use Rattle.written.proofs.items.write_items.Goals as goal
 use Rattle.written.proofs.Laws.Items.{items}
 
 -- src/items.rt:66:13
-pub write_item-w-requires-clause-item_fits : goal.write_item-w-requires-clause-item_fits
-write_item-w-requires-clause-item_fits c = search (rules, items)
+pub write_item-w-requires : goal.write_item-w-requires
+write_item-w-requires c = search (rules, items)
 
 -- src/items.rt:64:5
 pub loop-i-preserved : goal.loop-i-preserved

@@ -1,6 +1,7 @@
+use Rattle.words.specs.Sheet.{text}
 use Rattle.grammar.specs.Words.{words}
 use Rattle.written.proofs.Laws.Items.{Drawing}
 use Rattle.written.proofs.items.write_items.Given as goal
 
 abbrev pub invariant-loop-i : goal.invariant-loop-i
-invariant-loop-i l = Drawing (words l.s) l.end l.depth l.x l.fresh l.initial.work l.initial.trail l.initial.w l.work l.trail l.i l.w
+invariant-loop-i l = Drawing (text l.s) l.s.end l.depth l.x l.fresh l.initial.work l.initial.trail l.initial.w l.work l.trail l.i l.w

@@ -11,8 +11,8 @@ pub fresh-given-requires : goal.fresh-given-requires
 fresh-given-requires c = search (rules, news, new_readable, new_items, new_drawn)
 
 -- src/list.rt:88:9
-pub begin-inside-requires-clause-room : goal.begin-inside-requires-clause-room
-begin-inside-requires-clause-room c = search (rules, news, new_readable, new_items, new_drawn)
+pub begin-inside-requires : goal.begin-inside-requires
+begin-inside-requires c = search (rules, news, new_readable, new_items, new_drawn)
 
 -- src/list.rt:89:5
 pub write_items-requires-clause-readable : goal.write_items-requires-clause-readable

@@ -7,8 +7,8 @@ pub id_at-id-requires : goal.id_at-id-requires
 id_at-id-requires c = search (rules, sames)
 
 -- src/list.rt:65:9
-pub begin-inside-requires-clause-room : goal.begin-inside-requires-clause-room
-begin-inside-requires-clause-room c = search (rules, sames)
+pub begin-inside-requires : goal.begin-inside-requires
+begin-inside-requires c = search (rules, sames)
 
 -- src/list.rt:66:5
 pub write_items-requires-clause-readable : goal.write_items-requires-clause-readable
