@@ -127,7 +127,8 @@ pub fn see_leaf(
 ) -> Passing
     requires room { (known.n ≤ rule_limit) × (5 ≤ length t.old) }
     requires tabled { Tabled names.now known.n table.now }
-    requires head_at { HeadAt (text s.now) s.now.end at kind payload × (kind ≡ block_kind → ⊥) × FoundElement (text s.now) s.now.end depth at }
+    requires head_at { HeadAt (text s.now) s.now.end at kind payload × (kind ≡ block_kind → ⊥)
+        × FoundElement (text s.now) s.now.end depth at }
     ensures { LeafSeen (view_of names.now known) (text s.now) s.now.end kind payload skips
         (seen_of t.old p.seeks p.null) (seen_of t.new result.seeks result.null) }
 {

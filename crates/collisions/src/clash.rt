@@ -71,7 +71,8 @@ fn see_leaf(
     c: Clash,
 ) -> Clash
     requires room { Ordered (text s.now) s.now.end work.now }
-    requires head_at { HeadAt (text s.now) s.now.end at kind payload × (kind ≡ block_kind → ⊥) × FoundElement (text s.now) s.now.end depth at }
+    requires head_at { HeadAt (text s.now) s.now.end at kind payload × (kind ≡ block_kind → ⊥)
+        × FoundElement (text s.now) s.now.end depth at }
     ensures { LeafSeen (text s.now) s.now.end kind payload
         (clash_leaf (has_name (text s.now) work.now references_bit)) c result }
 {

@@ -82,7 +82,8 @@ fn mark_leaf(
     dangling: bool,
 ) -> bool
     requires room { Ordered (text s.now) s.now.end work.old }
-    requires head_at { HeadAt (text s.now) s.now.end at kind payload × (kind ≡ block_kind → ⊥) × FoundElement (text s.now) s.now.end depth at }
+    requires head_at { HeadAt (text s.now) s.now.end at kind payload × (kind ≡ block_kind → ⊥)
+        × FoundElement (text s.now) s.now.end depth at }
     ensures { Kept (text s.now) s.now.end work.old work.new × LeafSeen
         (text s.now) s.now.end kind payload (mark_leaf name) (marks_of (text s.now) work.old dangling)
         (marks_of (text s.now) work.new result) }
@@ -139,7 +140,8 @@ impl Visitor for Marker<'_> {
 // The elements of a planned alternative from one index up to another.
 fn mark_items(marker: &mut Marker<'_>, s: &Sheet, x: Listed, from: usize, to: usize)
     requires room { Located marker.old.work.now x × (from ≤ to) × (to ≤ x.ne) }
-    requires ordered { Ordered (text s.now) s.now.end marker.old.work.now × ListedIn (text s.now) s.now.end inner_depth marker.old.work.now x }
+    requires ordered { Ordered (text s.now) s.now.end marker.old.work.now
+        × ListedIn (text s.now) s.now.end inner_depth marker.old.work.now x }
     ensures same_reference { marker.old.work.ghost_name ≡ marker.new.work.ghost_name }
     ensures same_name { marker.old.name ≡ marker.new.name }
     ensures marked { Kept (text s.now) s.now.end marker.old.work.now marker.new.work.now × ItemsWalked (marking marker.old.name) inner_depth

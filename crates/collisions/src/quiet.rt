@@ -34,7 +34,8 @@ fn see_label(s: &[u8], at: usize, noisy: bool) -> bool
 }
 
 fn see_leaf(s: &Sheet, depth: u32, at: usize, kind: u32, payload: usize, noisy: bool) -> bool
-    requires head_at { HeadAt (text s.now) s.now.end at kind payload × (kind ≡ block_kind → ⊥) × FoundElement (text s.now) s.now.end depth at }
+    requires head_at { HeadAt (text s.now) s.now.end at kind payload × (kind ≡ block_kind → ⊥)
+        × FoundElement (text s.now) s.now.end depth at }
     ensures { LeafSeen (text s.now) s.now.end kind payload noisy_leaf noisy result }
 {
     noisy | (reference_count(s, depth, at, kind, payload) != 0)

@@ -11,7 +11,8 @@ use words::words::word;
 
 // How many references the element at `at` has, which is no block.
 pub fn reference_count(s: &Sheet, depth: u32, at: usize, kind: u32, payload: usize) -> u32
-    requires head_at { HeadAt (text s.now) s.now.end at kind payload × (kind ≡ block_kind → ⊥) × FoundElement (text s.now) s.now.end depth at }
+    requires head_at { HeadAt (text s.now) s.now.end at kind payload × (kind ≡ block_kind → ⊥)
+        × FoundElement (text s.now) s.now.end depth at }
     ensures { Refers (text s.now) s.now.end kind payload result }
 {
     if kind == Kind::ACTION || kind == Kind::PREDICATE {

@@ -56,7 +56,8 @@ pub fn decide(
 ) -> Result<Size, Clause>
     requires room { (s.now.end ≤ most_words) × Located work.old h × InHand h × (index < h.ne) }
     requires listed_in { ListedIn (text s.now) s.now.end inner_depth work.old h }
-    requires found_rule { FoundRule (text s.now) s.now.end at × (at + 4 ≤ s.now.end) × RuleNamed (text s.now) s.now.end inner_depth at name }
+    requires found_rule { FoundRule (text s.now) s.now.end at × (at + 4 ≤ s.now.end)
+        × RuleNamed (text s.now) s.now.end inner_depth at name }
     requires rule_unreferring { optional ≡ false → RuleUnreferring (text s.now) s.now.end inner_depth at }
     ensures { DecidedAt (text s.now) s.now.end inner_depth at work.old work.new h index optional result }
 {

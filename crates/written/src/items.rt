@@ -44,7 +44,8 @@ pub fn write_items(
     pen: Pen,
 ) -> Pen
     requires room { compose_at ≤ pen.to }
-    requires readable { Readable (text s.now) s.now.end depth work.old x × ItemsFit (text s.now) s.now.end depth work.old x fresh trail.old pen }
+    requires readable { Readable (text s.now) s.now.end depth work.old x
+        × ItemsFit (text s.now) s.now.end depth work.old x fresh trail.old pen }
     ensures { ItemsDrawn (text s.now) s.now.end depth work.old x fresh work.new
         trail.old trail.new pen result }
 {
