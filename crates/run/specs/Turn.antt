@@ -1,5 +1,6 @@
 -- One turn of the loop over plans (SPECIFICATION 5.2): one plan more, or the run is over.
-use Rattle.std.specs.Prelude.{ℕ, suc, ◌+◌, ◌<◌, ◌≤◌, ◌^◌, ◌≡◌, List, [], ◌∷◌, Bool, length, Option, Some, None, Result, Ok, Err, IfOk, MatchResult}
+use Rattle.std.specs.Prelude.{ℕ, suc, ◌+◌, ◌<◌, ◌≤◌, ◌^◌, ◌≡◌, List, [], ◌∷◌, Bool, length}
+use Rattle.std.specs.Prelude.{Option, Some, None, Result, Ok, Err, IfOk, MatchResult}
 use Rattle.grammar.specs.Numbers.{trailer_words}
 use Rattle.grammar.specs.Tree.{Sheet, inner_depth}
 use Rattle.grammar.specs.Words.{words}
