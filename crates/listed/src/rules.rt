@@ -3,7 +3,7 @@ ghost use Rattle.std.specs.Prelude.{[], ◌∷◌, ◌+◌, ◌*◌, ◌<◌, �
 ghost use Rattle.grammar.specs.Found.{FoundRule, FoundRules};
 ghost use Rattle.listed.specs.Walk.{pen, RuleListed, RulesListed};
 ghost use Rattle.listed.specs.Ready.{Ruled, Counted, RulesPut};
-ghost use Rattle.words.specs.Sheet.{text};
+ghost use Rattle.words.specs.Sheet.{text as words_of};
 
 use crate::lines::line;
 use crate::walk::{Passed, alternatives};
@@ -15,8 +15,8 @@ use words::words::word;
 // The rule at `at`, with all that is in it.
 fn rule(s: &Sheet, at: usize, text: &mut [u8], n: usize) -> Passed
     requires room { (at + 4 ≤ s.now.end) × (n ≤ 10 * at + 64) }
-    requires found_rule { FoundRule (text s.now) s.now.end at }
-    ensures { (result.n ≤ 10 * result.at + 64) × RuleListed (text s.now) s.now.end at
+    requires found_rule { FoundRule (words_of s.now) s.now.end at }
+    ensures { (result.n ≤ 10 * result.at + 64) × RuleListed (words_of s.now) s.now.end at
         (pen text.old n 0) result.at (pen text.new result.n 0) }
 {
     let id = word(s.bytes, at);
@@ -29,8 +29,8 @@ fn rule(s: &Sheet, at: usize, text: &mut [u8], n: usize) -> Passed
 // The rules from the first word on.
 fn rules(s: &Sheet, count: u32, text: &mut [u8], n: usize) -> Passed
     requires room { n ≤ 64 }
-    requires found_rules { FoundRules (text s.now) s.now.end count 0 }
-    ensures { (result.n ≤ 10 * result.at + 64) × RulesListed (text s.now) s.now.end count 0
+    requires found_rules { FoundRules (words_of s.now) s.now.end count 0 }
+    ensures { (result.n ≤ 10 * result.at + 64) × RulesListed (words_of s.now) s.now.end count 0
         (pen text.old n 0) result.at (pen text.new result.n 0) }
 {
     let mut p = 0;
@@ -45,8 +45,8 @@ fn rules(s: &Sheet, count: u32, text: &mut [u8], n: usize) -> Passed
 
 // How many rules there are.
 fn rule_count(s: &Sheet) -> u32
-    requires { Ruled (text s.now) s.now.end }
-    ensures { Counted (text s.now) s.now.end result }
+    requires { Ruled (words_of s.now) s.now.end }
+    ensures { Counted (words_of s.now) s.now.end result }
 {
     let rules = read_rules(s.bytes, s.end).unwrap();
     rules.n
@@ -54,8 +54,8 @@ fn rule_count(s: &Sheet) -> u32
 
 // All rules, whose end is known.
 pub fn list_rules(s: &Sheet, text: &mut [u8], n: usize) -> usize
-    requires { Ruled (text s.now) s.now.end × (n ≤ 64) }
-    ensures { RulesPut (text s.now) s.now.end text.old text.new n result }
+    requires { Ruled (words_of s.now) s.now.end × (n ≤ 64) }
+    ensures { RulesPut (words_of s.now) s.now.end text.old text.new n result }
 {
     let count = rule_count(s);
     let r = rules(s, count, text, n);

@@ -9,7 +9,7 @@ ghost use Rattle.listed.specs.Text.{line};
 ghost use Rattle.listed.specs.Listed.{element_word, alternative_line};
 ghost use Rattle.listed.specs.Put.{PutFew};
 ghost use Rattle.listed.specs.Walk.{Pen, pen, listing, name_of};
-ghost use Rattle.words.specs.Sheet.{text};
+ghost use Rattle.words.specs.Sheet.{text as words_of};
 
 use crate::lines::line;
 use words::numbers::Kind;
@@ -141,8 +141,8 @@ pub fn alternatives(
     n: usize,
 ) -> Passed
     requires room { (level + depth ≤ 8) × (n ≤ 10 * at + 64) × (at ≤ s.now.end) }
-    requires found_alternatives { FoundAlternatives (text s.now) s.now.end depth count at }
-    ensures { (result.n ≤ 10 * result.at + 64) × AlternativesWalked listing (text s.now) s.now.end depth count at
+    requires found_alternatives { FoundAlternatives (words_of s.now) s.now.end depth count at }
+    ensures { (result.n ≤ 10 * result.at + 64) × AlternativesWalked listing (words_of s.now) s.now.end depth count at
         (pen text.old n level) result.at (pen text.new result.n level) }
 {
     let top = level + depth;
