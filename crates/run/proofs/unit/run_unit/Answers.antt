@@ -19,9 +19,13 @@ find_out-ground-requires-clause-standing c = search (rules, loops, begins)
 pub loop-next-init : goal.loop-next-init
 loop-next-init c =
     let b = c.requires.buffers in
-    let g = c.find_out-ground.ensures in
-    (looping_start b.0 b.1 b.2 b.3 b.4 c.requires.begun g.facts_found g.kept_of g.calls_len_2.0 g.calls_len_2.1 (search rules)
-    c.begin-st.ensures, refl, refl, refl)
+    let g = c.find_out-ground.ensures in (
+      looping_start b.0 b.1 b.2 b.3 b.4 c.requires.begun g.facts_found g.kept_of g.calls_len_2.0 g.calls_len_2.1 (search rules)
+          c.begin-st.ensures,
+      refl,
+      refl,
+      refl,
+    )
 
 pub returns-in_err-next-clause-run_of : goal.returns-in_err-next-clause-run_of
 returns-in_err-next-clause-run_of c =
