@@ -220,3 +220,14 @@ def speaks_of_exit(text, name):
     """Whether a clause names what a parameter holds at exit."""
     places = [word.split(".") for word in marked(text)]
     return any(place[0] == name and place[1:2] and place[1] in EXIT for place in places)
+
+
+def speaks_of_last(text):
+    """Whether what stands behind a clause's binders names the last of them, as in `λ x result. result ≡ f x`; a name alone does."""
+    words, last = marked(text), None
+    while words[:1] == ["λ"] and "." in words:
+        at = words.index(".")
+        names = words[1:at]
+        last = names[len(names) - 1 - names[::-1].index("(") + 1] if names[-1:] == [")"] else names[-1]
+        words = words[at + 1 :]
+    return bool(words) and (last is None or any(word.split(".")[0] == last for word in words))
