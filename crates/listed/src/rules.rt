@@ -48,7 +48,7 @@ fn rule_count(s: &Sheet) -> u32
     requires { Ruled (text s.now) s.now.end }
     ensures { Counted (text s.now) s.now.end result }
 {
-    let rules = read_rules(s.bytes).unwrap();
+    let rules = read_rules(s.bytes, s.end).unwrap();
     rules.n
 }
 
