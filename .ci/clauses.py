@@ -2,7 +2,7 @@
 
 It says nothing where it speaks neither of the result nor of what a lent buffer holds at exit, or where a part of it holds by its
 form alone: `Unit`; an equation of two sides that are the same but for order and zeros; `0 ≤ result` and what is like it; what
-follows from something that cannot be, from itself, or from nothing.
+follows from something that cannot be, from itself, or from nothing; a fact for a variant, or one for each, that says nothing.
 """
 
 from collections import Counter
@@ -17,6 +17,8 @@ ARROWS, CHOICES, BOTH = {"→", "→ₛ", "-∗"}, {"⊎", "∨ₛ"}, {"×", "�
 ALWAYS = (["Unit"], ["⊤"], ["⊤ₛ"], ["emp"], ["T", "true"], ["IsTrue", "true"], ["IsFalse", "false"])
 NEVER = (["⊥"], ["⊥ₛ"], ["T", "false"], ["IsTrue", "false"], ["IsFalse", "true"])
 RELATIONS = ("≡", "≤", "<")
+# What says a fact for a variant of an Option or a Result, or one for each, behind the value.
+CASES = ("IfOk", "IfErr", "IfSome", "IfNone", "OnOk", "OnErr", "OnSome", "MatchResult", "MatchOption")
 # What a function returns, and what a parameter that is lent holds at exit.
 RESULT, EXIT = "result", ("new", "exit")
 
@@ -177,6 +179,9 @@ def idle(words):
     parts = split(words, BOTH)
     if len(parts) > 1:
         return next(filter(None, map(idle, parts)), None)
+    if words[:1] and words[0] in CASES:
+        facts = operands(words)[2:]
+        return words if facts and all(map(idle, facts)) else None
     return words if plain(words) in ALWAYS or holds(words) else None
 
 
@@ -220,3 +225,14 @@ def speaks_of_exit(text, name):
     """Whether a clause names what a parameter holds at exit."""
     places = [word.split(".") for word in marked(text)]
     return any(place[0] == name and place[1:2] and place[1] in EXIT for place in places)
+
+
+def speaks_of_last(text):
+    """Whether what stands behind a clause's binders names the last of them, as in `λ x result. result ≡ f x`; a name alone does."""
+    words, last = marked(text), None
+    while words[:1] == ["λ"] and "." in words:
+        at = words.index(".")
+        names = words[1:at]
+        last = names[len(names) - 1 - names[::-1].index("(") + 1] if names[-1:] == [")"] else names[-1]
+        words = words[at + 1 :]
+    return bool(words) and (last is None or last not in bound(words) and any(word.split(".")[0] == last for word in words))

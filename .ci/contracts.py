@@ -1,18 +1,22 @@
 #!/usr/bin/env python3
 """The project's own check of what its crates promise and rest on.
 
-- Every `pub fn` and every `extern "C"` function of a library has an `ensures`, and no part of it holds by
-  its form alone: clauses.py has what that is. Where callers in other crates can reach the function, each
-  `ensures` speaks of the result or of a buffer at exit, and what the function may write to is named there.
-- Every function at the outer boundary has no `requires`: reached.py has what lies there. Functions of
+- Every `pub fn`, every method of a `pub trait` and every `extern "C"` function of a library has an `ensures`,
+  and no part of it holds by its form alone: clauses.py has what that is. Where callers in other crates can
+  reach the function, each `ensures` speaks of the result or of a buffer at exit, and what the function may
+  write to is named there. An `impl` is held to the clauses of its trait by the prover; those of the kit's
+  traits say what the `impl` gives, as `from_gives`, so that such a member is an `ensures` of its methods,
+  and one as `can_add` a `requires`.
+- Every function at the outer boundary has no `requires`, and no type there a ghost field, since whoever
+  makes a value is asked for what such a field says: reached.py has what lies there. Functions of
   open modules may rest on what the reader states, and have one.
 - No `axiom` and no hole stands in an .antt file.
-- No library assumes anything: it uses crates of this repository alone and names nothing of `std` that
-  rests on C, since a library's verdict does not count the axioms of the kit's; and `rt ci`, whose words
-  stand in target/log/ci, has proved it: in that run, and then its last line has neither `foreign=` nor,
-  of a static library, an `axioms=` other than 0, nor a word which says that another run, or another
-  logic than the kit's, is trusted; or in an earlier one, which `rt ci` held to the same but for
-  `axioms=`: tools/archives holds each archive to that.
+- No library assumes anything: it uses crates of this repository alone and names nothing of `std` but its
+  `ops`, the traits of operators, which rest on nothing of C, since a library's verdict does not count the
+  axioms of the kit's; and `rt ci`, whose words stand in target/log/ci, has proved it: in that run, and
+  then its last line has neither `foreign=` nor, of a static library, an `axioms=` other than 0, nor a word
+  which says that another run, or another logic than the kit's, is trusted; or in an earlier one, which
+  `rt ci` held to the same but for `axioms=`: tools/archives holds each archive to that.
 
 One line for each breach, with file and line. usage: contracts.py [ROOT]
 """
@@ -20,8 +24,8 @@ One line for each breach, with file and line. usage: contracts.py [ROOT]
 import pathlib
 import sys
 
-from clauses import says_nothing, speaks_of_exit, speaks_of_outcome
-from heads import functions, lent
+from clauses import says_nothing, speaks_of_exit, speaks_of_last, speaks_of_outcome
+from heads import functions, ghost_fields, lent
 from lexer import BUILT, antt_words, files, line_of, rattle_words
 from reached import Boundary, Library, module_of
 
@@ -32,6 +36,8 @@ KEPT = "is kept: an earlier run on this machine proved the same files over the s
 TRUSTING = ("pinned=no", "cache=", "incremental=", "crate-checked=", "batches=")
 # The libraries that every crate has, and what their prelude has of handles, by which C is reached.
 ROOTS = ("std", "core")
+# What they have of traits alone, and of nothing that rests on C.
+PURE = [["std", ":", ":", "ops", ":", ":"]]
 HANDLES = {"HostRuntime", "LibcRuntime", "Alloc", "AllocGlobal", "Print", "Eprint", "Input", "Lock"}
 
 
@@ -50,16 +56,50 @@ def breaches_of_clauses(function, is_reached):
             yield f"is lent {name}, and no ensures speaks of it at exit"
 
 
+def breaches_of_members(function, is_reached):
+    """What is wrong with a method of an `impl` of a trait of the kit: what it gives stands in the `impl`, or in an `ensures`."""
+    gives = [text for name, text in function.members.items() if name.endswith("_gives")]
+    if function.has("ensures") or not gives:
+        yield from breaches_of_clauses(function, is_reached)
+    for text in gives:
+        if says_nothing(text):
+            yield f"has a member that says nothing: {says_nothing(text)}"
+        elif not speaks_of_last(text):
+            yield "has a member that does not speak of the result"
+
+
+def asks(function, boundary):
+    """Whether a function asks something of its caller: by a clause, its own or of its trait, or by a member of the `impl` around it."""
+    of_trait = function.trait and boundary.trait_asks(function.trait, function.name)
+    return function.has("requires") or of_trait or any(name.startswith("can_") for name in function.members)
+
+
 def breaches_of_functions(where, text, boundary, place):
-    """What is wrong with the open functions of a library's file, and how many there are; `place` has its crate and module."""
+    """What is wrong with the functions of a library's file that callers have, and how many there are; `place` has its crate and
+    module."""
     wrong, seen = [], 0
-    for function in filter(lambda function: function.open(), functions(text)):
+    for function in functions(text):
+        is_reached = boundary.can_reach(*place, function)
+        if function.open():
+            found = list(breaches_of_clauses(function, is_reached))
+        elif function.trait and not boundary.has_trait(place[0], function.trait):
+            found = list(breaches_of_members(function, is_reached))
+        elif function.trait:
+            found = []
+        else:
+            continue
         seen += 1
-        found = list(breaches_of_clauses(function, boundary.can_reach(*place, function)))
-        if boundary.has(*place, function) and function.has("requires"):
+        if boundary.has(*place, function) and asks(function, boundary):
             found.append("is at the outer boundary and has a requires")
         wrong += [f"{where}:{line_of(text, function.place)}: fn {function.name} {what}" for what in found]
     return wrong, seen
+
+
+def breaches_of_types(where, text, boundary, crate):
+    """The types at the outer boundary by which a caller is asked for something."""
+    for name, field, place in ghost_fields(text):
+        if (crate, name) in boundary.names:
+            yield f"{where}:{line_of(text, place)}: type {name} is at the outer boundary and has a ghost field, {field}"
 
 
 def breaches_of_antt(where, text):
@@ -128,8 +168,8 @@ def breaches_of_names(where, text):
     """What a library's file names of the libraries that every crate has, by which it may assume."""
     found = list(rattle_words(text))
     for at, (word, place) in enumerate(found):
-        behind = [after for after, _ in found[at + 1 : at + 3]]
-        if word in HANDLES or (word in ROOTS and behind == [":", ":"]):
+        path = [word, *(after for after, _ in found[at + 1 : at + 6])]
+        if word in HANDLES or (word in ROOTS and path[1:3] == [":", ":"] and path not in PURE):
             yield f"{where}:{line_of(text, place)}: a library names {word}, which may assume"
 
 
@@ -142,7 +182,8 @@ def breaches(root):
         for file, text in library.texts.items():
             where = file.relative_to(root)
             bad, count = breaches_of_functions(where, text, boundary, (crate, module_of(file)))
-            wrong, seen, read = [*wrong, *bad, *breaches_of_names(where, text)], seen + count, read + 1
+            wrong += [*bad, *breaches_of_names(where, text), *breaches_of_types(where, text, boundary, crate)]
+            seen, read = seen + count, read + 1
         wrong += breaches_of_verdicts(root, crate)
     wrong += breaches_of_uses(root)
     for file in files(root, ".antt", BUILT):

@@ -2,7 +2,8 @@
 """Checks that files can be read top to bottom.
 
 - No file of the crates, the tests and the gate has more than 300 lines.
-- No line of a crate's specs, and none of a contract in its code, has more than 140 columns.
+- No line of a crate's specs, and none of a contract in its code, has more than 140 columns; what a ghost member or
+  a ghost field says is of a contract.
 
 One line for each breach. usage: lines.py [ROOT]
 """
@@ -10,8 +11,8 @@ One line for each breach. usage: lines.py [ROOT]
 import pathlib
 import sys
 
-from contracts import functions
-from lexer import BUILT, files, line_of
+from heads import functions, ghost_parts
+from lexer import BUILT, files, line_of, rattle_words
 
 LINES = 300
 COLUMNS = 140
@@ -19,11 +20,15 @@ READ = (("crates", (".antt", ".rt")), ("tests", (".py",)), (".ci", (".py", "run"
 
 
 def contract_lines(text):
-    """The numbers of the lines that hold a clause of a function."""
+    """The numbers of the lines that hold a clause of a function, or what is ghost in a trait, an `impl` or a type."""
     for function in functions(text):
         for _, clause, start in function.clauses:
             first = line_of(text, start)
             yield from range(first, first + clause.count("\n") + 1)
+    for word, at in rattle_words(text):
+        if word == "ghost":
+            name, _, end = ghost_parts(text, at + len(word))
+            yield from range(line_of(text, at), line_of(text, end) + 1) if name != "use" else ()
 
 
 def wide_lines(path, text):

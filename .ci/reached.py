@@ -2,11 +2,11 @@
 
 At the boundary are the `extern "C"` functions; what is open in a library's root file src/lib.rt; what that file hands on with
 `pub use`, from another crate, under another name or with all of a module too; and the types that stand in the heads of such
-functions and in the fields of such types, with their open methods, since a caller has a value of them. What is meant by a name
-is told by the `use` lines; where they leave it open, all that it may mean is at the boundary.
+functions and in the fields of such types, with their open methods and those of traits, since a caller has a value of them. What
+is meant by a name is told by the `use` lines; where they leave it open, all that it may mean is at the boundary.
 """
 
-from heads import functions, open_modules, paths, types, uses
+from heads import functions, open_modules, paths, traits, types, uses
 from lexer import files
 
 
@@ -22,6 +22,7 @@ class Library:
         self.functions = [(module_of(file), function) for file, text in self.texts.items() for function in functions(text)]
         self.types = [(module_of(file), *declared) for file, text in self.texts.items() for declared in types(text).items()]
         self.uses = [(module_of(file), *use) for file, text in self.texts.items() for use in uses(text)]
+        self.traits = {trait for text in self.texts.values() for trait in traits(text)}
         self.modules = {module_of(file) for file in self.texts}
         self.open = self.opened({"lib"})
 
@@ -50,6 +51,17 @@ class Boundary:
     def has(self, crate, module, function):
         is_named = (crate, function.owner or function.name) in self.names
         return function.exported or (crate, module) in self.modules or is_named
+
+    def has_trait(self, crate, trait):
+        """Whether a trait is one of this repository's, by the `use` lines of the crate that gives it."""
+        library = self.libraries[crate]
+        fronts = [path[0] for _, path, local, _ in library.uses if local == trait]
+        return trait in library.traits or any(front in self.libraries for front in fronts)
+
+    def trait_asks(self, trait, name):
+        """Whether a method of some trait of this repository of that name has a `requires`."""
+        every = [function for library in self.libraries.values() for _, function in library.functions]
+        return any(function.has("requires") for function in every if function.in_trait and (function.owner, function.name) == (trait, name))
 
     def add_path(self, crate, path):
         """What a path in a crate leads to: in another crate if its first name is one, in this one otherwise."""
@@ -93,9 +105,10 @@ class Boundary:
                 self.add_path(crate, path)
             elif local == "*" and path[0] in self.libraries:
                 self.add_name(path[0], name)
-        for _, declared, found in library.types:
-            if declared == name:
-                self.add_types(crate, found)
+        own = [found for _, declared, found in library.types if declared == name]
+        for found in own:
+            self.add_types(crate, found)
         for _, function in library.functions:
-            if function.open() and (function.owner or function.name) == name:
+            # what an `impl` of a trait has for a type of the language, as `u32::from`, is no way to one of these types
+            if (function.open() or (own and function.trait)) and (function.owner or function.name) == name:
                 self.add_types(crate, paths(function.words))

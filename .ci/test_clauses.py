@@ -3,7 +3,7 @@
 
 import unittest
 
-from clauses import says_nothing, speaks_of_exit, speaks_of_outcome
+from clauses import says_nothing, speaks_of_exit, speaks_of_last, speaks_of_outcome
 
 NOTHING = (
     "Unit",
@@ -29,6 +29,13 @@ NOTHING = (
     "(result ≡ x + x) × (f  x.n ≡ (f x.n))",
     "⌜ result ≡ x ⌝ ∗ ⌜ ◌≡◌ {A = ℕ} (g x) (g x) ⌝",
     "Each (λ y. y ≡ y) result",
+    # variants
+    "IfOk result (λ _. Unit)",
+    "(result ≡ Ok x) × IfErr result (λ e. 0 ≤ e)",
+    "IfNone result ⊤",
+    "MatchResult result (λ _. Unit) (λ e. IsTrue true)",
+    "MatchOption (f result) Unit (λ v. (v ≡ x) × Unit)",
+    "IfOk result (λ n. n ≡ n)",
     # order
     "0 ≤ result",
     "(result ≡ x) × (0 ≤ result)",
@@ -60,6 +67,11 @@ NOTHING = (
     "(result ≡ x) ⊎ (result ≡ x → ⊥)",
 )
 SOMETHING = (
+    "IfOk result (λ n. n ≡ x)",
+    "IsOkAnd result (λ _. Unit)",
+    "MatchResult result (λ _. Unit) (λ e. e ≡ x)",
+    "MatchOption result (x ≡ 0) (λ v. IsPlace v x)",
+    "IfOk result F",
     "result ≡ x",
     "result ≡ 0",
     "result.n ≡ result.m",
@@ -117,6 +129,12 @@ class Clauses(unittest.TestCase):
         ):
             with self.subTest(clause):
                 self.assertFalse(speaks_of_outcome(clause))
+
+    def test_last(self):
+        for clause in ("λ x y. y ≡ f x", "λ x. λ r. F r.n", "λ (x : ℕ) (r : ℕ). r ≡ x", "F", "λ x r. IfOk r (λ n. n ≡ x)"):
+            self.assertTrue(speaks_of_last(clause), clause)
+        for clause in ("λ x y. x ≡ f x", "λ x. λ r. F x", "λ (x : ℕ) (r : ℕ). x ≡ 1", "", "λ x r. (r : ℕ) → F r", "λ x r. F x.r", "λ x r. F rr"):
+            self.assertFalse(speaks_of_last(clause), clause)
 
     def test_exit(self):
         for clause in ("F s.new", "F t.old s.new.items", "⌜ F s.exit ⌝"):

@@ -16,6 +16,17 @@ CODE = """pub fn f(x: u32) -> u32
     {}
 }}
 """
+GHOSTS = """ghost use Rattle.{{x}};
+pub trait T {{
+    ghost A: {{ x }} = {{ F
+        {} }};
+    fn f(&self);
+}}
+pub struct S {{
+    n: u32,
+    ghost room: {{ {} }},
+}}
+"""
 
 
 class Lines(unittest.TestCase):
@@ -47,6 +58,12 @@ class Lines(unittest.TestCase):
         self.assertEqual(self.breaches(name, CODE.format("x", wide, wide * 2)), [])
         self.assertEqual(self.breaches(name, CODE.format(wide, "x", "x")), [f"{name}:2: 149 columns"])
         self.assertEqual(self.breaches(name, CODE.format("x", wide + "x", "x")), [f"{name}:4: 141 columns"])
+
+    def test_wide_lines_of_ghosts(self):
+        wide, name = "x" * 127, "crates/a/src/lib.rt"
+        self.assertEqual(self.breaches(name, GHOSTS.format(wide, "x")), [])
+        self.assertEqual(self.breaches(name, GHOSTS.format(wide * 2, "x")), [f"{name}:4: 265 columns"])
+        self.assertEqual(self.breaches(name, GHOSTS.format("x", wide)), [f"{name}:9: 148 columns"])
 
 
 if __name__ == "__main__":

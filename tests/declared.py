@@ -46,12 +46,25 @@ class Header:
 
 
 def constants(sources):
-    """The associated constants of Rattle sources, as Type::NAME."""
+    """The associated constants of Rattle sources, as Type::NAME, and the numbers of their enums, as `From` gives them, as Type::Name."""
     found = {}
     for source in sources:
-        for owner, body in re.findall(r"^impl (\w+) \{\n(.*?)^\}", source, re.S | re.M):
+        for owner, body in re.findall(r"^impl (\w+)(?:<'_>)? \{\n(.*?)^\}", source, re.S | re.M):
             for name, value in re.findall(r"pub const (\w+): \w+ = (\d+);", body):
                 found[f"{owner}::{name}"] = int(value)
+        found.update(numbers(source))
+    return found
+
+
+def numbers(source):
+    """Of each enum of a source the number of each variant, where `From<..> for u32` has an arm for each and no other."""
+    found = {}
+    for owner, body in re.findall(r"^pub enum (\w+) \{\n(.*?)^\}", source, re.S | re.M):
+        variants = re.findall(r"^    (\w+),$", body, re.M)
+        given = re.search(rf"^impl From<{owner}> for u32 \{{\n(.*?)^\}}", source, re.S | re.M)
+        arms = re.findall(rf"\b{owner}::(\w+) => (\d+),\n", given[1]) if given else []
+        if [name for name, _ in arms] == variants:
+            found.update({f"{owner}::{name}": int(value) for name, value in arms})
     return found
 
 

@@ -16,7 +16,7 @@ import tempfile
 from compiled import NAMES, ROOT, make_checks, program_checks, symbol_checks, told
 from declared import Header, constants, entries, figures, paragraph, rust_texts
 
-# Of each number of the header the constant in the crates.
+# Of each number of the header the constant in the crates, or the variant whose number it is.
 CONSTANTS = {
     "PASS_SHEET_LEAST_BYTES": "Sheet::LEAST_BYTES",
     "PASS_SHEET_MOST_BYTES": "Sheet::MOST_BYTES",
@@ -24,11 +24,34 @@ CONSTANTS = {
     "PASS_TRAIL_BYTES": "Buffer::TRAIL",
     "PASS_WORK_BYTES": "Work::BYTES",
     **{f"PASS_{name}": f"Sort::{name}" for name in ("RULE", "ALTERNATIVE", "ELEMENT", "LABEL", "ACTION", "PREDICATE")},
-    **{
-        f"PASS_{name}": f"Refusal::{name}"
-        for name in ("BAD_LENGTH", "SHORT_BUFFER", "BAD_TRAILER", "BAD_RECORD", "SHARED_NUMBER", "ID_PAST_COUNTER")
-    },
+    "PASS_BAD_LENGTH": "Refusal::BadLength",
+    "PASS_SHORT_BUFFER": "Refusal::ShortBuffer",
+    "PASS_BAD_TRAILER": "Refusal::BadTrailer",
+    "PASS_BAD_RECORD": "Refusal::BadRecord",
+    "PASS_SHARED_NUMBER": "Refusal::SharedNumber",
+    "PASS_ID_PAST_COUNTER": "Refusal::IdPastCounter",
+    "PASS_PLAN_TOO_LARGE": "Refusal::PlanTooLarge",
+    "PASS_COUNTER_PAST_END": "Refusal::CounterPastEnd",
+    "PASS_RESULT_TOO_LARGE": "Refusal::ResultTooLong",
+    "PASS_RULE_BOUNDARY": "Reason::RuleBoundary",
+    "PASS_BLOCK_BOUNDARY": "Reason::BlockBoundary",
 }
+# The clauses of plans.h.
+CLAUSES = {
+    "PLANS_NO_HUB": "Clause::NoHub",
+    "PLANS_HUB_WITH_ARGUMENTS": "Clause::HubWithArguments",
+    "PLANS_SATELLITE_NOT_INLINABLE": "Clause::SatelliteNotInlinable",
+    "PLANS_BEYOND_BUDGET": "Clause::Budget",
+    "PLANS_DANGLING_REFERENCE": "Clause::DanglingReference",
+    "PLANS_BLOCKED_CORNER": "Clause::BlockedCorner",
+    "PLANS_LABEL_COLLISION": "Clause::LabelCollision",
+    "PLANS_BINDING_COLLISION": "Clause::BindingCollision",
+    "PLANS_OPTION_COLLISION": "Clause::OptionCollision",
+    "PLANS_NO_STEPS": "Clause::NoSteps",
+    "PLANS_NOT_REWRITABLE": "Clause::NotDirectlyRewritable",
+}
+# Where what a header has of the crates below stands: limits, and enums with their numbers.
+SHARED = ("words/src/numbers.rt", "words/src/sheet.rt", "reach/src/rows.rt", "copies/src/pen.rt", "steps/src/decide.rt")
 # The paragraphs of the specification whose numbers a refusal's text may have.
 PARAGRAPHS = {1: ["4.1"], 2: ["3.1"], 3: ["2.3"], 4: ["2.15", "2.19"], 5: [], 6: [], 7: ["4.7"], 8: ["4.8"], 9: ["4.9"]}
 # Where the numbers of a sheet stand, by their names in the crate.
@@ -48,8 +71,7 @@ class Sources:
         read = lambda path: path.read_text(encoding="utf-8")
         # what a library exports to C stands in a crate of its own, over it
         own = [path for crate in (name, f"{name}_c") for path in sorted((root / "crates" / crate / "src").glob("*.rt"))]
-        shared = [root / "crates" / "words" / "src" / "numbers.rt", root / "crates" / "reach" / "src" / "rows.rt"]
-        self.crates = [read(path) for path in [*shared, *own]]
+        self.crates = [read(path) for path in [*(root / "crates" / path for path in SHARED), *own]]
         self.specification = read(root / "docs" / "SPECIFICATION.md")
         rust = root / "rust" / "mutual-recursion" / "src"
         self.refusals, self.clauses, self.rust = read(rust / "refusal.rs"), read(rust / "clause.rs"), read(rust / "lib.rs")
@@ -133,6 +155,8 @@ def further_checks(name, header, sources):
 def clause_checks(header, sources):
     """Each clause's number and text against the Rust crate's and the specification's."""
     names, texts = header.enums["plans_clause"], rust_texts(sources.clauses, "Clause", "PLANS")
+    yield from constant_checks(header, sources, CLAUSES)
+    yield "plans.h has the clauses of the crate", list(CLAUSES) == names
     yield "clauses 1 to 11", [header.values[name] for name in names] == list(range(1, 12))
     yield "the Rust crate has the same clauses", list(texts) == names
     for number, name in enumerate(names, 1):

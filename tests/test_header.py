@@ -16,6 +16,23 @@ impl Sheet {
     pub const MOST_BYTES: usize = 32768;
 }
 """
+ENUM = """#[derive(Clone, Copy)]
+pub enum Why {
+    BadLength,
+    ShortBuffer,
+}
+
+impl From<Why> for u32 {
+    ghost from_gives = { λ why number. number ≡ why_number why };
+
+    fn from(why: Why) -> u32 {
+        match why {
+            Why::BadLength => 1,
+            Why::ShortBuffer => 2,
+        }
+    }
+}
+"""
 ENTRY = """#[unsafe(no_mangle)]
 pub extern "C" fn pass(
     sheet: &[u8],
@@ -55,7 +72,9 @@ class Kept(unittest.TestCase):
             ("ENTRY_BYTES 16", "ENTRY_BYTES 12", "an entry of 12.1"),
             ("PASS_LABEL = 4", "PASS_LABEL = 5", "the kinds of 12.2"),
             ("PASS_RULE_BOUNDARY = 1", "PASS_RULE_BOUNDARY = 3", "the reasons of 12.3"),
-            ("PASS_BAD_RECORD = 4", "PASS_BAD_RECORD = 5", "PASS_BAD_RECORD is Refusal::BAD_RECORD"),
+            ("PASS_BAD_RECORD = 4", "PASS_BAD_RECORD = 5", "PASS_BAD_RECORD is Refusal::BadRecord"),
+            ("PASS_RULE_BOUNDARY = 1", "PASS_RULE_BOUNDARY = 3", "PASS_RULE_BOUNDARY is Reason::RuleBoundary"),
+            ("PASS_RESULT_TOO_LARGE = 9", "PASS_RESULT_TOO_LARGE = 10", "PASS_RESULT_TOO_LARGE is Refusal::ResultTooLong"),
             ("PASS_RESULT_TOO_LARGE = 9", "PASS_RESULT_TOO_LARGE = 10", "refusals 1 to 9"),
             ("over 128 rules", "over 127 rules", "PASS_BAD_RECORD has the specification's numbers"),
             ('VERSION "0.1.0"', 'VERSION "0.1.1"', "the version is the Rust crate's"),
@@ -64,6 +83,22 @@ class Kept(unittest.TestCase):
         ):
             with self.subTest(old=old):
                 self.assertIn(what, set(self.edited(old, new)) - set(before))
+
+    def test_edits_of_the_source(self):
+        kept = self.sources.crates
+        self.assertEqual(not_so(header.number_checks(header.Header(self.text), self.sources)), [])
+        for old, new, what in (
+            ("Refusal::BadRecord => 4,", "Refusal::BadRecord => 5,", {"PASS_BAD_RECORD is Refusal::BadRecord"}),
+            ("Reason::RuleBoundary => 1,", "Reason::RuleBoundary => 2,", {"PASS_RULE_BOUNDARY is Reason::RuleBoundary"}),
+            ("LEAST_BYTES: usize = 32;", "LEAST_BYTES: usize = 28;", {"PASS_SHEET_LEAST_BYTES is Sheet::LEAST_BYTES"}),
+            # a number told of no variant, or of a variant that is not there, holds nothing
+            ("            Reason::BlockBoundary => 2,\n", "", {f"PASS_{one.upper()}_BOUNDARY is Reason::{one}Boundary" for one in ("Rule", "Block")}),
+        ):
+            with self.subTest(new=new):
+                self.sources.crates = [text.replace(old, new) for text in kept]
+                self.assertNotEqual(self.sources.crates, kept)
+                self.assertEqual(set(not_so(header.number_checks(header.Header(self.text), self.sources))), what)
+        self.sources.crates = kept
 
 
 class Others(unittest.TestCase):
@@ -87,6 +122,8 @@ class Others(unittest.TestCase):
             ("facts", "calls[128][2]", "calls[2][128]", "find_facts takes what the crate's function takes"),
             ("plans", "PLANS_NONE,  ", "", "plans.h has a name for each number"),
             ("plans", "PLANS_NO_STEPS = 10", "PLANS_NO_STEPS = 12", "clauses 1 to 11"),
+            ("plans", "PLANS_NO_STEPS = 10", "PLANS_NO_STEPS = 12", "PLANS_NO_STEPS is Clause::NoSteps"),
+            ("plans", "PLANS_BEYOND_BUDGET = 4", "PLANS_TOO_MANY_STEPS = 4", "plans.h has the clauses of the crate"),
             ("plans", "a blocked corner: an alt", "a blocked corner: the alt", "PLANS_BLOCKED_CORNER has the Rust crate's text"),
             ("plans", "no steps: ", "no step: ", "PLANS_NO_STEPS is clause 10"),
             ("plans", "uint32_t nth,", "uint32_t *nth,", "plan_nth takes what the crate's function takes"),
@@ -113,6 +150,18 @@ class Alike(unittest.TestCase):
 class Parts(unittest.TestCase):
     def test_constants(self):
         self.assertEqual(declared.constants([NUMBERS]), {"Sheet::LEAST_BYTES": 32, "Sheet::MOST_BYTES": 32768})
+
+    def test_numbers(self):
+        self.assertEqual(declared.constants([ENUM]), {"Why::BadLength": 1, "Why::ShortBuffer": 2})
+        for old, new in (
+            ("            Why::ShortBuffer => 2,\n", ""),
+            ("Why::ShortBuffer => 2,\n", "_ => 2,\n"),
+            ("From<Why> for u32", "From<Why> for u64"),
+            ("    ShortBuffer,\n}", "    ShortBuffer,\n    BadTrailer,\n}"),
+        ):
+            with self.subTest(new=new):
+                self.assertEqual(declared.constants([ENUM.replace(old, new)]), {})
+        self.assertEqual(declared.constants(["impl Sheet<'_> {\n    pub const LEAST_BYTES: usize = 32;\n}\n"]), {"Sheet::LEAST_BYTES": 32})
 
     def test_figures(self):
         self.assertEqual(declared.figures("Refusal 4: 1 to 4,294,967,295 (2.15), 8 deep."), {1, 4294967295, 8})
