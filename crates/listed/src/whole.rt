@@ -5,8 +5,8 @@ ghost use Rattle.listed.specs.Put.{Filled};
 ghost use Rattle.listed.specs.Ready.{Held, Recorded, RulesEnd, JoinedPut, most_text};
 
 use crate::entries::list_entries;
-use crate::lines::line;
 use crate::rules::list_rules;
+use crate::text::Text;
 use words::sheet::Sheet;
 use words::words::word;
 
@@ -14,7 +14,9 @@ use words::words::word;
 pub fn list_refused(number: u32, text: &mut [u8]) -> usize
     ensures { Filled text.old text.new result (listed_refusal number) most_text }
 {
-    line(text, 0, b"refused", &[number])
+    let mut out = Text { bytes: text, n: 0 };
+    out.line(b"refused", &[number]);
+    out.n
 }
 
 // Where the rules of a sheet of n words end: in front of the preserved ids, whose number its trailer has.
@@ -43,8 +45,10 @@ pub fn list_joined(
         text.old text.new result }
 {
     let end = rules_end(res, n);
-    let p = line(text, 0, b"ok", &[plans, steps]);
+    let mut out = Text { bytes: text, n: 0 };
+    out.line(b"ok", &[plans, steps]);
     let s = Sheet { bytes: res, end };
-    let q = list_rules(&s, text, p);
-    list_entries(trail, entries, text, q)
+    list_rules(&s, &mut out);
+    list_entries(trail, entries, &mut out);
+    out.n
 }

@@ -12,7 +12,6 @@ use Rattle.grammar.specs.Tree.{ElementHead, Leaf, epsilon, action, predicate, ca
 use Rattle.grammar.specs.Encode.{leaf_kind, encode_leaf}
 use Rattle.grammar.specs.Valid.{ok_leaf}
 use Rattle.grammar.specs.Found.{HeadAt}
-use Rattle.grammar.specs.Fold.{AlternativesWalked}
 use Rattle.grammar.specs.Laws.Stands.{stands_head}
 use Rattle.grammar.specs.Laws.Complete.{leaf_kind_lem}
 use Rattle.grammar.specs.Laws.Opened.{HeadWords}
@@ -110,10 +109,3 @@ module _ {ws : List ℕ} {end at : ℕ} {b a : List ℕ} {n r level : ℕ} where
       record { is = λ z q u. put_is level x.put ∙ ap (put (pen b n level)) (ap (alternative_line level) u.id) }
 
 pub ruleset walks = (list_leaf, list_block, list_alternative)
-
--- All that was walked, in the buffer as the walk leaves it.
-pub listed_alternatives : (d : ℕ) {ws : List ℕ} {end m at p : ℕ} {b a left : List ℕ} {n r level from to : ℕ} → left ≡ a → from ≡ level
-    → to ≡ level
-    → AlternativesWalked listing ws end d m at (pen b n from) p (pen a r to)
-    → AlternativesWalked listing ws end d m at (pen b n level) p (pen left r level)
-listed_alternatives d same e f w = rw same (rw (e, f) at w)

@@ -4,12 +4,12 @@ use Rattle.listed.proofs.Laws.Rules.{steps}
 use Rattle.listed.proofs.Laws.Rules.{listing_room}
 
 -- src/rules.rt:40:13
-pub rule-r-requires-clause-room : goal.rule-r-requires-clause-room
-rule-r-requires-clause-room c = search (rules, steps, listing_room)
+pub rule-p-requires-clause-room : goal.rule-p-requires-clause-room
+rule-p-requires-clause-room c = search (rules, steps, listing_room)
 
 -- src/rules.rt:40:13
-pub rule-r-requires-clause-found_rule : goal.rule-r-requires-clause-found_rule
-rule-r-requires-clause-found_rule c = search (rules, steps)
+pub rule-p-requires-clause-found_rule : goal.rule-p-requires-clause-found_rule
+rule-p-requires-clause-found_rule c = search (rules, steps)
 
 -- src/rules.rt:39:5
 pub loop-preserved : goal.loop-preserved

@@ -1,5 +1,5 @@
 use Rattle.std.proofs.Common.{rules}
-use Rattle.listed.proofs.lines.line.Goals as goal
+use Rattle.listed.proofs.text.Text.line.Goals as goal
 use Rattle.listed.proofs.Laws.Lines.{lines}
 
 pub loop-w-init : goal.loop-w-init
