@@ -3,11 +3,11 @@ ghost use Rattle.std.specs.Prelude.{◌≡◌, [], ◌∷◌, ◌+◌, ◌-◌, 
 ghost use Rattle.std.proofs.Common.{rules};
 ghost use Rattle.grammar.specs.Numbers.{kind_end};
 ghost use Rattle.grammar.specs.Tree.{inner_depth};
-ghost use Rattle.grammar.specs.Words.{words};
 ghost use Rattle.listed.specs.Text.{line};
 ghost use Rattle.listed.specs.Listed.{element_word, alternative_line};
 ghost use Rattle.listed.specs.Put.{WroteFew};
 ghost use Rattle.listed.specs.Walk.{Pen, pen, listing, name_of};
+ghost use Rattle.words.specs.Sheet.{text};
 
 use crate::text::Text;
 use words::numbers::{Block, Kind};
@@ -17,16 +17,14 @@ use words::walk::Head;
 use words::words::word;
 
 // The name of a call or a token; else 0.
+#[tactic(auto, unfolding(crate::specs::Walk::name_of))]
 fn name_of(kind: u32, w: u32) -> u32
     ensures { result ≡ name_of kind w }
 {
-    if kind == Kind::CALL {
-        return w;
+    match kind {
+        Kind::CALL | Kind::TOKEN => w,
+        _ => 0,
     }
-    if kind == Kind::TOKEN {
-        return w;
-    }
-    0
 }
 
 // The level of what stands at a depth: how many blocks it is in.
@@ -38,28 +36,30 @@ fn level(depth: u32) -> u32
 }
 
 // The line of the element at `at` itself.
-fn element_line(s: &[u8], at: usize, kind: u32, payload: usize, level: u32, out: &mut Text<'_>)
-    requires { (4 * at + 12 ≤ length s.now) × (4 * payload + 4 ≤ length s.now) × (out.old.n < 2 ^ 35) }
+fn element_line(s: &Sheet, depth: u32, at: usize, head: Head, out: &mut Text<'_>)
+    requires words { (4 * at + 12 ≤ length s.now.bytes.now) × (4 * head.payload + 4 ≤ length s.now.bytes.now) }
+    requires room { (depth ≤ inner_depth) × (out.old.n < 2 ^ 35) }
     ensures { WroteFew out.old out.new
-        (line element_word (level ∷ get_or (words s.now) at 0 ∷ kind ∷ get_or (words s.now) (at + 2) 0 / kind_end
-        ∷ name_of kind (get_or (words s.now) payload 0) ∷ [])) 57 }
+        (line element_word ((inner_depth - depth) ∷ get_or (text s.now) at 0 ∷ head.kind ∷ get_or (text s.now) (at + 2) 0 / kind_end
+        ∷ name_of head.kind (get_or (text s.now) head.payload 0) ∷ [])) 57 }
 {
-    let id = word(s, at);
-    let quantifier = word(s, at + 2) / Kind::END;
-    let name = name_of(kind, word(s, payload));
-    out.line(b"e", &[level, id, kind, quantifier, name]);
+    let id = word(s.bytes, at);
+    let quantifier = word(s.bytes, at + 2) / Kind::END;
+    let name = name_of(head.kind, word(s.bytes, head.payload));
+    out.line(b"e", &[level(depth), id, head.kind, quantifier, name]);
 }
 
 // The line of the alternative at `at` itself.
-fn alternative_line(s: &[u8], at: usize, level: u32, out: &mut Text<'_>)
-    requires { (4 * at + 4 ≤ length s.now) × (out.old.n < 2 ^ 35) }
-    ensures { WroteFew out.old out.new (alternative_line level (get_or (words s.now) at 0)) 24 }
+fn alternative_line(s: &Sheet, depth: u32, at: usize, out: &mut Text<'_>)
+    requires room { (4 * at + 4 ≤ length s.now.bytes.now) × (depth ≤ inner_depth) × (out.old.n < 2 ^ 35) }
+    ensures { WroteFew out.old out.new (alternative_line (inner_depth - depth) (get_or (text s.now) at 0)) 24 }
 {
-    let id = word(s, at);
-    out.line(b"a", &[level, id]);
+    let id = word(s.bytes, at);
+    out.line(b"a", &[level(depth), id]);
 }
 
 // A text lists what a walk from the outermost level on passes.
+#[tactic(auto, using(crate::proofs::Laws::Walk::walks))]
 impl Visitor for Text<'_> {
     ghost State = { Pen };
 
@@ -72,18 +72,15 @@ impl Visitor for Text<'_> {
     ghost Kept = { λ ws end a b. b.bytes.ghost_name ≡ a.bytes.ghost_name };
 
     fn leaf(&mut self, s: &Sheet, depth: u32, at: usize, head: Head) {
-        let level = level(depth);
-        element_line(s.bytes, at, head.kind, head.payload, level, self);
+        element_line(s, depth, at, head, self);
     }
 
     fn enter_block(&mut self, s: &Sheet, depth: u32, at: usize, head: Head) {
-        let level = level(depth);
-        element_line(s.bytes, at, head.kind, head.payload, level, self);
+        element_line(s, depth, at, head, self);
     }
 
     fn enter_alternative(&mut self, s: &Sheet, depth: u32, at: usize) {
-        let level = level(depth);
-        alternative_line(s.bytes, at, level, self);
+        alternative_line(s, depth, at, self);
     }
 
     ghost laws = { Prim.search rules };

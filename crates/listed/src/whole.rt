@@ -20,6 +20,7 @@ pub fn list_refused(number: u32, text: &mut [u8]) -> usize
 }
 
 // Where the rules of a sheet of n words end: in front of the preserved ids, whose number its trailer has.
+#[tactic(auto, using(crate::proofs::Laws::Whole::listings))]
 fn rules_end(res: &[u8], n: usize) -> usize
     requires { Held res.now n }
     ensures { RulesEnd res.now n result }

@@ -7,5 +7,5 @@ pub walk_alternatives-requires-clause-found_alternatives :
     goal.walk_alternatives-requires-clause-found_alternatives
 walk_alternatives-requires-clause-found_alternatives c = search (rules, bodies, ruled)
 
-pub returns : goal.returns
-returns c = search (rules, bodies, ruled)
+pub returns-clause-listed : goal.returns-clause-listed
+returns-clause-listed c = search (rules, bodies, ruled)

@@ -1,7 +1,6 @@
-use mathlib.Core.Path.{◌≡◌}
-use Rattle.listed.proofs.Laws.Put.{Writing}
+use lib.ListN.{take}
+use Rattle.listed.specs.Put.{Wrote}
 use Rattle.listed.proofs.text.Text.write.Given as goal
 
 abbrev pub invariant-loop-b : goal.invariant-loop-b
-invariant-loop-b l = (l.self.bytes.ghost_name ≡ l.initial.self.bytes.ghost_name)
-    × Writing l.initial.self.bytes.now l.initial.self.n l.word l.self.bytes.now l.b-index l.self.n
+invariant-loop-b l = Wrote l.fn.self l.self (take l.b-index l.word)
