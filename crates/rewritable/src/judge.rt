@@ -109,6 +109,6 @@ pub fn judge(
     ensures { JudgedFound (text s.now) s.now.end rules known members hub work.now l result }
 {
     let names = rules.names;
-    let table = &s[..0];
+    let table = &s.bytes[..0];
     judge_list(s, Block::DEPTH, &names, known, table, members, hub, work, l)
 }

@@ -1,6 +1,9 @@
 use Rattle.std.proofs.Common.{rules}
 use Rattle.facts.proofs.find_facts.Goals as goal
-use Rattle.facts.proofs.Laws.Told.{tellings}
+use Rattle.facts.proofs.Laws.Told.{read_room, tellings}
+
+pub invariant_of-s : goal.invariant_of-s
+invariant_of-s c = record { room = read_room _ _ c.in-Ok.ensures.read_as }
 
 -- src/lib.rt:83:17
 pub tell-t-requires-clause-room : goal.tell-t-requires-clause-room

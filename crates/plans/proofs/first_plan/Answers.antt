@@ -4,10 +4,13 @@ use Rattle.facts.proofs.Laws.Told as facts
 use Rattle.plans.proofs.Laws.Ground.{read_small, read_kept}
 use Rattle.plans.proofs.Laws.Told.{first_sheet}
 
+pub invariant_of-s : goal.invariant_of-s
+invariant_of-s c = record { room = facts.read_room _ _ c.in-Ok.ensures.read_as }
+
 pub decide_first-found-requires-clause-room : goal.decide_first-found-requires-clause-room
 decide_first-found-requires-clause-room c =
     let o = c.in-Ok.ensures in
-    (facts.read_room _ _ o.read_as, read_small _ _ o.read_as, facts.read_work _ _ o.read_as o.work_after, read_kept _ _ o.read_as refl)
+    (read_small _ _ o.read_as, facts.read_work _ _ o.read_as o.work_after, read_kept _ _ o.read_as refl)
 
 pub decide_first-found-requires-clause-standing : goal.decide_first-found-requires-clause-standing
 decide_first-found-requires-clause-standing c = facts.read_rules _ _ c.in-Ok.ensures.read_as

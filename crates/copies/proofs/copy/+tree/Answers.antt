@@ -76,7 +76,7 @@ copy_element-returns t c = search (rules, trees)
 -- src/copy.rt:76:13
 pub copy_elements-copy_element-c-requires : goal.copy_elements-copy_element-c-requires
 copy_elements-copy_element-c-requires t c =
-    (omega arith, (search rules, copying_fits c.loop.invariant (search growth) (search rules)))
+    (omega arith, copying_fits c.loop.invariant (search growth) (search rules))
 
 -- src/copy.rt:75:5
 pub copy_elements-loop-preserved : goal.copy_elements-loop-preserved
