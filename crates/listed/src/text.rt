@@ -40,6 +40,7 @@ impl Text<'_> {
     }
 
     // A number in decimal.
+    // Stays: what `write!` writes is promised only where it returns `Ok`, and no listing can fail; the digits have their own definition.
     pub fn decimal(&mut self, w: u32)
         requires { self.old.n < 2 ^ 39 }
         ensures { WroteFew self.old self.new (T.decimal w) 10 }

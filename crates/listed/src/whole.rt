@@ -11,6 +11,7 @@ use words::sheet::Sheet;
 use words::words::word;
 
 // The line of a refusal.
+// Stays: the refusal is told by its number, since the line is promised for every number and not for the nine refusals alone.
 pub fn list_refused(number: u32, text: &mut [u8]) -> usize
     ensures { Filled text.old text.new result (listed_refusal number) most_text }
 {
@@ -32,6 +33,7 @@ fn rules_end(res: &[u8], n: usize) -> usize
 
 // The sheet and the trail that the pass hands back, with its plans and steps. The sheet has so many words, the trail so many
 // entries.
+// Stays: both stand at the front of buffers that are longer, and a caller need not cut a slice of just that length.
 pub fn list_joined(
     res: &[u8],
     n: usize,

@@ -19,14 +19,6 @@ sets_append (x ∷ xs) ys l i =
 pub put_none : (b : List ℕ) (n : ℕ) → Put b b n n []
 put_none b n = record { is = refl; long = refl; moved = omega arith }
 
--- One byte, and one that has no room.
-module _ {b : List ℕ} {n : ℕ} (x : ℕ) where
-  pub put_byte : {a : List ℕ} → a ≡ set b n x → Put b a n (n + 1) (x ∷ [])
-  put_byte e = record { is = e; long = ap length e ∙ simp length-set; moved = refl }
-
-  pub put_out : length b ≤ n → Put b b n (n + 1) (x ∷ [])
-  put_out h = record { is = sym (set_out b n x h); long = refl; moved = refl }
-
 -- One text and another behind it.
 pub put_then : {b m a : List ℕ} {n p q : ℕ} {xs ys : List ℕ} → Put b m n p xs → Put m a p q ys → Put b a n q (xs ++ ys)
 put_then {b} {m} {a} {n} {p} {q} {xs} {ys} v w =

@@ -41,34 +41,6 @@ name_block : (w : ℕ) → name_of block_kind w ≡ 0
 unfolding name_of
 name_block w = refl
 
--- The same by the code's tests.
-module _ {k : ℕ} (w : ℕ) where
-  pub name_call : k ≡ call_kind → w ≡ name_of k w
-  unfolding name_of
-  name_call e = rw e refl
-
-  pub name_token : k ≡ token_kind → w ≡ name_of k w
-  unfolding name_of
-  name_token e = rw e refl
-
-  pub name_none : (k ≡ call_kind → ⊥) → (k ≡ token_kind → ⊥) → 0 ≡ name_of k w
-  unfolding name_of
-  name_none g h = rw (ne_eqb k call_kind g, ne_eqb k token_kind h, name_of) refl
-
-pub ruleset names = (name_call, name_token, name_none)
-
--- Lines of numbers that were read.
-module _ {b a : List ℕ} {n r most : ℕ} (word : List ℕ) where
-  pub line_read : (v : ℕ) {w x : ℕ} → w ≡ x → PutFew b a n r (line word (v ∷ w ∷ [])) most → PutFew b a n r (line word (v ∷ x ∷ [])) most
-  line_read v e p = rw e at p
-
-  pub lines_read : (level kind : ℕ) {id x packed y name w z : ℕ} → id ≡ x → packed ≡ y → w ≡ z → name ≡ name_of kind w
-      → PutFew b a n r (line word (level ∷ id ∷ kind ∷ packed / 256 ∷ name ∷ [])) most
-      → PutFew b a n r (line word (level ∷ x ∷ kind ∷ y / 256 ∷ name_of kind z ∷ [])) most
-  lines_read level kind e f h g p = rw (e, f, g, h) at p
-
-pub ruleset reads = (line_read, lines_read)
-
 -- The line of an element by its words.
 abbrev line_at : (ws : List ℕ) (level at kind payload : ℕ) → List ℕ
 line_at ws level at kind payload =
