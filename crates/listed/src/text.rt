@@ -1,30 +1,13 @@
 // Text written into a lent buffer as far as it fits. The place goes on past the end, so that the whole length is known.
-ghost use Rattle.std.specs.Prelude.{◌≡◌, [], ◌∷◌, ◌++◌, ◌+◌, ◌<◌, ◌≤◌, ◌^◌, length};
-ghost use Rattle.grammar.specs.Lists.{each};
+ghost use Rattle.std.specs.Prelude.{◌≡◌, [], ◌∷◌, ◌+◌, ◌<◌, ◌^◌, length};
 ghost use Rattle.listed.specs.Text as T;
-ghost use Rattle.listed.specs.Put.{Put, PutFew};
+ghost use Rattle.listed.specs.Put.{Wrote, WroteFew};
 
-// One byte.
-pub fn push(text: &mut [u8], n: usize, b: u8) -> usize
-    requires { n < 2 ^ 40 }
-    ensures { Put text.old text.new n result (b ∷ []) }
-{
-    if n < text.len() {
-        text[n] = b;
-    }
-    n + 1
-}
-
-// Several bytes.
-pub fn write(text: &mut [u8], n: usize, word: &[u8]) -> usize
-    requires { n + length word.now < 2 ^ 40 }
-    ensures { Put text.old text.new n result word.now }
-{
-    let mut p = n;
-    for b in word {
-        p = push(text, p, *b);
-    }
-    p
+// The buffer, and how long the text in it is so far.
+#[derive(Drop)]
+pub struct Text<'a> {
+    pub bytes: &'a mut [u8],
+    pub n: usize,
 }
 
 fn digit(d: u32) -> u8
@@ -34,14 +17,39 @@ fn digit(d: u32) -> u8
     b'0' + d as u8
 }
 
-// A number in decimal.
-pub fn decimal(text: &mut [u8], n: usize, w: u32) -> usize
-    requires { n < 2 ^ 39 }
-    ensures { PutFew text.old text.new n result (T.decimal w) 10 }
-{
-    if w < 10 {
-        return push(text, n, digit(w));
+impl Text<'_> {
+    // One byte.
+    pub fn push(&mut self, b: u8)
+        requires { self.old.n < 2 ^ 40 }
+        ensures { Wrote self.old self.new (b ∷ []) }
+    {
+        if self.n < self.bytes.len() {
+            self.bytes[self.n] = b;
+        }
+        self.n += 1;
     }
-    let p = decimal(text, n, w / 10);
-    push(text, p, digit(w % 10))
+
+    // Several bytes.
+    pub fn write(&mut self, word: &[u8])
+        requires { self.old.n + length word.now < 2 ^ 40 }
+        ensures { Wrote self.old self.new word.now }
+    {
+        for b in word {
+            self.push(*b);
+        }
+    }
+
+    // A number in decimal.
+    // Stays: what `write!` writes is promised only where it returns `Ok`, and no listing can fail; the digits have their own definition.
+    pub fn decimal(&mut self, w: u32)
+        requires { self.old.n < 2 ^ 39 }
+        ensures { WroteFew self.old self.new (T.decimal w) 10 }
+    {
+        if w < 10 {
+            self.push(digit(w));
+            return;
+        }
+        self.decimal(w / 10);
+        self.push(digit(w % 10));
+    }
 }

@@ -5,19 +5,23 @@ ghost use Rattle.listed.specs.Put.{Filled};
 ghost use Rattle.listed.specs.Ready.{Held, Recorded, RulesEnd, JoinedPut, most_text};
 
 use crate::entries::list_entries;
-use crate::lines::line;
 use crate::rules::list_rules;
+use crate::text::Text;
 use words::sheet::Sheet;
 use words::words::word;
 
 // The line of a refusal.
+// Stays: the refusal is told by its number, since the line is promised for every number and not for the nine refusals alone.
 pub fn list_refused(number: u32, text: &mut [u8]) -> usize
     ensures { Filled text.old text.new result (listed_refusal number) most_text }
 {
-    line(text, 0, b"refused", &[number])
+    let mut out = Text { bytes: text, n: 0 };
+    out.line(b"refused", &[number]);
+    out.n
 }
 
 // Where the rules of a sheet of n words end: in front of the preserved ids, whose number its trailer has.
+#[tactic(auto, using(crate::proofs::Laws::Whole::listings))]
 fn rules_end(res: &[u8], n: usize) -> usize
     requires { Held res.now n }
     ensures { RulesEnd res.now n result }
@@ -29,6 +33,7 @@ fn rules_end(res: &[u8], n: usize) -> usize
 
 // The sheet and the trail that the pass hands back, with its plans and steps. The sheet has so many words, the trail so many
 // entries.
+// Stays: both stand at the front of buffers that are longer, and a caller need not cut a slice of just that length.
 pub fn list_joined(
     res: &[u8],
     n: usize,
@@ -43,8 +48,10 @@ pub fn list_joined(
         text.old text.new result }
 {
     let end = rules_end(res, n);
-    let p = line(text, 0, b"ok", &[plans, steps]);
+    let mut out = Text { bytes: text, n: 0 };
+    out.line(b"ok", &[plans, steps]);
     let s = Sheet { bytes: res, end };
-    let q = list_rules(&s, text, p);
-    list_entries(trail, entries, text, q)
+    list_rules(&s, &mut out);
+    list_entries(trail, entries, &mut out);
+    out.n
 }

@@ -20,12 +20,6 @@ use Rattle.listed.specs.Ready.{Recorded, EntriesPut}
 use Rattle.listed.proofs.Laws.Walk.{put_is}
 use Rattle.listed.proofs.Laws.Rules.{puts, pen_put, steps_more, steps_done}
 
--- A line of words that were read.
-pub four_read : {b a : List ℕ} {n r most : ℕ} (word : List ℕ) {c d e f w x y z : ℕ} → c ≡ w → d ≡ x → e ≡ y → f ≡ z
-    → PutFew b a n r (line word (c ∷ d ∷ e ∷ f ∷ [])) most
-    → PutFew b a n r (line word (w ∷ x ∷ y ∷ z ∷ [])) most
-four_read word i j k l p = rw (i, j, k, l) at p
-
 -- A loop over entries.
 abbrev pub EntriesListing : (ws : List ℕ) (end n at : ℕ) (p₀ : Pen) (i here : ℕ) (p : Pen) → Type 0
 EntriesListing ws end = Folding ws end encode_entry any_entry entry_step
@@ -76,4 +70,4 @@ entries_listed {b = b} {n = n} h l g e =
       few = omega arith;
     }
 
-pub ruleset recording = (four_read, entries_all, list_entry, entries_more, entries_listed)
+pub ruleset recording = (entries_all, list_entry, entries_more, entries_listed)

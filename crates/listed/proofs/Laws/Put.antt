@@ -6,7 +6,8 @@ use native.Mathlib.Omega.{arith}
 use native.Mathlib.Nat.{add-zero}
 use native.Mathlib.Numerals.{add-one}
 use lib.ListN.{length, get_or, set, take, drop, length-append, length-set}
-use lib.Seq.{sets, set_out, set-append_seam, append_snoc, take-suc, take-nil, take-length}
+use lib.Seq.{sets, set_out, set-append_seam, append_snoc, take-suc, take-nil}
+use Rattle.std.proofs.lemmas.List.{take_all}
 use Rattle.listed.specs.Put.{Put, Filled}
 
 pub sets_append : (xs ys l : List ℕ) (i : ℕ) → sets l i (xs ++ ys) ≡ sets (sets l i xs) (i + length xs) ys
@@ -17,14 +18,6 @@ sets_append (x ∷ xs) ys l i =
 
 pub put_none : (b : List ℕ) (n : ℕ) → Put b b n n []
 put_none b n = record { is = refl; long = refl; moved = omega arith }
-
--- One byte, and one that has no room.
-module _ {b : List ℕ} {n : ℕ} (x : ℕ) where
-  pub put_byte : {a : List ℕ} → a ≡ set b n x → Put b a n (n + 1) (x ∷ [])
-  put_byte e = record { is = e; long = ap length e ∙ simp length-set; moved = refl }
-
-  pub put_out : length b ≤ n → Put b b n (n + 1) (x ∷ [])
-  put_out h = record { is = sym (set_out b n x h); long = refl; moved = refl }
 
 -- One text and another behind it.
 pub put_then : {b m a : List ℕ} {n p q : ℕ} {xs ys : List ℕ} → Put b m n p xs → Put m a p q ys → Put b a n q (xs ++ ys)
@@ -55,25 +48,12 @@ sets_front f (y ∷ b) (x ∷ xs) =
 pub put_filled : {b a : List ℕ} {r most : ℕ} {text : List ℕ} → Put b a 0 r text → r ≤ most → Filled b a r text most
 put_filled {b} {text = text} p h = record { is = p.is ∙ sets_front [] b text; long = p.moved ∙ omega arith; few = h }
 
--- The first bytes of a word.
-pub record Writing (b : List ℕ) (n : ℕ) (word a : List ℕ) (i p : ℕ) : Type 0 where
-  pub put : Put b a n p (take i word)
-  pub part : i ≤ length word
-  pub place : p ≡ n + i
-
-pub writing_none : (b : List ℕ) (n : ℕ) (word : List ℕ) → Writing b n word b 0 n
-writing_none b n word = record { put = put_none b n; part = omega arith; place = omega arith }
-
-module _ {b : List ℕ} {n : ℕ} {word m : List ℕ} {i p : ℕ} (w : Writing b n word m i p) where
-  pub writing_more : {a : List ℕ} {q : ℕ} → i < length word → Put m a p q (get_or word i 0 ∷ []) → Writing b n word a (i + 1) q
-  writing_more h x =
-      record {
-        put = rw (add-one i, take-suc word i 0 h) (put_then w.put x);
-        part = omega arith;
-        place = let e = w.place in let f = x.moved in omega arith;
-      }
+-- The first bytes of a word, and one more.
+module _ {b : List ℕ} {n : ℕ} (word : List ℕ) {m : List ℕ} {p : ℕ} (i : ℕ) (w : Put b m n p (take i word)) where
+  pub writing_more : {a : List ℕ} {q : ℕ} → i < length word → Put m a p q (get_or word i 0 ∷ []) → Put b a n q (take (i + 1) word)
+  writing_more h x = rw (add-one i, take-suc word i 0 h) (put_then w x)
 
   pub writing_all : length word ≤ i → Put b m n p word
-  writing_all h = let l = w.part in let e : i ≡ length word = omega arith in rw (e, take-length word) at w.put
+  writing_all h = rw (take_all i word h) at w
 
-pub ruleset writing = (writing_none, writing_more, writing_all)
+pub ruleset writing = (put_none, writing_more, writing_all)

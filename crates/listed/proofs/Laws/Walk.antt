@@ -12,7 +12,6 @@ use Rattle.grammar.specs.Tree.{ElementHead, Leaf, epsilon, action, predicate, ca
 use Rattle.grammar.specs.Encode.{leaf_kind, encode_leaf}
 use Rattle.grammar.specs.Valid.{ok_leaf}
 use Rattle.grammar.specs.Found.{HeadAt}
-use Rattle.grammar.specs.Fold.{AlternativesWalked}
 use Rattle.grammar.specs.Laws.Stands.{stands_head}
 use Rattle.grammar.specs.Laws.Complete.{leaf_kind_lem}
 use Rattle.grammar.specs.Laws.Opened.{HeadWords}
@@ -41,34 +40,6 @@ name_is end_of_input s = refl
 name_block : (w : ℕ) → name_of block_kind w ≡ 0
 unfolding name_of
 name_block w = refl
-
--- The same by the code's tests.
-module _ {k : ℕ} (w : ℕ) where
-  pub name_call : k ≡ call_kind → w ≡ name_of k w
-  unfolding name_of
-  name_call e = rw e refl
-
-  pub name_token : k ≡ token_kind → w ≡ name_of k w
-  unfolding name_of
-  name_token e = rw e refl
-
-  pub name_none : (k ≡ call_kind → ⊥) → (k ≡ token_kind → ⊥) → 0 ≡ name_of k w
-  unfolding name_of
-  name_none g h = rw (ne_eqb k call_kind g, ne_eqb k token_kind h, name_of) refl
-
-pub ruleset names = (name_call, name_token, name_none)
-
--- Lines of numbers that were read.
-module _ {b a : List ℕ} {n r most : ℕ} (word : List ℕ) where
-  pub line_read : (v : ℕ) {w x : ℕ} → w ≡ x → PutFew b a n r (line word (v ∷ w ∷ [])) most → PutFew b a n r (line word (v ∷ x ∷ [])) most
-  line_read v e p = rw e at p
-
-  pub lines_read : (level kind : ℕ) {id x packed y name w z : ℕ} → id ≡ x → packed ≡ y → w ≡ z → name ≡ name_of kind w
-      → PutFew b a n r (line word (level ∷ id ∷ kind ∷ packed / 256 ∷ name ∷ [])) most
-      → PutFew b a n r (line word (level ∷ x ∷ kind ∷ y / 256 ∷ name_of kind z ∷ [])) most
-  lines_read level kind e f h g p = rw (e, f, g, h) at p
-
-pub ruleset reads = (line_read, lines_read)
 
 -- The line of an element by its words.
 abbrev line_at : (ws : List ℕ) (level at kind payload : ℕ) → List ℕ
@@ -110,10 +81,3 @@ module _ {ws : List ℕ} {end at : ℕ} {b a : List ℕ} {n r level : ℕ} where
       record { is = λ z q u. put_is level x.put ∙ ap (put (pen b n level)) (ap (alternative_line level) u.id) }
 
 pub ruleset walks = (list_leaf, list_block, list_alternative)
-
--- All that was walked, in the buffer as the walk leaves it.
-pub listed_alternatives : (d : ℕ) {ws : List ℕ} {end m at p : ℕ} {b a left : List ℕ} {n r level from to : ℕ} → left ≡ a → from ≡ level
-    → to ≡ level
-    → AlternativesWalked listing ws end d m at (pen b n from) p (pen a r to)
-    → AlternativesWalked listing ws end d m at (pen b n level) p (pen left r level)
-listed_alternatives d same e f w = rw same (rw (e, f) at w)

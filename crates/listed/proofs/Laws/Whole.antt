@@ -96,24 +96,27 @@ module _ {result : List ℕ} {n : ℕ} (h : Held result n) where
         let m = h.most in
         record { trailer = omega arith; low = omega arith }
 
--- The lines one behind the other.
-pub joined_put : {result trail : List ℕ} {n k end : ℕ} (plans steps : ℕ) {b l m a : List ℕ} {p q r : ℕ} → Held result n
+-- The lines one behind the other, in the buffer as it is handed back.
+pub joined_put : {result trail : List ℕ} {n k end : ℕ} (plans steps : ℕ) {b l m a left : List ℕ} {p q r : ℕ} → Held result n
     → Recorded trail k
     → RulesEnd result n end
     → PutFew b l 0 p (line ok_word (plans ∷ steps ∷ [])) 25
     → RulesPut (words result) end l m p q
     → EntriesPut trail k m a q r
-    → JoinedPut result trail n k plans steps b a r
+    → left ≡ a
+    → JoinedPut result trail n k plans steps b left r
 unfolding listed_rules held_ruled
-joined_put plans steps h w o x y z =
+joined_put plans steps h w o x y z e =
+    rw e
     record {
-      text = λ g v.
-          put_filled (put_then x.put (put_then (y.put (held_ruled g o)) (z.put v)))
-          (let e = z.few in let f = y.few in let l = o.low in let m = h.most in let t = w.few in omega arith);
+      text = λ v u.
+          put_filled (put_then x.put (put_then (y.put (held_ruled v o)) (z.put u)))
+          (let g = z.few in let f = y.few in let l = o.low in let m = h.most in let t = w.few in omega arith);
     }
 
-pub refused_put : {b a : List ℕ} {r : ℕ} (n : ℕ) → PutFew b a 0 r (line refused_word (n ∷ [])) 19 → Filled b a r (listed_refusal n) most_text
+pub refused_put : {b a left : List ℕ} {r : ℕ} (n : ℕ) → PutFew b a 0 r (line refused_word (n ∷ [])) 19 → left ≡ a
+    → Filled b left r (listed_refusal n) most_text
 unfolding listed_refusal
-refused_put n p = put_filled p.put (let f = p.few in omega arith)
+refused_put n p e = rw e (put_filled p.put (let f = p.few in omega arith))
 
 pub ruleset listings = (held_trailer, held_word, held_preserved, rules_end, held_ruled, held_room, joined_put, refused_put)

@@ -5,6 +5,5 @@ use Rattle.listed.proofs.Laws.Rules.{ruled}
 pub unwrap-rules-requires : goal.unwrap-rules-requires
 unwrap-rules-requires c = search (rules, ruled)
 
--- src/rules.rt:49:1
 pub returns : goal.returns
 returns c = search (rules, ruled)

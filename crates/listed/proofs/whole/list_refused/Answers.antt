@@ -1,7 +1,6 @@
 use Rattle.std.proofs.Common.{rules}
 use Rattle.listed.proofs.whole.list_refused.Goals as goal
-use Rattle.listed.proofs.Laws.Whole.{listings}
+use Rattle.listed.proofs.Laws.Whole.{refused_put}
 
--- src/whole.rt:14:1
 pub returns : goal.returns
-returns c = search (rules, listings)
+returns c = refused_put c.args.number c.line.ensures.1 (search rules)

@@ -1,9 +1,6 @@
 use Rattle.std.proofs.Common.{rules}
-use Rattle.listed.proofs.lines.line.Goals as goal
+use Rattle.listed.proofs.text.Text.line.Goals as goal
 use Rattle.listed.proofs.Laws.Lines.{lines}
-
-pub loop-w-init : goal.loop-w-init
-loop-w-init c = search (rules, lines)
 
 pub loop-w-preserved : goal.loop-w-preserved
 loop-w-preserved c = search (rules, lines)

@@ -1,6 +1,0 @@
-use Rattle.std.proofs.Common.{rules}
-use Rattle.listed.proofs.Laws.Walk.{walks}
-use Rattle.listed.proofs.walk.ListerVisitor.enter_block.Goals as goal
-
-pub returns : goal.returns
-returns c = search (rules, walks)
