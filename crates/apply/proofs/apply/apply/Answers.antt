@@ -11,13 +11,13 @@ returns-in_err-judge-clause-applied_of c =
     rw (p.1, p.2) (search (rules, judged_refused, c.in_err-judge.ensures))
 
 -- src/apply.rt:135:8
-pub put-requires : goal.put-requires
-put-requires c = search (rules, applicables, judged_few, c.in_ok-judge.ensures)
+pub put-requires-clause-buffers : goal.put-requires-clause-buffers
+put-requires-clause-buffers c = search (rules, applicables, judged_few, c.in_ok-judge.ensures)
 
 -- src/apply.rt:135:8
-pub put-requires : goal.put-requires
-put-requires c = search (rules, judged_none, c.in_ok-judge.ensures)
+pub put-requires-clause-applicable : goal.put-requires-clause-applicable
+put-requires-clause-applicable c = search (rules, judged_none, c.in_ok-judge.ensures)
 
 -- src/apply.rt:135:8
-pub put-requires : goal.put-requires
-put-requires c = search (rules, applicables, entries_after)
+pub put-requires-clause-words_after : goal.put-requires-clause-words_after
+put-requires-clause-words_after c = search (rules, applicables, entries_after)

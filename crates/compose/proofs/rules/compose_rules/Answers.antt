@@ -7,20 +7,24 @@ pub copy_rules-front-requires-clause-fact : goal.copy_rules-front-requires-claus
 copy_rules-front-requires-clause-fact c = search (rules, fronts, front_open, last_open, last_fits, all_added)
 
 -- src/rules.rt:70:9
-pub add_hub-with-requires : goal.add_hub-with-requires
-add_hub-with-requires c = search (rules, fronts, front_open)
+pub add_hub-with-requires-clause-fact : goal.add_hub-with-requires-clause-fact
+add_hub-with-requires-clause-fact c = search (rules, fronts, front_open)
 
 -- src/rules.rt:70:9
-pub add_hub-with-requires : goal.add_hub-with-requires
-add_hub-with-requires c = search (rules, fronts, front_open)
+pub add_hub-with-requires-clause-laid : goal.add_hub-with-requires-clause-laid
+add_hub-with-requires-clause-laid c = search (rules, fronts, front_open)
 
 -- src/rules.rt:70:9
-pub add_hub-with-requires : goal.add_hub-with-requires
-add_hub-with-requires c = search (rules, fronts, front_open, last_open, last_fits, all_added)
+pub add_hub-with-requires-clause-new_hub_fits : goal.add_hub-with-requires-clause-new_hub_fits
+add_hub-with-requires-clause-new_hub_fits c = search (rules, fronts, front_open, last_open, last_fits, all_added)
 
 -- src/rules.rt:71:5
 pub copy_rules-requires-clause-fact : goal.copy_rules-requires-clause-fact
-copy_rules-requires-clause-fact c = search (rules, fronts, front_open, last_open, last_fits, all_added)
+copy_rules-requires-clause-fact c = (
+  search (rules, fronts, front_open, last_open),
+  search (rules, fronts, front_open, last_open),
+  last_fits c.requires.new_rules_fit c.requires.room.1 c.requires.fact.0 c.requires.laid.0 c.copy_rules-front.ensures c.add_hub-with.ensures,
+)
 
 -- src/rules.rt:50:1
 pub returns : goal.returns

@@ -33,7 +33,7 @@ pub loop-i-preserved : goal.loop-i-preserved
 loop-i-preserved c =
     copying_more _ _ _ _ _ _ _ _ c.loop-i.invariant c.loop-i-test.true c.has.ensures c.requires.room.2
     (elim c.if-not-has.branch [
-      | then-not-has w ↦ rule_added c.requires.room.0 w.if-not-has.true (search rules) (w.rule_end.ensures.is _ refl refl)
+      | then-not-has w ↦ rule_added c.args.s.now.room w.if-not-has.true (search rules) (w.rule_end.ensures.is _ refl refl)
           w.index-at.ensures refl refl
           (search rules)
           record {

@@ -3,6 +3,9 @@ use Rattle.std.proofs.lemmas.Result.{err_from_is_err_and}
 use Rattle.run.proofs.turn.take_turn.Goals as goal
 use Rattle.run.proofs.Laws.Turned.{turnings, turn_advancing}
 
+pub invariant_of-s : goal.invariant_of-s
+invariant_of-s c = record { room = search (rules, turnings, turn_advancing) }
+
 -- src/turn.rt:142:9
 pub find_plan-found-requires-clause-room : goal.find_plan-found-requires-clause-room
 find_plan-found-requires-clause-room c = search (rules, turnings, turn_advancing)

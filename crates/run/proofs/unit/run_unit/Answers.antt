@@ -1,8 +1,11 @@
-use Rattle.std.proofs.Common.{rules}
+use Rattle.std.proofs.Common.{refl, rules, arith}
 use Rattle.std.proofs.lemmas.Result.{err_from_is_err_and}
 use Rattle.run.proofs.unit.run_unit.Goals as goal
 use Rattle.run.proofs.Laws.Start.{begins}
-use Rattle.run.proofs.Laws.Loop.{loops, looping_start, looping_whole}
+use Rattle.run.proofs.Laws.Loop.{loops, looping_start, looping_more, looping_whole}
+
+pub invariant_of-s : goal.invariant_of-s
+invariant_of-s c = record { room = search (rules, loops, begins) }
 
 -- src/unit.rt:42:9
 pub find_out-ground-requires-clause-room : goal.find_out-ground-requires-clause-room
@@ -14,7 +17,15 @@ find_out-ground-requires-clause-standing c = search (rules, loops, begins)
 
 -- src/unit.rt:46:5
 pub loop-next-init : goal.loop-next-init
-loop-next-init c = search (rules, loops, begins, looping_start)
+loop-next-init c =
+    let b = c.requires.buffers in
+    let g = c.find_out-ground.ensures in (
+      looping_start b.0 b.1 b.2 b.3 b.4 c.requires.begun g.facts_found g.kept_of g.calls_len_2.0 g.calls_len_2.1 (search rules)
+          c.begin-st.ensures,
+      refl,
+      refl,
+      refl,
+    )
 
 pub returns-in_err-next-clause-run_of : goal.returns-in_err-next-clause-run_of
 returns-in_err-next-clause-run_of c =
@@ -27,7 +38,11 @@ loop-next-smaller c = let t = rw c.in-Some.is at c.in_ok-next.ensures.turned_of 
 
 -- src/unit.rt:46:5
 pub loop-next-preserved : goal.loop-next-preserved
-loop-next-preserved c = let t = rw c.in-Some.is at c.in_ok-next.ensures.turned_of in search (rules, loops)
+loop-next-preserved c =
+    let t = rw c.in-Some.is at c.in_ok-next.ensures.turned_of in
+    let o = c.in_ok-next.ensures in
+    let n = o.res_len_unchanged in
+    (looping_more c.loop-next.invariant.0 t n.0 n.1 n.2 o.calls_len_2.0 o.calls_len_2.1, omega arith, omega arith, omega arith)
 
 -- src/unit.rt:20:1
 pub returns-clause-run_of : goal.returns-clause-run_of
