@@ -21,8 +21,10 @@ fn list(sheet: &[u8], a: Result<Totals, Refusal>, res: &[u8], trail: &[u8], text
     match a {
         Err(refusal) => {
             let n = list_refused(u32::from(refusal), text);
-            let refusal = Some(refusal);
-            Told { n, refusal }
+            Told {
+                n,
+                refusal: Some(refusal),
+            }
         }
         Ok(t) => {
             let words = (t.result / 4) as usize;
