@@ -2,7 +2,6 @@
 use Rattle.std.specs.Prelude.{ℕ, ◌/◌, ◌≤◌, ◌≡◌, List, length, Option, Some, None, Result, Ok, Err}
 use Rattle.grammar.specs.Numbers.{result_bytes, trail_bytes, work_bytes}
 use Rattle.grammar.specs.Corners.{rust}
-use Rattle.grammar.specs.Laws.Words.{AreBytes}
 use Rattle.reference.specs.Substitute.{standard}
 use Rattle.reference.specs.Run as R
 use Rattle.reference.specs.Run.{answer_to}
@@ -43,10 +42,6 @@ AnswersAs bs (Ok t) result trail = JoinedAs bs t result trail
 
 pub record Answers (bs : List ℕ) (a : Result Totals Refusal) (result trail : List ℕ) : Type 0 where
   pub so : AnswersAs bs a result trail
-
--- Every item is a byte.
-pub record Known (bs : List ℕ) : Type 0 where
-  pub are : AreBytes bs
 
 -- Buffers that are long enough.
 pub record Lent (r t w : List ℕ) : Type 0 where

@@ -5,6 +5,7 @@ use listed::whole::{list_joined, list_refused};
 use pass::Totals;
 use pass::entry::pass;
 use words::numbers::{Refusal, Work};
+use words::sheet::Sheet;
 
 // The text's length, and the refusal that it tells, if it tells one.
 #[derive(Clone, Copy, Debug, PartialEq, Eq)]
@@ -21,8 +22,10 @@ fn list(sheet: &[u8], a: Result<Totals, Refusal>, res: &[u8], trail: &[u8], text
     match a {
         Err(refusal) => {
             let n = list_refused(u32::from(refusal), text);
-            let refusal = Some(refusal);
-            Told { n, refusal }
+            Told {
+                n,
+                refusal: Some(refusal),
+            }
         }
         Ok(t) => {
             let words = (t.result / 4) as usize;
@@ -46,7 +49,7 @@ fn list_in(sheet: &[u8], res: &mut [u8], trail: &mut [u8], work: &mut [u8], text
 pub fn list_answer(sheet: &[u8], text: &mut [u8]) -> Told
     ensures { ListedAs sheet.now text.old text.new result }
 {
-    let mut result = [0; 32768];
+    let mut result = [0; Sheet::MOST_BYTES];
     let mut trail = [0; 65536];
     let mut work = [0; Work::BYTES];
     list_in(sheet, &mut result, &mut trail, &mut work, text)

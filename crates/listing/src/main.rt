@@ -6,7 +6,7 @@ mod answer;
 mod input;
 mod reasons;
 
-use answer::list_answer;
+use answer::{Told, list_answer};
 use input::read_input;
 use reasons::{explain, fail};
 use words::sheet::Sheet;
@@ -21,13 +21,12 @@ impl Text {
 
 fn print(rt: &(impl Print + Eprint), sheet: &[u8]) {
     let mut text = [0; Text::BYTES];
-    let told = list_answer(sheet, &mut text);
-    let n = told.n;
+    let Told { n, refusal } = list_answer(sheet, &mut text);
     if let Err(error) = rt.write_all(&text[..n]) {
         fail(rt, "listing: standard output cannot be written", error);
         return;
     }
-    if let Some(refusal) = told.refusal {
+    if let Some(refusal) = refusal {
         explain(rt, refusal);
     }
 }

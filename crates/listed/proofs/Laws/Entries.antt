@@ -9,23 +9,20 @@ use Rattle.grammar.specs.Words.{words}
 use Rattle.grammar.specs.Found.{Found}
 use Rattle.grammar.specs.Fold.{folded, WalkedOne}
 use Rattle.grammar.specs.Laws.Stands.{stands_length, stands_head}
-use Rattle.grammar.specs.Laws.Fold.{Folding, folding_all}
+use Rattle.grammar.specs.Laws.Fold.{Folding}
 use Rattle.reference.specs.Apply.{Entry}
 use Rattle.reference.specs.Run.{encode_entry}
 use Rattle.listed.specs.Text.{line}
 use Rattle.listed.specs.Listed.{entry_word, entry_line}
 use Rattle.listed.specs.Put.{PutFew}
 use Rattle.listed.specs.Walk.{Pen, pen, put, entry_step, any_entry}
-use Rattle.listed.specs.Ready.{Recorded, EntriesPut}
+use Rattle.listed.specs.Ready.{EntriesPut}
 use Rattle.listed.proofs.Laws.Walk.{put_is}
 use Rattle.listed.proofs.Laws.Rules.{puts, pen_put, steps_more, steps_done}
 
 -- A loop over entries.
 abbrev pub EntriesListing : (ws : List ℕ) (end n at : ℕ) (p₀ : Pen) (i here : ℕ) (p : Pen) → Type 0
 EntriesListing ws end = Folding ws end encode_entry any_entry entry_step
-
-pub entries_all : {trail : List ℕ} {k : ℕ} (p : Pen) → Recorded trail k → EntriesListing (words trail) (4 * k) k 0 p (k - 0) (4 * 0) p
-entries_all {k = k} p w = let e : k - 0 ≡ k = omega arith in rw e (folding_all entry_step p w.found (omega arith))
 
 module _ {ws : List ℕ} {end at : ℕ} where
   entry_room : Found ws end encode_entry any_entry at → at + 4 ≤ end
@@ -70,4 +67,4 @@ entries_listed {b = b} {n = n} h l g e =
       few = omega arith;
     }
 
-pub ruleset recording = (entries_all, list_entry, entries_more, entries_listed)
+pub ruleset recording = (list_entry, entries_more, entries_listed)

@@ -10,12 +10,8 @@ use Rattle.std.proofs.lemmas.List.{take_all}
 use Rattle.grammar.specs.Lists.{each}
 use Rattle.grammar.specs.Laws.Lists.{each_append}
 use Rattle.listed.specs.Put.{Put, PutFew}
-use Rattle.listed.specs.Text.{space, newline, decimal, field, line}
+use Rattle.listed.specs.Text.{newline, field, line}
 use Rattle.listed.proofs.Laws.Put.{put_then}
-
-pub put_field : {b m a : List ℕ} {n p q : ℕ} (w : ℕ) → Put b m n p (space ∷ []) → PutFew m a p q (decimal w) 10
-    → PutFew b a n q (field w) 11
-put_field w x y = record { put = put_then x y.put; few = let e = x.moved in let f = y.few in omega arith }
 
 -- A word and the first i of some numbers.
 abbrev pub begun : List ℕ → List ℕ → ℕ → List ℕ
@@ -31,13 +27,6 @@ begun_more word ws i h =
     ∙ ap (λ l. word ++ each field l) (sym t)
 
 module _ (word ws : List ℕ) {b m : List ℕ} {n p : ℕ} where
-  pub line_begun : Put b m n p word → PutFew b m n p (begun word ws 0) (length word + 11 * 0)
-  line_begun u =
-      record {
-        put = subst (λ l. Put b m n p l) (sym (append-nil word)) u;
-        few = let e = u.moved in omega arith;
-      }
-
   module _ (i : ℕ) (u : PutFew b m n p (begun word ws i) (length word + 11 * i)) {a : List ℕ} {q : ℕ} where
     pub line_more : i < length ws → PutFew m a p q (field (get_or ws i 0)) 11
         → PutFew b a n q (begun word ws (i + 1)) (length word + 11 * (i + 1))
@@ -60,4 +49,4 @@ module _ (word ws : List ℕ) {b m : List ℕ} {n p : ℕ} where
           few = let e = u.few in let g = t.moved in omega arith;
         }
 
-pub ruleset lines = (put_field, line_begun, line_more, line_ended)
+pub ruleset lines = (line_more, line_ended)

@@ -5,9 +5,8 @@ use mathlib.Core.List.{List, [], ◌∷◌, ◌++◌}
 use native.Mathlib.Omega.{arith}
 use native.Mathlib.Nat.{add-zero}
 use native.Mathlib.Numerals.{add-one}
-use lib.ListN.{length, get_or, set, take, drop, length-append, length-set}
+use lib.ListN.{length, get_or, set, take, drop, length-append}
 use lib.Seq.{sets, set_out, set-append_seam, append_snoc, take-suc, take-nil}
-use Rattle.std.proofs.lemmas.List.{take_all}
 use Rattle.listed.specs.Put.{Put, Filled}
 
 pub sets_append : (xs ys l : List ℕ) (i : ℕ) → sets l i (xs ++ ys) ≡ sets (sets l i xs) (i + length xs) ys
@@ -15,9 +14,6 @@ sets_append [] ys l i = rw (add-zero i) refl
 sets_append (x ∷ xs) ys l i =
     let e : suc i + length xs ≡ i + suc (length xs) = omega arith in
     sets_append xs ys (set l i x) (suc i) ∙ ap (λ k. sets (sets (set l i x) (suc i) xs) k ys) e
-
-pub put_none : (b : List ℕ) (n : ℕ) → Put b b n n []
-put_none b n = record { is = refl; long = refl; moved = omega arith }
 
 -- One text and another behind it.
 pub put_then : {b m a : List ℕ} {n p q : ℕ} {xs ys : List ℕ} → Put b m n p xs → Put m a p q ys → Put b a n q (xs ++ ys)
@@ -49,11 +45,7 @@ pub put_filled : {b a : List ℕ} {r most : ℕ} {text : List ℕ} → Put b a 0
 put_filled {b} {text = text} p h = record { is = p.is ∙ sets_front [] b text; long = p.moved ∙ omega arith; few = h }
 
 -- The first bytes of a word, and one more.
-module _ {b : List ℕ} {n : ℕ} (word : List ℕ) {m : List ℕ} {p : ℕ} (i : ℕ) (w : Put b m n p (take i word)) where
-  pub writing_more : {a : List ℕ} {q : ℕ} → i < length word → Put m a p q (get_or word i 0 ∷ []) → Put b a n q (take (i + 1) word)
-  writing_more h x = rw (add-one i, take-suc word i 0 h) (put_then w x)
-
-  pub writing_all : length word ≤ i → Put b m n p word
-  writing_all h = rw (take_all i word h) at w
-
-pub ruleset writing = (put_none, writing_more, writing_all)
+pub writing_more : {b m a : List ℕ} {n p q : ℕ} (word : List ℕ) (i : ℕ) → i < length word → Put b m n p (take i word)
+    → Put m a p q (get_or word i 0 ∷ [])
+    → Put b a n q (take (i + 1) word)
+writing_more word i h w x = rw (add-one i, take-suc word i 0 h) (put_then w x)

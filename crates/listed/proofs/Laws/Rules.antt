@@ -18,7 +18,7 @@ use Rattle.grammar.specs.Laws.Opened.{rule_words_lem}
 use Rattle.grammar.specs.Laws.Complete.{rules_complete}
 use Rattle.grammar.specs.Found.{Found}
 use Rattle.grammar.specs.Laws.Found.{rule_room}
-use Rattle.grammar.specs.Laws.Fold.{Folding, folding_all, folding_found, folding_more, folding_done, rule_walked}
+use Rattle.grammar.specs.Laws.Fold.{Folding, folding_found, folding_more, folding_done, rule_walked}
 use Rattle.records.specs.Rules.{RulesRead, is_got}
 use Rattle.records.specs.declared.rules.Rules.{Rules}
 use Rattle.listed.specs.Listed.{leaf_name, element_line, alternative_line, rule_line, element_lines, alternative_lines}
@@ -128,7 +128,7 @@ module _ {ws : List ℕ} {end : ℕ} {A S : Type 0} {enc : A → List ℕ} {ok :
   pub steps_done : n ≤ i → WalkedMany ws end enc ok step n at s₀ p s
   steps_done h = folding_done g (omega arith)
 
-pub ruleset steps = (folding_all, steps_found, steps_more, steps_done)
+pub ruleset steps = (steps_found, steps_more, steps_done)
 
 -- A loop over rules.
 abbrev pub RulesListing : (ws : List ℕ) (end n at : ℕ) (p₀ : Pen) (i here : ℕ) (p : Pen) → Type 0

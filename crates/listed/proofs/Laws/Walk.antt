@@ -5,8 +5,7 @@ use mathlib.Core.List.{List, [], ◌∷◌}
 use native.Mathlib.Omega.{arith}
 use native.Mathlib.Numerals.{add-one}
 use lib.ListN.{get_or}
-use borrow.Author.Tests.{ne_eqb}
-use Rattle.grammar.specs.Numbers.{kind_end, call_kind, token_kind, block_kind}
+use Rattle.grammar.specs.Numbers.{kind_end, block_kind}
 use Rattle.grammar.specs.Stands.{Spans}
 use Rattle.grammar.specs.Tree.{ElementHead, Leaf, epsilon, action, predicate, call, token, terminal, end_of_input}
 use Rattle.grammar.specs.Encode.{leaf_kind, encode_leaf}

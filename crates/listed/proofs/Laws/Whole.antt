@@ -15,7 +15,6 @@ use Rattle.grammar.specs.Encode.{encode, encode_rules, encode_counters}
 use Rattle.grammar.specs.Valid.{ok_rule, ok_block, ok_rules}
 use Rattle.grammar.specs.Laws.Parse.{left_true, right_true}
 use Rattle.grammar.specs.Laws.Stands.{stands_split, stands_length, stands_within}
-use Rattle.words.specs.Room.{Room}
 use Rattle.listed.specs.Text.{line}
 use Rattle.listed.specs.Listed.{ok_word, refused_word, listed_refusal, listed_rules}
 use Rattle.listed.specs.Put.{PutFew, Filled}
@@ -89,13 +88,6 @@ module _ {result : List ℕ} {n : ℕ} (h : Held result n) where
           few = leb-true (length r) rule_limit (left_true (leb (length r) rule_limit) _ h.good);
         }
 
-    pub held_room : Room result end
-    held_room =
-        let l = o.low in
-        let r = h.room in
-        let m = h.most in
-        record { trailer = omega arith; low = omega arith }
-
 -- The lines one behind the other, in the buffer as it is handed back.
 pub joined_put : {result trail : List ℕ} {n k end : ℕ} (plans steps : ℕ) {b l m a left : List ℕ} {p q r : ℕ} → Held result n
     → Recorded trail k
@@ -119,4 +111,4 @@ pub refused_put : {b a left : List ℕ} {r : ℕ} (n : ℕ) → PutFew b a 0 r (
 unfolding listed_refusal
 refused_put n p e = rw e (put_filled p.put (let f = p.few in omega arith))
 
-pub ruleset listings = (held_trailer, held_word, held_preserved, rules_end, held_ruled, held_room, joined_put, refused_put)
+pub ruleset listings = (held_trailer, held_word, held_preserved, rules_end, held_ruled)

@@ -40,7 +40,7 @@ use Rattle.words.specs.Refusal.{refusal_number}
 use Rattle.words.specs.declared.numbers.Refusal.{Refusal}
 use Rattle.pass.specs.declared.answer.Totals.{Totals}
 use Rattle.pass.specs.Handed.{outcome_of, Handed}
-use Rattle.listing.specs.Told.{refusal_in, Answers, Known, Lent}
+use Rattle.listing.specs.Told.{refusal_in, Answers, Lent}
 
 -- The listing of bytes, by their answer.
 module _ (bs : List ℕ) where
@@ -235,7 +235,7 @@ module _ (bs result trail work : List ℕ) (are : AreBytes bs) (lent : are_lent 
               };
         }
 
-pub handed_answers : {bs result trail work : List ℕ} {a : Result Totals Refusal} {result' trail' work' : List ℕ} → Known bs → Lent result trail work
+pub handed_answers : {bs result trail work : List ℕ} {a : Result Totals Refusal} {result' trail' work' : List ℕ} → AreBytes bs → Lent result trail work
     → Handed rust bs result trail work a result' trail' work'
     → Answers bs a result' trail'
 unfolding are_lent
@@ -247,5 +247,5 @@ handed_answers {bs} {result} {trail} {work} {a} {result'} {trail'} {work'} k l h
         (both_true _ _ (le-leb trail_bytes (length trail) l.trail) (le-leb work_bytes (length work) l.work))
 
     go : (a : Result Totals Refusal) → outcome_of a result' trail' work' ≡ outcome standard rust bs result trail work → Answers bs a result' trail'
-    go (Err r) e = refused_answers bs result trail work k.are lent r e (came bs result trail work k.are lent)
-    go (Ok t) e = joined_answers bs result trail work k.are lent t e (came bs result trail work k.are lent)
+    go (Err r) e = refused_answers bs result trail work k lent r e (came bs result trail work k lent)
+    go (Ok t) e = joined_answers bs result trail work k lent t e (came bs result trail work k lent)
