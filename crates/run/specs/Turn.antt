@@ -1,5 +1,5 @@
 -- One turn of the loop over plans (SPECIFICATION 5.2): one plan more, or the run is over.
-use Rattle.std.specs.Prelude.{ℕ, suc, ◌+◌, ◌<◌, ◌≤◌, ◌^◌, ◌≡◌, List, [], ◌∷◌, Bool, length}
+use Rattle.std.specs.Prelude.{ℕ, suc, ◌+◌, ◌<◌, ◌≤◌, ◌^◌, ◌≡◌, List, Bool, length}
 use Rattle.std.specs.Prelude.{Option, Some, None, Result, Ok, Err, IfOk, MatchResult}
 use Rattle.grammar.specs.Numbers.{trailer_words}
 use Rattle.grammar.specs.Tree.{Sheet, inner_depth}
@@ -73,7 +73,7 @@ pub record TurnedOf (limits : R.Limits) (past : Bool) (result trail : List ℕ) 
 pub record UpToDate (ws : List ℕ) (past : Bool) (calls corners : List (List ℕ)) (st : State) (a : Applied) (p : Plan)
     (calls' corners' : List (List ℕ)) (r : State) : Type 0 where
   pub renewed : Renewed
-  pub renews : RenewedOf ws a.end a.rules st.rules.n p.hub (p.low ∷ p.high ∷ []) past calls corners st.marks st.kept
+  pub renews : RenewedOf ws a.end a.rules st.rules.n p.hub p.removable past calls corners st.marks st.kept
       calls' corners' renewed
   pub is : r ≡ behind_plan st a p renewed
 

@@ -165,7 +165,7 @@ module _ {limits : R.Limits} {past : Bool} {result trail work : List ℕ} {calls
         }
 
     pub renewable : {n : ℕ} → n ≡ st.rules.n
-        → Renewable (words result') a.end a.rules n p.hub (p.low ∷ p.high ∷ []) past calls corners st.marks st.kept
+        → Renewable (words result') a.end a.rules n p.hub p.removable past calls corners st.marks st.kept
     unfolding midst_known held_standing left_standing
     renewable e =
         record {
@@ -199,7 +199,7 @@ module _ {limits : R.Limits} {past : Bool} {result trail work : List ℕ} {calls
         omega arith
 
     module _ {n : ℕ} (e : n ≡ st.rules.n) {calls' corners' : List (List ℕ)} {r : Renewed}
-        (w : RenewedOf (words result') a.end a.rules n p.hub (p.low ∷ p.high ∷ []) past calls corners st.marks st.kept
+        (w : RenewedOf (words result') a.end a.rules n p.hub p.removable past calls corners st.marks st.kept
         calls' corners' r) where
       abbrev after : State
       after = behind_plan st a p r
@@ -227,7 +227,7 @@ module _ {limits : R.Limits} {past : Bool} {result trail work : List ℕ} {calls
             room = let l = done.told.long in let h = done.room in omega arith;
           }
 
-      renewed : RenewedAs (words result') a.end a.rules n p.hub (p.low ∷ p.high ∷ []) past calls corners st.marks st.kept
+      renewed : RenewedAs (words result') a.end a.rules n p.hub p.removable past calls corners st.marks st.kept
           (renewable e) calls' corners' r
       renewed = w.is (renewable e)
 
