@@ -65,6 +65,8 @@ fn words_after(
 }
 
 // The new sheet of n words, composed and copied; the trail has so many entries then.
+// Stays: result, trail and work area are three parameters, here and in `run`, since a struct of three `&mut` that is lent may come
+// back with other references in it, and a caller that holds the buffers themselves, as `run_unit` does, then knows nothing of them.
 fn put(
     res: &mut [u8],
     trail: &mut [u8],
