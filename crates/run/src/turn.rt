@@ -31,23 +31,23 @@ fn bring_up(
     a: Applied,
     p: Plan,
 ) -> State
-    requires room { Room res.now a.end × (work_bytes ≤ length work.old) × (st.rules.n ≤ rule_limit) }
+    requires room { Room res.now a.end × (work_bytes ≤ length work.old) × (st.at.rules.n ≤ rule_limit) }
     requires calls_len { (length calls.old ≡ rule_limit) × (length corners.old ≡ rule_limit) }
     requires plans_bound { (st.plans + 1 < word_end) × (st.steps + p.steps < word_end) }
-    requires renewable { Renewable (words res.now) a.end a.rules st.rules.n p.hub p.removable past calls.old
+    requires renewable { Renewable (words res.now) a.end a.rules st.at.rules.n p.hub p.removable past calls.old
         corners.old st.marks st.kept }
     ensures up_to_date { UpToDate (words res.now) past calls.old corners.old st a p
         calls.new corners.new result }
     ensures calls_len_2 { (length calls.new ≡ rule_limit) × (length corners.new ≡ rule_limit) }
 {
-    let old = st.rules;
+    let at = st.at;
+    let old = at.rules;
     let n = old.n as usize;
     let plans = st.plans + 1;
     let steps = st.steps + p.steps as u32;
     let marks = st.marks;
     let kept = st.kept;
     let rules = a.rules;
-    let counters = a.counters;
     let gone = p.removable;
     let s = Sheet {
         bytes: res,
@@ -62,13 +62,9 @@ fn bring_up(
     let known = r.marks;
     let preserved = r.kept;
     State {
-        rules,
+        at: a,
         marks: known,
         kept: preserved,
-        counters,
-        end: a.end,
-        to: a.to,
-        entries: a.entries,
         plans,
         steps,
     }
@@ -96,16 +92,8 @@ fn advance(
         × (length trail.new ≡ length trail.old) × (length work.new ≡ length work.old) }
     ensures calls_len_2 { (length calls.new ≡ rule_limit) × (length corners.new ≡ rule_limit) }
 {
-    let rules = st.rules;
-    let counters = st.counters;
-    let before = Applied {
-        rules,
-        counters,
-        end: st.end,
-        to: st.to,
-        entries: st.entries,
-    };
-    let a = apply(res, trail, work, before, room, p)?;
+    let at = st.at;
+    let a = apply(res, trail, work, at, room, p)?;
     Ok(bring_up(res, work, calls, corners, past, st, a, p))
 }
 
@@ -130,12 +118,13 @@ pub fn take_turn(
         × (length trail.new ≡ length trail.old) × (length work.new ≡ length work.old) }
     ensures calls_len_2 { (length calls.new ≡ rule_limit) × (length corners.new ≡ rule_limit) }
 {
-    let rules = st.rules;
+    let at = st.at;
+    let rules = at.rules;
     let marks = st.marks;
     let kept = st.kept;
     let s = Sheet {
         bytes: res,
-        end: st.end,
+        end: at.end,
     };
     let facts = Facts {
         rules,
