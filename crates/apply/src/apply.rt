@@ -22,7 +22,8 @@ use words::sheet::Sheet;
 use writing::copy::copy_words;
 use writing::counters::Counters;
 
-// The rules and counters of the new sheet, where its rules and its preserved ids end, in words, and how many entries the trail has.
+// The rules and counters of the sheet in the result, where its rules and its preserved ids end, in words, and how many entries the
+// trail has.
 #[derive(Clone, Copy)]
 pub struct Applied {
     pub rules: Rules,
@@ -57,40 +58,42 @@ fn words_after(
     ensures { WordsAfter s.now work.now end to rules p result }
 {
     let n = rules.n as usize;
-    let row = [p.low, p.high];
+    let row = p.removable;
     let front = words_left(s, end, rules, row, 0, p.hub);
     let rest = words_left(s, end, rules, row, p.hub + 1, n);
     front + (Fixed::RULE + m.words) + rest + (to - end) + Sheet::TRAILER_WORDS
 }
 
 // The new sheet of n words, composed and copied; the trail has so many entries then.
+// Stays: result, trail and work area are three parameters, here and in `run`, since a struct of three `&mut` that is lent may come
+// back with other references in it, and a caller that holds the buffers themselves, as `run_unit` does, then knows nothing of them.
 fn put(
     res: &mut [u8],
     trail: &mut [u8],
     work: &mut [u8],
-    end: usize,
-    to: usize,
-    rules: Rules,
-    counters: Counters,
-    recorded: usize,
+    before: Applied,
     p: Plan,
     n: usize,
     entries: usize,
 ) -> Applied
-    requires buffers { Buffers res.old trail.old work.old × (recorded ≤ most_entries) × (n ≤ most_words) × (end ≤ to)
-        × (to ≤ most_words) }
-    requires applicable { Applicable res.old work.old end to rules p
-        × RefusedBy res.old work.old end to rules p counters recorded 0 }
-    requires words_after { WordsAfter res.old work.old end to rules p n
-        × EntriesAfter res.old work.old end to rules p recorded entries }
-    ensures applied_of { AppliedOf res.old work.old end to rules counters p recorded
+    requires buffers { Buffers res.old trail.old work.old × (before.entries ≤ most_entries) × (n ≤ most_words)
+        × (before.end ≤ before.to) × (before.to ≤ most_words) }
+    requires applicable { Applicable res.old work.old before.end before.to before.rules p
+        × RefusedBy res.old work.old before.end before.to before.rules p before.counters before.entries 0 }
+    requires words_after { WordsAfter res.old work.old before.end before.to before.rules p n
+        × EntriesAfter res.old work.old before.end before.to before.rules p before.entries entries }
+    ensures applied_of { AppliedOf res.old work.old before.end before.to before.rules before.counters p before.entries
         res.new trail.old trail.new (Ok result) }
     ensures res_len_unchanged { (length res.new ≡ length res.old)
         × (length trail.new ≡ length trail.old) × (length work.new ≡ length work.old) }
 {
+    let rules = before.rules;
+    let counters = before.counters;
+    let end = before.end;
+    let to = before.to;
     let pen = Pen {
         to: Draft::FIRST,
-        trail: Fixed::ENTRY * recorded,
+        trail: Fixed::ENTRY * before.entries,
         counters,
     };
     let preserved = to - end;
@@ -107,34 +110,31 @@ fn put(
     }
 }
 
-// The plan p for the sheet in the result, whose rules end at `end` and whose trailer stands at `to`; `room` are the words that the
-// new sheet may have, and `recorded` the entries that the trail has.
+// The plan p for the sheet in the result, with what is known of it before; `room` are the words that the new sheet may have.
 pub fn apply(
     res: &mut [u8],
     trail: &mut [u8],
     work: &mut [u8],
-    end: usize,
-    to: usize,
-    rules: Rules,
-    counters: Counters,
-    recorded: usize,
+    before: Applied,
     room: usize,
     p: Plan,
 ) -> Result<Applied, Refusal>
-    requires buffers { Buffers res.old trail.old work.old × (recorded ≤ most_entries) × (room ≡ most_words) }
-    requires applicable { Applicable res.old work.old end to rules p }
-    ensures applied_of { AppliedOf res.old work.old end to rules counters p recorded
+    requires buffers { Buffers res.old trail.old work.old × (before.entries ≤ most_entries) × (room ≡ most_words) }
+    requires applicable { Applicable res.old work.old before.end before.to before.rules p }
+    ensures applied_of { AppliedOf res.old work.old before.end before.to before.rules before.counters p before.entries
         res.new trail.old trail.new result }
     ensures res_len_unchanged { (length res.new ≡ length res.old)
         × (length trail.new ≡ length trail.old) × (length work.new ≡ length work.old) }
 {
+    let rules = before.rules;
+    let counters = before.counters;
+    let end = before.end;
+    let recorded = before.entries;
     let l = p.l;
     let s = Sheet { bytes: res, end };
     let m = measure(&s, work, l);
-    let n = words_after(res, end, to, rules, p, work, m);
+    let n = words_after(res, end, before.to, rules, p, work, m);
     judge(counters, m, n, room, recorded)?;
     let entries = recorded + ids_in(m) + 1;
-    Ok(put(
-        res, trail, work, end, to, rules, counters, recorded, p, n, entries,
-    ))
+    Ok(put(res, trail, work, before, p, n, entries))
 }

@@ -88,7 +88,7 @@ module _ (ws : List ℕ) (end : ℕ) (rules : Rules) (p : Plan) (work : List ℕ
   -- The rules that stay, with the hub's new body.
   abbrev pub new_rules : Draft → List Rule → Rule → List Rule
   new_rules a rs hub =
-      let row = p.low ∷ p.high ∷ [] in
+      let row = p.removable in
       kept_of row 0 p.hub rs ++ ((new_hub a hub ∷ []) ++ kept_of row (p.hub + 1) rules.n rs)
 
   module _ (trail : List ℕ) (a : Draft) where

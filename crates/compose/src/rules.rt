@@ -52,7 +52,7 @@ pub fn compose_rules(
 {
     let hub = p.hub;
     let n = rules.n as usize;
-    let row = [p.low, p.high];
+    let row = p.removable;
     let front = copy_rules(s, rules, row, 0, hub, work, d);
     let with = add_hub(s, rules, p, work, trail, front);
     copy_rules(s, rules, row, hub + 1, n, work, with)

@@ -1,8 +1,8 @@
 -- What is decided of a cycle, against the definition (SPECIFICATION 7 to 10).
-use Rattle.std.specs.Prelude.{ℕ, ◌%◌, ◌<◌, ◌≡◌, List, [], ◌∷◌, Bool, not, get_or, eqb, Result, Ok, Err}
+use Rattle.std.specs.Prelude.{ℕ, ◌%◌, ◌<◌, ◌≡◌, List, Bool, not, get_or, eqb, Result, Ok, Err}
 use Rattle.grammar.specs.Tree.{Rule, body_depth, inner_depth}
 use Rattle.grammar.specs.Found.{RuleSpans}
-use Rattle.reference.specs.Substitute.{Decided, decided, clause_number}
+use Rattle.reference.specs.Substitute.{Decided, decided}
 use Rattle.reference.specs.Plan.{CyclePlan, plan_cycle, with_rule, substituting, last_tests}
 use Rattle.records.specs.declared.rules.Rules.{Rules}
 use Rattle.reach.specs.Rows.{RowOf}
@@ -12,22 +12,12 @@ use Rattle.analysis.specs.declared.rounds.Marks.{Marks}
 use Rattle.planned.specs.Layout.{settled}
 use Rattle.planned.specs.List.{Laid, AllIn}
 use Rattle.turns.specs.Midway.{limits_of}
-use Rattle.steps.specs.Decide.{clause_of}
 use Rattle.turns.specs.Turn.{UnplannedBy}
 use Rattle.turns.specs.declared.state.Limits.{Limits}
 use Rattle.substitution.specs.declared.turning.Done.{Done}
 use Rattle.plan.specs.declared.plan.Plan.{Plan}
 use Rattle.turns.specs.declared.turn.Unplanned.{Unplanned}
-use Rattle.turns.specs.declared.turn.Unplanned.TheVariants.{Declined, Overfull}
 use Rattle.plan.specs.Known.{CycleKnown, HubKnown, known_rules, known_grammar}
-
--- A decision as numbers: which it is, and its values.
-abbrev pub numbers : Result Plan Unplanned → List ℕ
-numbers (Ok p) =
-    0 ∷ p.hub ∷ p.steps ∷ p.low ∷ p.high
-    ∷ p.l.outa ∷ p.l.oute ∷ p.l.outo ∷ p.l.topa ∷ p.l.tope ∷ p.l.topo ∷ []
-numbers (Err (Declined c)) = 1 ∷ clause_number (clause_of c) ∷ []
-numbers (Err Overfull) = 2 ∷ []
 
 module _ (ws : List ℕ) (end : ℕ) (ids : List ℕ) (n : ℕ) (bs : List ℕ) where
   -- A plan of the definition: its hub by place, its alternatives in the work area, its removable rules as a row.
@@ -37,7 +27,7 @@ module _ (ws : List ℕ) (end : ℕ) (ids : List ℕ) (n : ℕ) (bs : List ℕ) 
     pub laid : Laid bs p.l
     pub listed : AllIn ws end inner_depth bs p.l
     pub alternatives : plan.alternatives ≡ settled ws end inner_depth bs p.l
-    pub removable : RowOf ids n plan.removable (p.low ∷ p.high ∷ [])
+    pub removable : RowOf ids n plan.removable p.removable
     pub steps : plan.steps ≡ p.steps
 
   pub record PlannedBy (m : Decided (CyclePlan inner_depth)) (p : Plan) : Type 0 where

@@ -1,5 +1,5 @@
 -- The search for the first cycle with a plan, against the definition (SPECIFICATION 5).
-use Rattle.std.specs.Prelude.{ℕ, ◌<◌, ◌≤◌, ◌≡◌, List, [], ◌∷◌, Bool, length, get_or, replicate}
+use Rattle.std.specs.Prelude.{ℕ, ◌<◌, ◌≤◌, ◌≡◌, List, [], Bool, length, get_or, replicate}
 use Rattle.grammar.specs.Numbers.{rule_limit}
 use Rattle.grammar.specs.Tree.{body_depth, inner_depth}
 use Rattle.reference.specs.Analysis.{left_corner_cycles}
@@ -80,7 +80,7 @@ module _ {ws : List ℕ} {end : ℕ} {rules : Rules} {past : Bool} {calls corner
         pub plan : CyclePlan inner_depth
         pub low : place < length cycles_of
         pub is : whole_search ≡ planned (get_or cycles_of place []) plan
-        pub is_cycle : IsCycle ws end rules x.known.standing (get_or cycles_of place []) (p.low ∷ p.high ∷ [])
+        pub is_cycle : IsCycle ws end rules x.known.standing (get_or cycles_of place []) p.members
         pub same : PlanAs ws end rules.ids rules.n bs plan p.plan
 
       abbrev pub AnswerIs : ℕ → Search → Type 0

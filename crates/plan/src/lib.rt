@@ -2,6 +2,7 @@
 // `reference` has them.
 #![tactic(auto)]
 
+pub mod facts;
 pub mod ground;
 pub mod plan;
 pub mod search;

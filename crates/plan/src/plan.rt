@@ -1,7 +1,7 @@
 // The decision for one cycle: its hub, the tests of its rules, the substitution, the tests of what that made, and the rules that
 // may go (SPECIFICATION 7 to 10).
-ghost use Rattle.std.specs.Prelude.{◌≡◌, ◌+◌, ◌<◌, ◌≤◌, length};
-ghost use Rattle.grammar.specs.Numbers.{rule_limit, most_words, work_bytes};
+ghost use Rattle.std.specs.Prelude.{◌+◌, ◌<◌, ◌≤◌, length};
+ghost use Rattle.grammar.specs.Numbers.{most_words, work_bytes};
 ghost use Rattle.grammar.specs.Tree.{inner_depth};
 ghost use Rattle.grammar.specs.Found.{FoundRule};
 ghost use Rattle.analysis.specs.Facts.{Standing};
@@ -11,16 +11,15 @@ ghost use Rattle.plan.specs.Known.{CycleKnown, HubKnown};
 ghost use Rattle.plan.specs.Decision.{TakesArguments, PlanOf, PlanWith, PlanMade, PlanLast};
 ghost use Rattle.words.specs.Sheet.{text};
 
+use crate::facts::Facts;
 use analysis::leaf::Known;
 use analysis::names::index;
-use analysis::rounds::Marks;
 use hub::budget::budget;
 use hub::hub::choose_hub;
 use hub::inlinable::all_inlinable;
 use hub::removal::removable;
 use planned::list::Sizes;
 use reach::rows::Row;
-use records::rules::Rules;
 use rewritable::judge::judge;
 use steps::corner::Cycle;
 use steps::decide::Clause;
@@ -31,79 +30,74 @@ use words::sheet::Sheet;
 use words::words::word;
 
 // What takes a cycle's place: the hub's place among the rules, its new alternatives in the work area, the steps that these took, and
-// the rules that may go, as the two words of a row.
-#[derive(Clone, Copy)]
+// the row of the rules that may go.
+#[derive(Clone, Copy, Debug, PartialEq, Eq)]
 pub struct Plan {
     pub hub: usize,
     pub l: Sizes,
     pub steps: usize,
-    pub low: u64,
-    pub high: u64,
+    pub removable: [u64; Row::WORDS],
 }
 
 // Behind the substitution: a step was made, what it left can be rewritten; then the rules that may go.
 fn finish(
     s: &Sheet,
-    rules: Rules,
-    past: bool,
-    calls: &[[u64; Row::WORDS]; Row::RULES],
-    marks: Marks,
-    kept: [u64; Row::WORDS],
+    f: &Facts,
     members: [u64; Row::WORDS],
     hub: usize,
     work: &[u8],
     done: Done,
 ) -> Result<Plan, Unplanned>
-    requires room { Standing (text s.now) s.now.end rules × (length calls.now ≡ rule_limit) × (hub < rules.n) }
+    requires room { Standing (text s.now) s.now.end f.now.rules × (hub < f.now.rules.n) }
     requires laid { Laid work.now done.l × AllIn (text s.now) s.now.end inner_depth work.now done.l }
-    ensures { PlanLast (text s.now) s.now.end rules past calls.now marks kept members hub done
+    ensures { PlanLast (text s.now) s.now.end f.now.rules f.now.past f.now.calls.now f.now.marks f.now.kept members hub done
         work.now result }
 {
     if done.steps == 0 {
         return Err(Unplanned::Declined(Clause::NoSteps));
     }
+    let rules = f.rules;
     let n = rules.n as usize;
     let l = done.l;
+    let marks = f.marks;
     let nullable = marks.nullable;
+    let past = f.past;
     let known = Known { n, nullable, past };
     let Some(planned) = judge(s, rules, known, members, hub, work, l) else {
         return Err(Unplanned::Declined(Clause::NotDirectlyRewritable));
     };
-    let row = removable(calls, n, members, kept, planned, hub);
+    let kept = f.kept;
+    let row = removable(f.calls, n, members, kept, planned, hub);
     Ok(Plan {
         hub,
         l,
         steps: done.steps,
-        low: row[0],
-        high: row[1],
+        removable: row,
     })
 }
 
 // The substitution within its budget, and what is behind it.
 fn make(
     s: &Sheet,
-    rules: Rules,
-    past: bool,
-    calls: &[[u64; Row::WORDS]; Row::RULES],
-    marks: Marks,
-    kept: [u64; Row::WORDS],
+    f: &Facts,
     members: [u64; Row::WORDS],
     hub: usize,
     limits: Limits,
     work: &mut [u8],
 ) -> Result<Plan, Unplanned>
     requires room { (s.now.end ≤ most_words) × (work_bytes ≤ length work.old) × LimitsFit limits }
-    requires calls_len { (length calls.now ≡ rule_limit) × HubKnown (text s.now) s.now.end rules past calls.now marks kept members hub }
-    ensures { PlanMade (text s.now) s.now.end rules past calls.now marks kept members limits hub
+    requires hub_known { HubKnown (text s.now) s.now.end f.now.rules f.now.past f.now.calls.now f.now.marks f.now.kept members hub }
+    ensures { PlanMade (text s.now) s.now.end f.now.rules f.now.past f.now.calls.now f.now.marks f.now.kept members limits hub
         work.new result }
 {
+    let rules = f.rules;
     let n = rules.n as usize;
     let most = budget(s, rules, members, limits.floor);
     let c = Cycle { n, members, hub };
     let Some(done) = substitute(s, rules, c, limits, most, work)? else {
         return Err(Unplanned::Declined(Clause::NoSteps));
     };
-    finish(s, rules, past, calls, marks, kept, members, hub, work, done)
+    finish(s, f, members, hub, work, done)
 }
 
 // Whether the rule at `at` takes arguments: its flags are odd.
@@ -119,58 +113,50 @@ fn takes_arguments(s: &Sheet, at: usize) -> bool
 // From the hub on: the tests of the rules, then the substitution.
 fn with_hub(
     s: &Sheet,
-    rules: Rules,
-    past: bool,
-    calls: &[[u64; Row::WORDS]; Row::RULES],
-    marks: Marks,
-    kept: [u64; Row::WORDS],
+    f: &Facts,
     members: [u64; Row::WORDS],
     hub: usize,
     limits: Limits,
     work: &mut [u8],
 ) -> Result<Plan, Unplanned>
     requires room { (s.now.end ≤ most_words) × (work_bytes ≤ length work.old) × LimitsFit limits }
-    requires calls_len { (length calls.now ≡ rule_limit) × (hub < rules.n) }
-    requires cycle_known { CycleKnown (text s.now) s.now.end rules past calls.now marks kept members }
-    ensures { PlanWith (text s.now) s.now.end rules past calls.now marks kept members limits hub
+    requires inside { hub < f.now.rules.n }
+    requires cycle_known { CycleKnown (text s.now) s.now.end f.now.rules f.now.past f.now.calls.now f.now.marks f.now.kept members }
+    ensures { PlanWith (text s.now) s.now.end f.now.rules f.now.past f.now.calls.now f.now.marks f.now.kept members limits hub
         work.new result }
 {
+    let rules = f.rules;
     let places = rules.places;
     if takes_arguments(s, index(places[hub])) {
         return Err(Unplanned::Declined(Clause::HubWithArguments));
     }
+    let marks = f.marks;
     let stops = marks.stops;
     if !all_inlinable(stops, members, hub) {
         return Err(Unplanned::Declined(Clause::SatelliteNotInlinable));
     }
-    make(
-        s, rules, past, calls, marks, kept, members, hub, limits, work,
-    )
+    make(s, f, members, hub, limits, work)
 }
 
 // The whole decision for a cycle, whose members are the row.
 pub fn plan_cycle(
     s: &Sheet,
-    rules: Rules,
-    past: bool,
-    calls: &[[u64; Row::WORDS]; Row::RULES],
-    marks: Marks,
-    kept: [u64; Row::WORDS],
+    f: &Facts,
     members: [u64; Row::WORDS],
     limits: Limits,
     work: &mut [u8],
 ) -> Result<Plan, Unplanned>
     requires room { (s.now.end ≤ most_words) × (work_bytes ≤ length work.old) × LimitsFit limits }
-    requires calls_len { length calls.now ≡ rule_limit }
-    requires cycle_known { CycleKnown (text s.now) s.now.end rules past calls.now marks kept members }
-    ensures { PlanOf (text s.now) s.now.end rules past calls.now marks kept members limits
+    requires cycle_known { CycleKnown (text s.now) s.now.end f.now.rules f.now.past f.now.calls.now f.now.marks f.now.kept members }
+    ensures { PlanOf (text s.now) s.now.end f.now.rules f.now.past f.now.calls.now f.now.marks f.now.kept members limits
         work.new result }
 {
+    let rules = f.rules;
+    let marks = f.marks;
     let nullable = marks.nullable;
-    let Some(hub) = choose_hub(s, rules, nullable, calls, members, kept) else {
+    let kept = f.kept;
+    let Some(hub) = choose_hub(s, rules, nullable, f.calls, members, kept) else {
         return Err(Unplanned::Declined(Clause::NoHub));
     };
-    with_hub(
-        s, rules, past, calls, marks, kept, members, hub, limits, work,
-    )
+    with_hub(s, f, members, hub, limits, work)
 }

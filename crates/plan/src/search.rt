@@ -6,26 +6,24 @@ ghost use Rattle.turns.specs.Midway.{LimitsFit};
 ghost use Rattle.plan.specs.Search.{IsNone, Ended, RulesKnown, FoundOf, JoinedKnown, TriedOf};
 ghost use Rattle.words.specs.Sheet.{text};
 
+use crate::facts::Facts;
 use crate::plan::{Plan, plan_cycle};
-use analysis::rounds::Marks;
 use reach::cycles::{joined, next_cycle};
 use reach::reach::loops;
 use reach::rows::Row;
-use records::rules::Rules;
 use turns::state::Limits;
 use turns::turn::Unplanned;
 use words::sheet::Sheet;
 
-// A plan, and the members of its cycle as the two words of a row.
-#[derive(Clone, Copy)]
+// A plan, and the row of its cycle's members.
+#[derive(Clone, Copy, Debug, PartialEq, Eq)]
 pub struct FoundPlan {
     pub plan: Plan,
-    pub low: u64,
-    pub high: u64,
+    pub members: [u64; Row::WORDS],
 }
 
 // No plan; a plan; or refusal 7.
-#[derive(Clone, Copy)]
+#[derive(Clone, Copy, Debug, PartialEq, Eq)]
 pub enum Search {
     NoPlan,
     Planned(FoundPlan),
@@ -33,7 +31,7 @@ pub enum Search {
 }
 
 // The answer, how many cycles were declined in front of it, and by which clauses, in the cycles' order; zeros behind.
-#[derive(Clone, Copy)]
+#[derive(Clone, Copy, Debug, PartialEq, Eq)]
 pub struct Found {
     pub answer: Search,
     pub declined: u32,
@@ -66,21 +64,18 @@ fn ended(answer: Search, declined: usize, clauses: [u32; Row::RULES]) -> Found
 // The cycles of rules that are joined.
 fn try_cycles(
     s: &Sheet,
-    rules: Rules,
-    past: bool,
-    calls: &[[u64; Row::WORDS]; Row::RULES],
+    f: &Facts,
     closed: &[[u64; Row::WORDS]; Row::RULES],
-    marks: Marks,
-    kept: [u64; Row::WORDS],
     limits: Limits,
     work: &mut [u8],
 ) -> Found
     requires room { (s.now.end ≤ most_words) × (work_bytes ≤ length work.old) × LimitsFit limits }
-    requires calls_len { (length calls.now ≡ rule_limit) × (length closed.now ≡ rule_limit) × (rules.n ≤ rule_limit) }
-    requires joined_known { JoinedKnown (text s.now) s.now.end rules past calls.now marks kept closed.now }
-    ensures { TriedOf (text s.now) s.now.end rules past calls.now marks kept closed.now limits
+    requires closed_len { (length closed.now ≡ rule_limit) × (f.now.rules.n ≤ rule_limit) }
+    requires joined_known { JoinedKnown (text s.now) s.now.end f.now.rules f.now.past f.now.calls.now f.now.marks f.now.kept closed.now }
+    ensures { TriedOf (text s.now) s.now.end f.now.rules f.now.past f.now.calls.now f.now.marks f.now.kept closed.now limits
         work.new result }
 {
+    let rules = f.rules;
     let n = rules.n as usize;
     let ids = rules.ids;
     let none = Found::none();
@@ -91,13 +86,9 @@ fn try_cycles(
             return ended(Search::NoPlan, k, clauses);
         };
         let members = ahead.members;
-        match plan_cycle(s, rules, past, calls, marks, kept, members, limits, work) {
+        match plan_cycle(s, f, members, limits, work) {
             Ok(plan) => {
-                let answer = Search::Planned(FoundPlan {
-                    plan,
-                    low: members[0],
-                    high: members[1],
-                });
+                let answer = Search::Planned(FoundPlan { plan, members });
                 return ended(answer, k, clauses);
             }
             Err(Unplanned::Declined(clause)) => {
@@ -114,21 +105,17 @@ fn try_cycles(
 #[tactic(auto, using(crate::proofs::Laws::Cycles::found_of))]
 pub fn find_plan(
     s: &Sheet,
-    rules: Rules,
-    past: bool,
-    calls: &[[u64; Row::WORDS]; Row::RULES],
+    f: &Facts,
     corners: &[[u64; Row::WORDS]; Row::RULES],
-    marks: Marks,
-    kept: [u64; Row::WORDS],
     limits: Limits,
     work: &mut [u8],
 ) -> Found
     requires room { (s.now.end ≤ most_words) × (work_bytes ≤ length work.old) × LimitsFit limits }
-    requires calls_len { length calls.now ≡ rule_limit }
-    requires rules_known { RulesKnown (text s.now) s.now.end rules past calls.now corners.now marks kept }
-    ensures { FoundOf (text s.now) s.now.end rules past calls.now corners.now marks kept limits
+    requires rules_known { RulesKnown (text s.now) s.now.end f.now.rules f.now.past f.now.calls.now corners.now f.now.marks f.now.kept }
+    ensures { FoundOf (text s.now) s.now.end f.now.rules f.now.past f.now.calls.now corners.now f.now.marks f.now.kept limits
         work.new result }
 {
+    let rules = f.rules;
     let closed = joined(*corners, rules.n as usize);
-    try_cycles(s, rules, past, calls, &closed, marks, kept, limits, work)
+    try_cycles(s, f, &closed, limits, work)
 }

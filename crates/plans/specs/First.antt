@@ -45,7 +45,7 @@ module _ (limits : Limits) (ws : List ℕ) (end : ℕ) (ids : List ℕ) (n : ℕ
     pub plan : CyclePlan inner_depth
     pub low : place < length (cycles_of c rs)
     pub is : searched ≡ planned (get_or (cycles_of c rs) place []) plan
-    pub members : RowOf ids n (get_or (cycles_of c rs) place []) (p.low ∷ p.high ∷ [])
+    pub members : RowOf ids n (get_or (cycles_of c rs) place []) p.members
     pub same : PlanAs ws end ids n bs plan p.plan
 
   abbrev pub SearchAs : ℕ → Search → Type 0
@@ -74,10 +74,10 @@ search_numbers k TooLarge = 0 ∷ k ∷ 2 ∷ 0 ∷ 0 ∷ 0 ∷ 0 ∷ 0 ∷ []
 -- The members of the cycle, and the rules that may go.
 abbrev pub search_cycle : Search → List ℕ
 search_cycle NoPlan = 0 ∷ 0 ∷ []
-search_cycle (Planned p) = p.low ∷ p.high ∷ []
+search_cycle (Planned p) = p.members
 search_cycle TooLarge = 0 ∷ 0 ∷ []
 
 abbrev pub search_row : Search → List ℕ
 search_row NoPlan = 0 ∷ 0 ∷ []
-search_row (Planned p) = p.plan.low ∷ p.plan.high ∷ []
+search_row (Planned p) = p.plan.removable
 search_row TooLarge = 0 ∷ 0 ∷ []

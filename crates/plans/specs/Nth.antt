@@ -55,7 +55,7 @@ decision_numbers k (Err Overfull) = 0 ∷ k ∷ 2 ∷ 0 ∷ 0 ∷ 0 ∷ 0 ∷ 0 
 
 -- The rules that may go.
 abbrev pub decision_row : Result Plan Unplanned → List ℕ
-decision_row (Ok p) = p.low ∷ p.high ∷ []
+decision_row (Ok p) = p.removable
 decision_row (Err e) = 0 ∷ 0 ∷ []
 
 abbrev pub choice_numbers : ℕ → Option (Result Plan Unplanned) → List ℕ

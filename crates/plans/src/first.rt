@@ -7,6 +7,7 @@ ghost use Rattle.plans.specs.First.{FirstOf, search_numbers, search_cycle, searc
 ghost use Rattle.words.specs.Sheet.{text};
 
 use crate::nth::capped;
+use plan::facts::Facts;
 use plan::ground::find_out;
 use plan::plan::Plan;
 use plan::search::{Found, Search, find_plan};
@@ -35,7 +36,14 @@ pub fn decide_first(s: &Sheet, to: usize, rules: Rules, past: bool, work: &mut [
     let marks = ground.marks;
     let kept = ground.kept;
     let limits = Limits::standard();
-    find_plan(s, rules, past, &calls, &corners, marks, kept, limits, work)
+    let facts = Facts {
+        rules,
+        past,
+        calls: &calls,
+        marks,
+        kept,
+    };
+    find_plan(s, &facts, &corners, limits, work)
 }
 
 // A search in numbers, where so many cycles were declined.
@@ -46,6 +54,8 @@ pub fn tell_search(declined: u32, answer: Search) -> FirstTold
         Search::Planned(f) => {
             let p = f.plan;
             let l = p.l;
+            let cycle = f.members;
+            let row = p.removable;
             FirstTold {
                 numbers: [
                     0,
@@ -57,8 +67,8 @@ pub fn tell_search(declined: u32, answer: Search) -> FirstTold
                     capped(l.outa),
                     0,
                 ],
-                cycle: [f.low, f.high],
-                row: [p.low, p.high],
+                cycle,
+                row,
             }
         }
         Search::TooLarge => FirstTold {

@@ -6,6 +6,7 @@ ghost use Rattle.plan.specs.Ground.{KeptAt};
 ghost use Rattle.plans.specs.Nth.{NthOf, nth_numbers, nth_row, capped, decision_numbers, decision_row, left_by};
 ghost use Rattle.words.specs.Sheet.{text};
 
+use plan::facts::Facts;
 use plan::ground::find_out;
 use plan::plan::{Plan, plan_cycle};
 use reach::cycles::list_cycles;
@@ -17,7 +18,7 @@ use words::sheet::Sheet;
 use words::words::clear;
 
 // How many cycles there are, and the decision; none where there is no such cycle.
-#[derive(Clone, Copy)]
+#[derive(Clone, Copy, Debug, PartialEq, Eq)]
 pub struct Nth {
     pub cycles: u32,
     pub choice: Option<Result<Plan, Unplanned>>,
@@ -61,7 +62,14 @@ pub fn decide_nth(s: &Sheet, to: usize, rules: Rules, past: bool, nth: u32, work
     }
     let members = cycles[nth as usize];
     let limits = Limits::standard();
-    let decision = plan_cycle(s, rules, past, &calls, marks, kept, members, limits, work);
+    let facts = Facts {
+        rules,
+        past,
+        calls: &calls,
+        marks,
+        kept,
+    };
+    let decision = plan_cycle(s, &facts, members, limits, work);
     Nth {
         cycles: n,
         choice: Some(decision),
@@ -82,6 +90,7 @@ fn tell_decision(cycles: u32, d: Result<Plan, Unplanned>) -> Told
     match d {
         Ok(p) => {
             let l = p.l;
+            let row = p.removable;
             Told {
                 numbers: [
                     0,
@@ -93,7 +102,7 @@ fn tell_decision(cycles: u32, d: Result<Plan, Unplanned>) -> Told
                     capped(l.outa),
                     0,
                 ],
-                row: [p.low, p.high],
+                row,
             }
         }
         Err(Unplanned::Declined(clause)) => Told {

@@ -1,5 +1,5 @@
 // A row with a place taken out: the places above it move down by one.
-ghost use Rattle.std.specs.Prelude.{◌∷◌, [], ◌<◌};
+ghost use Rattle.std.specs.Prelude.{◌<◌};
 ghost use Rattle.grammar.specs.Numbers.{rule_limit};
 ghost use Rattle.renew.specs.Less.{WordLess, Less};
 

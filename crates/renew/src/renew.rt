@@ -15,7 +15,7 @@ use reach::rows::{Row, add_if, without};
 use records::rules::Rules;
 use words::sheet::Sheet;
 
-// What is known of the rules that stay, and the hub's place among them.
+// What is known of rules, and the hub's place among them.
 #[derive(Clone, Copy, Debug, PartialEq, Eq)]
 pub struct Renewed {
     pub marks: Marks,
@@ -64,29 +64,27 @@ fn survey_hub(
     put_bit(stops, hub, v.stops)
 }
 
-// What is known of the rules after a plan, by what was known before it: n rules, with the hub at a place, and those in a row gone.
+// What is known of the rules after a plan, by what was known before it: n rules, of which those in a row are gone.
 pub fn renew(
     s: &Sheet,
     rules: Rules,
     n: usize,
-    hub: usize,
+    before: Renewed,
     gone: [u64; Row::WORDS],
     past: bool,
     calls: &mut [[u64; Row::WORDS]; Row::RULES],
     corners: &mut [[u64; Row::WORDS]; Row::RULES],
-    marks: Marks,
-    kept: [u64; Row::WORDS],
     work: &mut [u8],
 ) -> Renewed
     requires room { work_bytes ≤ length work.old }
     requires calls_len { (length calls.old ≡ rule_limit) × (length corners.old ≡ rule_limit) }
-    requires renewable { Renewable (text s.now) s.now.end rules n hub gone past calls.old corners.old marks kept }
-    ensures renewed_of { RenewedOf (text s.now) s.now.end rules n hub gone past
-        calls.old corners.old marks kept calls.new corners.new result }
+    requires renewable { Renewable (text s.now) s.now.end rules n before.hub gone past calls.old corners.old
+        before.marks before.kept }
+    ensures renewed_of { RenewedOf (text s.now) s.now.end rules n before.hub gone past
+        calls.old corners.old before.marks before.kept calls.new corners.new result }
     ensures calls_len_2 { (length calls.new ≡ rule_limit) × (length corners.new ≡ rule_limit) }
     ensures work_after { work.new ≡ table_with rules.names rules.n work.old }
 {
-    let before = Renewed { marks, kept, hub };
     let rest = rules_less(gone, before, n, calls, corners);
     let known = rest.marks;
     let nullable = known.nullable;

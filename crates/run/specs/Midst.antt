@@ -25,13 +25,9 @@ use Rattle.run.specs.Ended.{Front}
 abbrev pub at_start : Rules → Marks → List ℕ → Counters → (end to entries : ℕ) → State
 at_start rules marks kept counters end to entries =
     record {
-      rules = rules;
+      at = record { rules = rules; counters = counters; end = end; to = to; entries = entries };
       marks = marks;
       kept = kept;
-      counters = counters;
-      end = end;
-      to = to;
-      entries = entries;
       plans = 0;
       steps = 0;
     }
@@ -51,13 +47,13 @@ module _ (limits : R.Limits) (past : Bool) (s : Sheet) (result trail : List ℕ)
     pub stages : List Stage
     pub now : Sheet
     pub midway : Midway limits (reading past) s stages now
-    pub held : Held result now st.end st.to
-    pub rows : RowsOf now.rules st.rules
-    pub counters : counters_of st.counters ≡ now.counters
-    pub facts : FactsOf (reading past) now.rules st.rules.ids calls corners st.marks
-    pub keeps : RowOf st.rules.ids st.rules.n s.preserved st.kept
-    pub told : Front trail (each encode_entry (entries_of stages)) (entry_words * st.entries)
-    pub entries : st.entries ≡ length (entries_of stages)
+    pub held : Held result now st.at.end st.at.to
+    pub rows : RowsOf now.rules st.at.rules
+    pub counters : counters_of st.at.counters ≡ now.counters
+    pub facts : FactsOf (reading past) now.rules st.at.rules.ids calls corners st.marks
+    pub keeps : RowOf st.at.rules.ids st.at.rules.n s.preserved st.kept
+    pub told : Front trail (each encode_entry (entries_of stages)) (entry_words * st.at.entries)
+    pub entries : st.at.entries ≡ length (entries_of stages)
     pub plans : st.plans ≡ length stages
     pub steps : st.steps ≡ steps_of stages
 

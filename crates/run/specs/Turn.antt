@@ -1,5 +1,5 @@
 -- One turn of the loop over plans (SPECIFICATION 5.2): one plan more, or the run is over.
-use Rattle.std.specs.Prelude.{ℕ, suc, ◌+◌, ◌<◌, ◌≤◌, ◌^◌, ◌≡◌, List, [], ◌∷◌, Bool, length}
+use Rattle.std.specs.Prelude.{ℕ, suc, ◌+◌, ◌<◌, ◌≤◌, ◌^◌, ◌≡◌, List, Bool, length}
 use Rattle.std.specs.Prelude.{Option, Some, None, Result, Ok, Err, IfOk, MatchResult}
 use Rattle.grammar.specs.Numbers.{trailer_words}
 use Rattle.grammar.specs.Tree.{Sheet, inner_depth}
@@ -28,19 +28,15 @@ pub record Small (limits : Limits) : Type 0 where
 
 -- Where a run is over: what the state has.
 abbrev pub ended_with : State → Ended
-ended_with st = record { plans = st.plans; steps = st.steps; words = st.to + trailer_words; entries = st.entries }
+ended_with st = record { plans = st.plans; steps = st.steps; words = st.at.to + trailer_words; entries = st.at.entries }
 
 -- The state behind a plan that was applied.
 abbrev pub behind_plan : State → Applied → Plan → Renewed → State
 behind_plan st a p r =
     record {
-      rules = a.rules;
+      at = a;
       marks = r.marks;
       kept = r.kept;
-      counters = a.counters;
-      end = a.end;
-      to = a.to;
-      entries = a.entries;
       plans = st.plans + 1;
       steps = st.steps + p.steps;
     }
@@ -73,7 +69,7 @@ pub record TurnedOf (limits : R.Limits) (past : Bool) (result trail : List ℕ) 
 pub record UpToDate (ws : List ℕ) (past : Bool) (calls corners : List (List ℕ)) (st : State) (a : Applied) (p : Plan)
     (calls' corners' : List (List ℕ)) (r : State) : Type 0 where
   pub renewed : Renewed
-  pub renews : RenewedOf ws a.end a.rules st.rules.n p.hub (p.low ∷ p.high ∷ []) past calls corners st.marks st.kept
+  pub renews : RenewedOf ws a.end a.rules st.at.rules.n p.hub p.removable past calls corners st.marks st.kept
       calls' corners' renewed
   pub is : r ≡ behind_plan st a p renewed
 
@@ -85,7 +81,7 @@ module _ (limits : R.Limits) (past : Bool) (result trail work : List ℕ) (calls
     pub cycle : List ℕ
     pub plan : CyclePlan inner_depth
     pub found : find_plan limits (reading past) sheet.preserved midst.now.rules ≡ planned cycle plan
-    pub same : PlanAs (words result) st.end st.rules.ids st.rules.n work plan p
+    pub same : PlanAs (words result) st.at.end st.at.rules.ids st.at.rules.n work plan p
 
   pub record AdvancedOf (result' trail' : List ℕ) (calls' corners' : List (List ℕ)) (r : Result State Refusal) : Type 0 where
     pub is : (x : Advancing) → MatchResult r (OneMore limits past x.sheet result' trail' calls' corners' st)

@@ -3,6 +3,7 @@ ghost use Rattle.std.specs.Prelude.{◌≡◌};
 ghost use Rattle.run.specs.Midst.{at_start};
 
 use analysis::rounds::Marks;
+use apply::apply::Applied;
 use reach::rows::Row;
 use records::rules::Rules;
 use writing::counters::Counters;
@@ -21,17 +22,12 @@ impl Trail {
     }
 }
 
-// The rules of the sheet in the result, what is known of them, the preserved ones, the counters; where the rules end, and the
-// preserved ids behind them, in words; how many entries the trail has; plans and steps so far.
+// The sheet in the result with its rules and counters, what is known of the rules, the preserved ones; plans and steps so far.
 #[derive(Clone, Copy)]
 pub struct State {
-    pub rules: Rules,
+    pub at: Applied,
     pub marks: Marks,
     pub kept: [u64; Row::WORDS],
-    pub counters: Counters,
-    pub end: usize,
-    pub to: usize,
-    pub entries: usize,
     pub plans: u32,
     pub steps: u32,
 }
@@ -49,14 +45,17 @@ impl State {
     ) -> State
         ensures { result ≡ at_start rules marks kept counters end to recorded.entries }
     {
-        State {
+        let at = Applied {
             rules,
-            marks,
-            kept,
             counters,
             end,
             to,
             entries: recorded.entries,
+        };
+        State {
+            at,
+            marks,
+            kept,
             plans: 0,
             steps: 0,
         }

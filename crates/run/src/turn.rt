@@ -1,5 +1,5 @@
 // One turn of the loop over plans (SPECIFICATION 5.2): the first cycle with a plan is joined, and what is known is brought up to date.
-ghost use Rattle.std.specs.Prelude.{◌≡◌, [], ◌∷◌, ◌+◌, ◌≤◌, ◌<◌, length};
+ghost use Rattle.std.specs.Prelude.{◌≡◌, ◌+◌, ◌≤◌, ◌<◌, length};
 ghost use Rattle.grammar.specs.Numbers.{rule_limit, most_words, work_bytes, word_end};
 ghost use Rattle.grammar.specs.Words.{words};
 ghost use Rattle.words.specs.Room.{Room};
@@ -11,10 +11,11 @@ ghost use Rattle.run.specs.Turn.{Small, UpToDate, Advancing, AdvancedOf, TurnedO
 
 use crate::state::State;
 use apply::apply::{Applied, apply};
+use plan::facts::Facts;
 use plan::plan::Plan;
 use plan::search::{Search, find_plan};
 use reach::rows::Row;
-use renew::renew::renew;
+use renew::renew::{Renewed, renew};
 use turns::state::Limits;
 use words::numbers::Refusal;
 use words::sheet::Sheet;
@@ -30,41 +31,40 @@ fn bring_up(
     a: Applied,
     p: Plan,
 ) -> State
-    requires room { Room res.now a.end × (work_bytes ≤ length work.old) × (st.rules.n ≤ rule_limit) }
+    requires room { Room res.now a.end × (work_bytes ≤ length work.old) × (st.at.rules.n ≤ rule_limit) }
     requires calls_len { (length calls.old ≡ rule_limit) × (length corners.old ≡ rule_limit) }
     requires plans_bound { (st.plans + 1 < word_end) × (st.steps + p.steps < word_end) }
-    requires renewable { Renewable (words res.now) a.end a.rules st.rules.n p.hub (p.low ∷ p.high ∷ []) past calls.old
+    requires renewable { Renewable (words res.now) a.end a.rules st.at.rules.n p.hub p.removable past calls.old
         corners.old st.marks st.kept }
     ensures up_to_date { UpToDate (words res.now) past calls.old corners.old st a p
         calls.new corners.new result }
     ensures calls_len_2 { (length calls.new ≡ rule_limit) × (length corners.new ≡ rule_limit) }
 {
-    let before = st.rules;
-    let n = before.n as usize;
+    let at = st.at;
+    let old = at.rules;
+    let n = old.n as usize;
     let plans = st.plans + 1;
     let steps = st.steps + p.steps as u32;
     let marks = st.marks;
     let kept = st.kept;
     let rules = a.rules;
-    let counters = a.counters;
-    let gone = [p.low, p.high];
+    let gone = p.removable;
     let s = Sheet {
         bytes: res,
         end: a.end,
     };
-    let r = renew(
-        &s, rules, n, p.hub, gone, past, calls, corners, marks, kept, work,
-    );
+    let before = Renewed {
+        marks,
+        kept,
+        hub: p.hub,
+    };
+    let r = renew(&s, rules, n, before, gone, past, calls, corners, work);
     let known = r.marks;
     let preserved = r.kept;
     State {
-        rules,
+        at: a,
         marks: known,
         kept: preserved,
-        counters,
-        end: a.end,
-        to: a.to,
-        entries: a.entries,
         plans,
         steps,
     }
@@ -92,11 +92,8 @@ fn advance(
         × (length trail.new ≡ length trail.old) × (length work.new ≡ length work.old) }
     ensures calls_len_2 { (length calls.new ≡ rule_limit) × (length corners.new ≡ rule_limit) }
 {
-    let rules = st.rules;
-    let counters = st.counters;
-    let a = apply(
-        res, trail, work, st.end, st.to, rules, counters, st.entries, room, p,
-    )?;
+    let at = st.at;
+    let a = apply(res, trail, work, at, room, p)?;
     Ok(bring_up(res, work, calls, corners, past, st, a, p))
 }
 
@@ -121,14 +118,22 @@ pub fn take_turn(
         × (length trail.new ≡ length trail.old) × (length work.new ≡ length work.old) }
     ensures calls_len_2 { (length calls.new ≡ rule_limit) × (length corners.new ≡ rule_limit) }
 {
-    let rules = st.rules;
+    let at = st.at;
+    let rules = at.rules;
     let marks = st.marks;
     let kept = st.kept;
     let s = Sheet {
         bytes: res,
-        end: st.end,
+        end: at.end,
     };
-    let found = find_plan(&s, rules, past, calls, corners, marks, kept, limits, work);
+    let facts = Facts {
+        rules,
+        past,
+        calls,
+        marks,
+        kept,
+    };
+    let found = find_plan(&s, &facts, corners, limits, work);
     let answer = found.answer;
     match answer {
         Search::NoPlan => Ok(None),

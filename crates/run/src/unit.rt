@@ -58,10 +58,11 @@ pub fn run_unit(
     )? {
         st = next;
     }
+    let at = st.at;
     Ok(Ended {
         plans: st.plans,
         steps: st.steps,
-        words: st.to + Sheet::TRAILER_WORDS,
-        entries: st.entries,
+        words: at.to + Sheet::TRAILER_WORDS,
+        entries: at.entries,
     })
 }

@@ -77,8 +77,8 @@ module _ {result work : List ℕ} {end to : ℕ} {rules : Rules} {p : Plan} {m :
 
   -- The rules that are left, and their words.
   rules_left : (after_of x c).node
-      ≡ kept_of (p.low ∷ p.high ∷ []) 0 p.hub x.sheet.rules
-      ++ (with_rule_body body.node hub_at.rule ∷ kept_of (p.low ∷ p.high ∷ []) (p.hub + 1) rules.n x.sheet.rules)
+      ≡ kept_of p.removable 0 p.hub x.sheet.rules
+      ++ (with_rule_body body.node hub_at.rule ∷ kept_of p.removable (p.hub + 1) rules.n x.sheet.rules)
   unfolding apply_plan held_standing
   rules_left =
       let s = held_standing x.held x.is_valid x.rows in
@@ -96,8 +96,8 @@ module _ {result work : List ℕ} {end to : ℕ} {rules : Rules} {p : Plan} {m :
 
 pub words_after_lem : {result work : List ℕ} {end to : ℕ} {rules : Rules} {p : Plan} {m : Measure} {front rest n : ℕ}
     → Measured inner_depth (settled (words result) end inner_depth work p.l) m
-    → LeftTake (words result) end rules (p.low ∷ p.high ∷ []) 0 p.hub front
-    → LeftTake (words result) end rules (p.low ∷ p.high ∷ []) (p.hub + 1) rules.n rest
+    → LeftTake (words result) end rules p.removable 0 p.hub front
+    → LeftTake (words result) end rules p.removable (p.hub + 1) rules.n rest
     → n ≡ front + (4 + m.words) + rest + (to - end) + trailer_words
     → WordsAfter result work end to rules p n
 unfolding held_standing
@@ -109,8 +109,8 @@ words_after_lem {result} {work} {end} {to} {rules} {p} {m} {front} {rest} {n} w 
           let g = b.is s in
           let u = x.held.up_to in
           let q = encode_long (sheet_with x.sheet.kind x.sheet.preserved (after_of x c)) in
-          let front-rules = kept_of (p.low ∷ p.high ∷ []) 0 p.hub x.sheet.rules in
-          let rest-rules = kept_of (p.low ∷ p.high ∷ []) (p.hub + 1) rules.n x.sheet.rules in
+          let front-rules = kept_of p.removable 0 p.hub x.sheet.rules in
+          let rest-rules = kept_of p.removable (p.hub + 1) rules.n x.sheet.rules in
           let hub = with_rule_body (body w x c).node (hub_at w x c).rule in
           let enc = encode_rule (encode_block body_depth) in
           let l = ap (λ rs. length (encode_rules rs)) (rules_left w x c) in

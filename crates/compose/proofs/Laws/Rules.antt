@@ -129,7 +129,7 @@ last_open {p = p} h o s l =
 module _ {ws : List ℕ} {end : ℕ} {rules : Rules} {p : Plan} {work trail : List ℕ} {d : Draft}
     (fit : NewRulesFit ws end rules p work trail d) (inside : p.hub < rules.n) (ready : Open d work) (laid : Laid work p.l) where
   abbrev row : List ℕ
-  row = p.low ∷ p.high ∷ []
+  row = p.removable
 
   abbrev enc : Rule → List ℕ
   enc = encode_rule (encode_block body_depth)

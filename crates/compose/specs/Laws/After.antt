@@ -113,7 +113,7 @@ module _ {rs : List Rule} {i : ℕ} (a : Among rs i) where
 module _ {ws : List ℕ} {end to : ℕ} {rules : Rules} {p : Plan} {work trail : List ℕ} {pen : Pen}
     (x : Applies ws end to rules p work trail pen) where
   abbrev row : List ℕ
-  row = p.low ∷ p.high ∷ []
+  row = p.removable
 
   abbrev rs : List Rule
   rs = rules_before x

@@ -11,7 +11,6 @@ use Rattle.reference.specs.Substitute.{Clause, no_steps, not_directly_rewritable
 use Rattle.reference.specs.Plan.{plan_of}
 use Rattle.records.specs.declared.rules.Rules.{Rules}
 use Rattle.reach.specs.Rows.{RowOf}
-use Rattle.reach.proofs.Laws.Rows.{two_words}
 use Rattle.analysis.specs.Survey.{reading}
 use Rattle.analysis.specs.declared.rounds.Marks.{Marks}
 use Rattle.analysis.proofs.Laws.Standing.{all_rules}
@@ -72,7 +71,7 @@ module _ {ws : List ℕ} {end : ℕ} {rules : Rules} {past : Bool} {calls : List
     pub last_plan : {planned : List ℕ} → j ≡ Some planned → hub < rules.n → Laid bs done.l → AllIn ws end inner_depth bs done.l
         → {row : List ℕ} → Removable calls n planned hub members kept row
         → PlanLast ws end rules past calls marks kept members hub done bs
-        (Ok (record { hub = hub; l = done.l; steps = done.steps; low = get_or row 0 0; high = get_or row 1 0 }))
+        (Ok (record { hub = hub; l = done.l; steps = done.steps; removable = row }))
     last_plan {planned} u low laid listed {row} rows =
         record {
           is = λ limits x.
@@ -92,7 +91,6 @@ module _ {ws : List ℕ} {end : ℕ} {rules : Rules} {past : Bool} {calls : List
                 plan = ps;
                 plans = (known_judged x).calls planned u;
               } in
-              let r = rows.is p x.cycle x.preserved x.is_cycle x.keeps in
               record {
                 plan = plan_of inner_depth rs x.cycle g x.preserved (get_or rules.ids hub 0)
                     (record { alternatives = ps; steps = done.steps });
@@ -103,7 +101,7 @@ module _ {ws : List ℕ} {end : ℕ} {rules : Rules} {past : Bool} {calls : List
                   laid = laid;
                   listed = listed;
                   alternatives = refl;
-                  removable = record { at = λ i. two_words row i ∙ r.at i };
+                  removable = rows.is p x.cycle x.preserved x.is_cycle x.keeps;
                   steps = refl;
                 };
               };

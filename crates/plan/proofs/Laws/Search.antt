@@ -18,7 +18,6 @@ use Rattle.reach.specs.Rows.{RowOf}
 use Rattle.reach.specs.Reach.{Loops}
 use Rattle.reach.specs.Listed.{Ids, Left, Taken, AheadOf}
 use Rattle.reach.specs.declared.cycles.Ahead.{Ahead}
-use Rattle.reach.proofs.Laws.Rows.{two_words}
 use Rattle.analysis.specs.Survey.{reading}
 use Rattle.analysis.specs.declared.rounds.Marks.{Marks}
 use Rattle.hub.specs.Grounds.{IsCycle}
@@ -213,7 +212,7 @@ module _ {ws : List ℕ} {end : ℕ} {rules : Rules} {past : Bool} {calls : List
               }
 
           pub try_planned : {f : Found} {plan : Plan} → t ≡ Ok plan
-              → Ended (Planned (record { plan = plan; low = get_or r.members 0 0; high = get_or r.members 1 0 })) k clauses f
+              → Ended (Planned (record { plan = plan; members = r.members })) k clauses f
               → TriedOf ws end rules past calls marks kept closed limits bs f
           unfolding search_cycles
           try_planned z e =
@@ -223,7 +222,7 @@ module _ {ws : List ℕ} {end : ℕ} {rules : Rules} {past : Bool} {calls : List
                 plan = h.plan;
                 low = inside x;
                 is = next x ∙ rw (h.is, search_cycles) refl;
-                is_cycle = nth_cycle x (record { at = λ j. two_words r.members j ∙ (nth_row x).at j });
+                is_cycle = nth_cycle x (nth_row x);
                 same = h.same;
               }
 

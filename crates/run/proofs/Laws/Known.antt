@@ -38,19 +38,19 @@ module _ {limits : R.Limits} {past : Bool} {s : Sheet} {result trail : List ℕ}
   pub now_valid : valid m.now ≡ true
   now_valid = so_far.reads_back.is_valid
 
-  pub midst_short : st.to + trailer_words ≤ most_words
+  pub midst_short : st.at.to + trailer_words ≤ most_words
   midst_short = let e = held_long m.held in let l = so_far.words in omega arith
 
   pub midst_ended : Short (ended_with st)
   midst_ended = record { words = midst_short; entries = let e = m.entries in let l = so_far.entries in omega arith }
 
-  pub midst_room : Room result st.end
+  pub midst_room : Room result st.at.end
   midst_room = held_room m.held midst_short
 
-  pub midst_small : st.end ≤ most_words
+  pub midst_small : st.at.end ≤ most_words
   midst_small = let u = m.held.up_to in let l = midst_short in omega arith
 
-  unfoldable pub midst_known : RulesKnown (words result) st.end st.rules past calls corners st.marks st.kept
+  unfoldable pub midst_known : RulesKnown (words result) st.at.end st.at.rules past calls corners st.marks st.kept
   unfolding held_standing
   midst_known =
       record {
@@ -61,7 +61,7 @@ module _ {limits : R.Limits} {past : Bool} {s : Sheet} {result trail : List ℕ}
 
 module _ {lim : Limits} {past : Bool} {s : Sheet} {result trail : List ℕ} {calls corners : List (List ℕ)} {st : State}
     (m : Midst (limits_of lim) past s result trail calls corners st) {bs : List ℕ} {r : Found}
-    (o : FoundOf (words result) st.end st.rules past calls corners st.marks st.kept lim bs r) where
+    (o : FoundOf (words result) st.at.end st.at.rules past calls corners st.marks st.kept lim bs r) where
   pub answer_at : {a : Search} → r.answer ≡ a → AnswerIs (midst_known m) lim bs r.declined a
   answer_at e = subst (λ a. AnswerIs (midst_known m) lim bs r.declined a) e (o.is (midst_known m)).answer
 
@@ -84,13 +84,13 @@ module _ {lim : Limits} {past : Bool} {s : Sheet} {result trail : List ℕ} {cal
         cycle = _;
         plan = a.plan;
         found = a.is;
-        same = subst (λ q. PlanAs (words result) st.end st.rules.ids st.rules.n bs a.plan q) (sym g) a.same;
+        same = subst (λ q. PlanAs (words result) st.at.end st.at.rules.ids st.at.rules.n bs a.plan q) (sym g) a.same;
       }
 
 -- The plan may be applied.
 unfoldable pub advancing_applicable : {limits : R.Limits} {past : Bool} {result trail work : List ℕ}
     {calls corners : List (List ℕ)} {st : State} {p : Plan} → (x : Advancing limits past result trail work calls corners st p)
-    → Applicable result work st.end st.to st.rules p
+    → Applicable result work st.at.end st.at.to st.at.rules p
 advancing_applicable {limits} {past} x =
     record {
       sheet = x.midst.now;
@@ -105,10 +105,10 @@ advancing_applicable {limits} {past} x =
 
 pub advancing_entries : {limits : R.Limits} {past : Bool} {result trail work : List ℕ}
     {calls corners : List (List ℕ)} {st : State} {p : Plan} → Advancing limits past result trail work calls corners st p
-    → st.entries ≤ most_entries
+    → st.at.entries ≤ most_entries
 advancing_entries x = let e = x.midst.entries in let l = (so_far x.midst).entries in omega arith
 
 pub advancing_rules : {limits : R.Limits} {past : Bool} {result trail work : List ℕ}
     {calls corners : List (List ℕ)} {st : State} {p : Plan} → Advancing limits past result trail work calls corners st p
-    → st.rules.n ≤ rule_limit
+    → st.at.rules.n ≤ rule_limit
 advancing_rules x = let e = x.midst.rows.count in let l = (so_far x.midst).rules in omega arith

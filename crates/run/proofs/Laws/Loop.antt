@@ -53,10 +53,10 @@ module _ {lim : Limits} {past : Bool} {room : ℕ} {result₀ : List ℕ} {end t
       → FactsFound (words result₀) end rules past calls corners marks → KeptOf (words result₀) end to rules kept
       → length calls ≡ rule_limit → length corners ≡ rule_limit → length work ≡ length work₀
       → st ≡ at_start rules marks kept counters end to recorded
-      → Looping lim past room result₀ end to st.rules st.counters result₀ trail work calls corners st
+      → Looping lim past room result₀ end to st.at.rules st.at.counters result₀ trail work calls corners st
   looping_start {trail} {work} {work₀} {calls} {corners} b f s m z x g k lc lo w e =
       let o = onward_begin trail z g k in
-      subst (λ y. Looping lim past room result₀ end to y.rules y.counters result₀ trail work calls corners y) (sym e)
+      subst (λ y. Looping lim past room result₀ end to y.at.rules y.at.counters result₀ trail work calls corners y) (sym e)
       (record {
         lent = buffers_same b refl refl w;
         fit = f;
@@ -107,8 +107,8 @@ module _ {lim : Limits} {past : Bool} {room : ℕ} {result₀ : List ℕ} {end t
 -- What is known of the run from its first state on is known of the rules and counters with which it began.
 pub looping_whole : {limits : R.Limits} {past : Bool} {result₀ : List ℕ} {end to : ℕ} {rules : Rules} {counters : Counters} {marks : Marks}
     {kept : List ℕ} {recorded : ℕ} {st : State} → st ≡ at_start rules marks kept counters end to recorded → {result trail : List ℕ} {r : Result Ended Refusal}
-    → RunOf limits past result₀ end to st.rules st.counters result trail r → RunOf limits past result₀ end to rules counters result trail r
+    → RunOf limits past result₀ end to st.at.rules st.at.counters result trail r → RunOf limits past result₀ end to rules counters result trail r
 looping_whole {limits} {past} {result₀} {end} {to} e {result} {trail} {r} o =
-    subst (λ y. RunOf limits past result₀ end to y.rules y.counters result trail r) e o
+    subst (λ y. RunOf limits past result₀ end to y.at.rules y.at.counters result trail r) e o
 
 pub ruleset loops = (looping_more, looping_falls, looping_over, looping_refused)

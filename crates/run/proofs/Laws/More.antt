@@ -91,24 +91,24 @@ module _ {limits : R.Limits} {past : Bool} {result trail work : List ℕ} {calls
   stage = stage_from m.now x.cycle x.plan
 
   module _ {result' trail' : List ℕ} {r : Result Applied Refusal}
-      (o : AppliedOf result work st.end st.to st.rules st.counters p st.entries result' trail trail' r) where
-    applied : AppliedAs m.now.kind m.now.preserved stage.after st.entries result' trail trail' r
+      (o : AppliedOf result work st.at.end st.at.to st.at.rules st.at.counters p st.at.entries result' trail trail' r) where
+    applied : AppliedAs m.now.kind m.now.preserved stage.after st.at.entries result' trail trail' r
     unfolding advancing_applicable
     applied =
-        subst (λ c. AppliedAs m.now.kind m.now.preserved (apply_plan inner_depth m.now.rules x.plan c) st.entries
+        subst (λ c. AppliedAs m.now.kind m.now.preserved (apply_plan inner_depth m.now.rules x.plan c) st.at.entries
         result' trail trail' r) m.counters (o.is (advancing_applicable x))
 
     number_is : number_in r ≡ refusal_of s.kind s.preserved stage.after (length (entries_of m.stages))
     number_is =
         applied.number
-        ∙ ap₂ (λ k ps. refusal_of k ps stage.after st.entries) (so_far m).kind (so_far m).preserved
+        ∙ ap₂ (λ k ps. refusal_of k ps stage.after st.at.entries) (so_far m).kind (so_far m).preserved
         ∙ ap (refusal_of s.kind s.preserved stage.after) m.entries
 
   next : NextPlan limits (reading past) s m.stages m.now x.cycle x.plan
   next = midway_next limits (reading past) s m.midway x.found
 
   pub turned_refused : {result' trail' : List ℕ} {f : Refusal}
-      → AppliedOf result work st.end st.to st.rules st.counters p st.entries result' trail trail' (Err f)
+      → AppliedOf result work st.at.end st.at.to st.at.rules st.at.counters p st.at.entries result' trail trail' (Err f)
       → Over limits past s result' trail' (Err f)
   turned_refused {result'} {trail'} {f} o =
       let (k, e) = successor f in
@@ -120,7 +120,7 @@ module _ {limits : R.Limits} {past : Bool} {result trail work : List ℕ} {calls
       }
 
   module _ {result' trail' : List ℕ} {a : Applied}
-      (o : AppliedOf result work st.end st.to st.rules st.counters p st.entries result' trail trail' (Ok a)) where
+      (o : AppliedOf result work st.at.end st.at.to st.at.rules st.at.counters p st.at.entries result' trail trail' (Ok a)) where
     pub after_midway : Midway limits (reading past) s (m.stages ++ (stage ∷ [])) (sheet_with s.kind s.preserved stage.after)
     after_midway = midway_more limits (reading past) s m.midway x.found (sym (number_is o))
 
@@ -130,7 +130,7 @@ module _ {limits : R.Limits} {past : Bool} {result trail work : List ℕ} {calls
     left_so_far : SoFar limits (reading past) s (m.stages ++ (stage ∷ [])) left
     left_so_far = midway_so_far limits (reading past) s after_midway
 
-    done : Done m.now.kind m.now.preserved stage.after st.entries result' trail trail' a
+    done : Done m.now.kind m.now.preserved stage.after st.at.entries result' trail trail' a
     done = (applied o).done
 
     left_held : Held result' left a.end a.to
@@ -152,7 +152,7 @@ module _ {limits : R.Limits} {past : Bool} {result trail work : List ℕ} {calls
     left_standing : Standing (words result') a.end a.rules
     left_standing = held_standing left_held left_valid done.rows
 
-    stays : Stays m.now.rules (get_or st.rules.ids p.hub 0) x.plan.removable stage.after.node
+    stays : Stays m.now.rules (get_or st.at.rules.ids p.hub 0) x.plan.removable stage.after.node
     unfolding apply_plan
     stays =
         record {
@@ -164,14 +164,14 @@ module _ {limits : R.Limits} {past : Bool} {result trail work : List ℕ} {calls
           corners = next.facts.corners;
         }
 
-    pub renewable : {n : ℕ} → n ≡ st.rules.n
-        → Renewable (words result') a.end a.rules n p.hub (p.low ∷ p.high ∷ []) past calls corners st.marks st.kept
+    pub renewable : {n : ℕ} → n ≡ st.at.rules.n
+        → Renewable (words result') a.end a.rules n p.hub p.removable past calls corners st.marks st.kept
     unfolding midst_known held_standing left_standing
     renewable e =
         record {
           words₀ = words result;
-          end₀ = st.end;
-          rules₀ = st.rules;
+          end₀ = st.at.end;
+          rules₀ = st.at.rules;
           known = midst_known m;
           gone = x.plan.removable;
           gone_row = x.same.removable;
@@ -198,15 +198,15 @@ module _ {limits : R.Limits} {past : Bool} {result trail work : List ℕ} {calls
         let l = leb-true (length s.rules) rule_limit (valid_parts s m.midway.is_valid).few in
         omega arith
 
-    module _ {n : ℕ} (e : n ≡ st.rules.n) {calls' corners' : List (List ℕ)} {r : Renewed}
-        (w : RenewedOf (words result') a.end a.rules n p.hub (p.low ∷ p.high ∷ []) past calls corners st.marks st.kept
+    module _ {n : ℕ} (e : n ≡ st.at.rules.n) {calls' corners' : List (List ℕ)} {r : Renewed}
+        (w : RenewedOf (words result') a.end a.rules n p.hub p.removable past calls corners st.marks st.kept
         calls' corners' r) where
       abbrev after : State
       after = behind_plan st a p r
 
       told : Front trail' (each encode_entry (entries_of (m.stages ++ (stage ∷ [])))) (entry_words * a.entries)
       told =
-          let n₀ = entry_words * st.entries in
+          let n₀ = entry_words * st.at.entries in
           let n₁ = entry_words * a.entries in
           let new = each encode_entry stage.after.entries in
           let f = m.told in
@@ -227,7 +227,7 @@ module _ {limits : R.Limits} {past : Bool} {result trail work : List ℕ} {calls
             room = let l = done.told.long in let h = done.room in omega arith;
           }
 
-      renewed : RenewedAs (words result') a.end a.rules n p.hub (p.low ∷ p.high ∷ []) past calls corners st.marks st.kept
+      renewed : RenewedAs (words result') a.end a.rules n p.hub p.removable past calls corners st.marks st.kept
           (renewable e) calls' corners' r
       renewed = w.is (renewable e)
 
@@ -266,12 +266,12 @@ module _ {limits : R.Limits} {past : Bool} {result trail work : List ℕ} {calls
 module _ {limits : R.Limits} {past : Bool} {result trail work : List ℕ} {calls corners : List (List ℕ)} {st : State} {p : Plan}
     {result' trail' : List ℕ} where
   pub advanced_refused : {f : Refusal} {calls' corners' : List (List ℕ)}
-      → AppliedOf result work st.end st.to st.rules st.counters p st.entries result' trail trail' (Err f)
+      → AppliedOf result work st.at.end st.at.to st.at.rules st.at.counters p st.at.entries result' trail trail' (Err f)
       → AdvancedOf limits past result trail work calls corners st p result' trail' calls' corners' (Err f)
   advanced_refused o = record { is = λ x. turned_refused x o }
 
   pub advanced_more : {a : Applied} {calls' corners' : List (List ℕ)} {next : State}
-      → AppliedOf result work st.end st.to st.rules st.counters p st.entries result' trail trail' (Ok a)
+      → AppliedOf result work st.at.end st.at.to st.at.rules st.at.counters p st.at.entries result' trail trail' (Ok a)
       → UpToDate (words result') past calls corners st a p calls' corners' next
       → AdvancedOf limits past result trail work calls corners st p result' trail' calls' corners' (Ok next)
   advanced_more {a} {calls'} {corners'} {next} o u =

@@ -1,4 +1,4 @@
-use Rattle.std.proofs.Common.{rules, ap, ◌≡◌, ◌∙◌, Some, None, Ok}
+use Rattle.std.proofs.Common.{rules, refl, ap, ◌≡◌, ◌∙◌, Some, None, Ok}
 use Rattle.plan.proofs.plan.make.Goals as goal
 use Rattle.plan.proofs.Laws.Made.{hub_low, hub_standing, made_laid, made_listed, made_idle, made_planned, made_unplanned, making}
 use Rattle.steps.proofs.Laws.Raised.{raised}
@@ -16,10 +16,11 @@ returns-in_default c =
     let w : c.substitute.result ≡ Ok None = c.in_ok-done.was ∙ ap Ok c.in_default.is in
     search (rules, made_idle)
 
-pub finish-requires : goal.finish-requires
-finish-requires c =
+pub finish-requires-clause-laid : goal.finish-requires-clause-laid
+finish-requires-clause-laid c =
     let w : c.substitute.result ≡ Ok (Some c.in-Some.done) = c.in_ok-done.was ∙ ap Ok c.in-Some.is in
-    search (rules, made_laid, made_listed)
+    let known = c.requires.hub_known in
+    (made_laid refl c.budget-most.ensures c.substitute.ensures w known, made_listed refl c.budget-most.ensures c.substitute.ensures w known)
 
 pub returns : goal.returns
 returns c =

@@ -20,8 +20,8 @@ pub returns-then-not-all_inlinable : goal.returns-then-not-all_inlinable
 returns-then-not-all_inlinable c = search (rules, hubs, standing)
 
 -- src/plan.rt:164:5
-pub make-requires-clause-calls_len : goal.make-requires-clause-calls_len
-make-requires-clause-calls_len c = search (rules, hubs, standing)
+pub make-requires-clause-hub_known : goal.make-requires-clause-hub_known
+make-requires-clause-hub_known c = search (rules, hubs, standing)
 
 -- src/plan.rt:137:1
 pub returns : goal.returns

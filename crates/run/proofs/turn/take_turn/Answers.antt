@@ -1,10 +1,11 @@
-use Rattle.std.proofs.Common.{rules}
+use Rattle.std.proofs.Common.{rules, refl}
 use Rattle.std.proofs.lemmas.Result.{err_from_is_err_and}
 use Rattle.run.proofs.turn.take_turn.Goals as goal
-use Rattle.run.proofs.Laws.Turned.{turnings, turn_advancing}
+use Rattle.run.proofs.Laws.Known.{midst_room}
+use Rattle.run.proofs.Laws.Turned.{turnings, turn_advancing, turn_planned, turn_refused}
 
 pub invariant_of-s : goal.invariant_of-s
-invariant_of-s c = record { room = search (rules, turnings, turn_advancing) }
+invariant_of-s c = record { room = midst_room c.requires.going.midst }
 
 -- src/turn.rt:142:9
 pub find_plan-found-requires-clause-room : goal.find_plan-found-requires-clause-room
@@ -30,8 +31,8 @@ returns-in-TooLarge-clause-turned_of c = search (rules, turnings)
 pub returns-in_err-next-in-Planned-clause-turned_of : goal.returns-in_err-next-in-Planned-clause-turned_of
 returns-in_err-next-in-Planned-clause-turned_of c =
     let p = err_from_is_err_and c.from_residual.result c.from_residual.ensures.1 in
-    rw (p.1, p.2) (search (rules, turnings, c.in_err-next-in-Planned.ensures.advanced_of))
+    rw (p.1, p.2) (turn_refused c.find_plan-found.ensures c.in-Planned.is refl c.in_err-next-in-Planned.ensures.advanced_of)
 
 -- src/turn.rt:99:1
 pub returns-in_ok-next-in-Planned-clause-turned_of : goal.returns-in_ok-next-in-Planned-clause-turned_of
-returns-in_ok-next-in-Planned-clause-turned_of c = search (rules, turnings, c.in_ok-next-in-Planned.ensures.advanced_of)
+returns-in_ok-next-in-Planned-clause-turned_of c = turn_planned c.find_plan-found.ensures c.in-Planned.is refl c.in_ok-next-in-Planned.ensures.advanced_of
