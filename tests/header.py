@@ -23,7 +23,8 @@ CONSTANTS = {
     "PASS_RESULT_BYTES": "Buffer::RESULT",
     "PASS_TRAIL_BYTES": "Buffer::TRAIL",
     "PASS_WORK_BYTES": "Work::BYTES",
-    **{f"PASS_{name}": f"Sort::{name}" for name in ("RULE", "ALTERNATIVE", "ELEMENT", "LABEL", "ACTION", "PREDICATE")},
+    "PASS_RULE": "Sort::RULE",
+    **{f"PASS_{name.upper()}": f"Sort::{name}" for name in ("Alternative", "Element", "Label", "Action", "Predicate")},
     "PASS_BAD_LENGTH": "Refusal::BadLength",
     "PASS_SHORT_BUFFER": "Refusal::ShortBuffer",
     "PASS_BAD_TRAILER": "Refusal::BadTrailer",
@@ -138,7 +139,8 @@ def further_checks(name, header, sources):
     yield f"{name}.h has a name for each number", sizes == {len(places) - 1} and places[-1] == f"{prefix}_NUMBERS"
     yield f"{name}.h has the refusal first", places[0] == f"{prefix}_REFUSAL"
     if name == "sheet":
-        yield from constant_checks(header, sources, {f"SHEET_{kind}": f"UnitKind::{kind}" for kind in ("LEXER", "PARSER", "COMBINED")})
+        kinds = {f"SHEET_{kind.upper()}": f"UnitKind::{kind}" for kind in ("Lexer", "Parser", "Combined")}
+        yield from constant_checks(header, sources, kinds)
         told = re.findall(r"fn sheet_numbers.*?\[\n\s*0,(.*?)\]\n", "".join(sources.crates), re.S)
         in_order = [[PLACES.get(one.strip()) for one in numbers.split(",")[:-1]] for numbers in told]
         yield "sheet.h has the numbers in the order of the crate", in_order == [places[1:-1]]

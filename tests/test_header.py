@@ -89,6 +89,7 @@ class Kept(unittest.TestCase):
         self.assertEqual(not_so(header.number_checks(header.Header(self.text), self.sources)), [])
         for old, new, what in (
             ("Refusal::BadRecord => 4,", "Refusal::BadRecord => 5,", {"PASS_BAD_RECORD is Refusal::BadRecord"}),
+            ("Sort::Label => 4,", "Sort::Label => 5,", {"PASS_LABEL is Sort::Label"}),
             ("Reason::RuleBoundary => 1,", "Reason::RuleBoundary => 2,", {"PASS_RULE_BOUNDARY is Reason::RuleBoundary"}),
             ("LEAST_BYTES: usize = 32;", "LEAST_BYTES: usize = 28;", {"PASS_SHEET_LEAST_BYTES is Sheet::LEAST_BYTES"}),
             # a number told of no variant, or of a variant that is not there, holds nothing
@@ -114,7 +115,7 @@ class Others(unittest.TestCase):
         for name, old, new, what in (
             ("sheet", "SHEET_RULES 128", "SHEET_RULES 127", "SHEET_RULES is Row::RULES"),
             ("sheet", "SHEET_LABEL_COUNTER,\n    SHEET_ACTION_COUNTER", "SHEET_ACTION_COUNTER,\n    SHEET_LABEL_COUNTER", "sheet.h has the numbers in the order of the crate"),
-            ("sheet", "SHEET_PARSER = 2", "SHEET_PARSER = 3", "SHEET_PARSER is UnitKind::PARSER"),
+            ("sheet", "SHEET_PARSER = 2", "SHEET_PARSER = 3", "SHEET_PARSER is UnitKind::Parser"),
             ("sheet", "uint32_t places[128]", "uint64_t places[128]", "read_sheet takes what the crate's function takes"),
             ("facts", "ROW_WORDS 2", "ROW_WORDS 4", "FACTS_ROW_WORDS is Row::WORDS"),
             ("facts", "FACTS_NOT_INLINABLE = 2", "FACTS_NOT_INLINABLE = 1", "facts.h has the numbers and rows of 3.10"),

@@ -5,6 +5,7 @@ ghost use Rattle.grammar.specs.Words.{words};
 ghost use Rattle.grammar.specs.Found.{FoundElement, HeadAt};
 ghost use Rattle.analysis.specs.Names.{Tabled};
 ghost use Rattle.analysis.specs.Survey.{view_of, seen_of, skipping, StopSeen, BitSeen, past_call, SymbolSeen, NameSeen, LeafSeen};
+ghost use Rattle.words.specs.Kinds.{kind_number};
 ghost use Rattle.words.specs.Sheet.{text};
 
 use crate::names::look_up;
@@ -95,7 +96,7 @@ fn see_name(
     p: Passing,
     t: &mut [u64],
 ) -> Passing
-    requires n_le_rule_limit { (known.n ≤ rule_limit) × (5 ≤ length t.old) }
+    requires few_rules { (known.n ≤ rule_limit) × (5 ≤ length t.old) }
     requires tabled { Tabled names.now known.n table.now }
     ensures { NameSeen (view_of names.now known) name skips
         (seen_of t.old p.seeks p.null) (seen_of t.new result.seeks result.null) }
@@ -116,7 +117,7 @@ pub fn see_leaf(
     s: &Sheet,
     depth: u32,
     at: usize,
-    kind: u32,
+    kind: Kind,
     payload: usize,
     names: &[u32],
     known: Known,
@@ -125,27 +126,22 @@ pub fn see_leaf(
     p: Passing,
     t: &mut [u64],
 ) -> Passing
-    requires room { (known.n ≤ rule_limit) × (5 ≤ length t.old) }
+    requires bounds { (known.n ≤ rule_limit) × (5 ≤ length t.old) }
     requires tabled { Tabled names.now known.n table.now }
-    requires head_at { HeadAt (text s.now) s.now.end at kind payload × (kind ≡ block_kind → ⊥)
+    requires head_at { HeadAt (text s.now) s.now.end at (kind_number kind) payload × (kind_number kind ≡ block_kind → ⊥)
         × FoundElement (text s.now) s.now.end depth at }
-    ensures { LeafSeen (view_of names.now known) (text s.now) s.now.end kind payload skips
+    ensures { LeafSeen (view_of names.now known) (text s.now) s.now.end (kind_number kind) payload skips
         (seen_of t.old p.seeks p.null) (seen_of t.new result.seeks result.null) }
 {
-    if kind == Kind::CALL {
-        return see_name(names, known, table, word(s.bytes, payload), skips, p, t);
+    match kind {
+        Kind::Call => see_name(names, known, table, word(s.bytes, payload), skips, p, t),
+        Kind::Token | Kind::Terminal | Kind::Block => see_symbol(known.past, skips, p),
+        Kind::Epsilon | Kind::EndOfInput => p,
+        Kind::Action | Kind::Predicate => {
+            stop(t);
+            p
+        }
     }
-    if kind == Kind::END_OF_INPUT {
-        return p;
-    }
-    if Kind::CALL < kind {
-        return see_symbol(known.past, skips, p);
-    }
-    if kind == Kind::EPSILON {
-        return p;
-    }
-    stop(t);
-    p
 }
 
 // Whether the quantifier of the element at `at` lets it be left out.
@@ -154,5 +150,5 @@ pub fn skips_at(s: &[u8], at: usize) -> bool
     ensures { result ≡ skipping (get_or (words s.now) (at + 2) 0) }
 {
     let q = word(s, at + 2) / Kind::END;
-    (Quantifier::OPTIONAL_GREEDY <= q) & (q <= Quantifier::ZERO_OR_MORE_NONGREEDY)
+    (u32::from(Quantifier::OptionalGreedy) <= q) & (q <= u32::from(Quantifier::ZeroOrMoreNongreedy))
 }

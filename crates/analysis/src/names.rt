@@ -28,7 +28,7 @@ fn slot(name: u32) -> usize
 
 // Puts the places of the first n names into the table.
 pub fn put_names(names: &[u32], n: usize, table: &mut [u8])
-    requires n_le_rule_limit { (n ≤ rule_limit) × (slots ≤ length table.old) }
+    requires few_rules { (n ≤ rule_limit) × (slots ≤ length table.old) }
     requires told { Told names.now n }
     ensures table_after { table.new ≡ table_with names.now n table.old }
     ensures tabled { Tabled names.now n table.new }

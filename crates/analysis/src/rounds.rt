@@ -60,10 +60,10 @@ fn survey_all(
     calls: &mut [[u64; Row::WORDS]; Row::RULES],
     corners: &mut [[u64; Row::WORDS]; Row::RULES],
 ) -> Round
-    requires room { (known.n ≡ rules.n) × (rules.n ≤ rule_limit) }
+    requires bounds { (known.n ≡ rules.n) × (rules.n ≤ rule_limit) }
     requires tabled { Tabled rules.names known.n table.now }
     requires found_rows { FoundRows (text s.now) s.now.end rules }
-    requires calls_len { (length calls.old ≡ rule_limit) × (length corners.old ≡ rule_limit) }
+    requires lengths { (length calls.old ≡ rule_limit) × (length corners.old ≡ rule_limit) }
     ensures { Recording (view_of rules.names known) (text s.now) s.now.end rules.places
         calls.old corners.old rules.n calls.new corners.new result }
 {
@@ -99,9 +99,9 @@ fn rounds(
     calls: &mut [[u64; Row::WORDS]; Row::RULES],
     corners: &mut [[u64; Row::WORDS]; Row::RULES],
 ) -> Marks
-    requires room { Tabled rules.names rules.n table.now }
+    requires bounds { Tabled rules.names rules.n table.now }
     requires standing { Standing (text s.now) s.now.end rules }
-    requires calls_len { (length calls.old ≡ rule_limit) × (length corners.old ≡ rule_limit) }
+    requires lengths { (length calls.old ≡ rule_limit) × (length corners.old ≡ rule_limit) }
     ensures facts_found { FactsFound (text s.now) s.now.end rules past calls.new corners.new result }
     ensures behind { Behind rules.n calls.old calls.new
         × Behind rules.n corners.old corners.new }
@@ -152,9 +152,9 @@ pub fn find_rows(
     corners: &mut [[u64; Row::WORDS]; Row::RULES],
     work: &mut [u8],
 ) -> Marks
-    requires room { work_bytes ≤ length work.old }
+    requires bounds { work_bytes ≤ length work.old }
     requires standing { Standing (text s.now) s.now.end rules }
-    requires calls_len { (length calls.old ≡ rule_limit) × (length corners.old ≡ rule_limit) }
+    requires lengths { (length calls.old ≡ rule_limit) × (length corners.old ≡ rule_limit) }
     ensures facts_found { FactsFound (text s.now) s.now.end rules past calls.new corners.new result }
     ensures behind { Behind rules.n calls.old calls.new
         × Behind rules.n corners.old corners.new }

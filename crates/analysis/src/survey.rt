@@ -27,7 +27,7 @@ fn outermost(
     null: bool,
     t: &mut [u64],
 ) -> Place
-    requires room { (known.n ≤ rule_limit) × (5 ≤ length t.old) }
+    requires bounds { (known.n ≤ rule_limit) × (5 ≤ length t.old) }
     requires tabled { Tabled names.now known.n table.now }
     requires found_alternative { FoundAlternative (text s.now) s.now.end inner_depth at × (at + 5 ≤ s.now.end) }
     ensures { OutermostWalked (view_of names.now known) (text s.now) s.now.end at
@@ -53,7 +53,7 @@ fn body(
     null: bool,
     t: &mut [u64],
 ) -> Place
-    requires room { (known.n ≤ rule_limit) × (5 ≤ length t.old) × (at ≤ s.now.end) }
+    requires bounds { (known.n ≤ rule_limit) × (5 ≤ length t.old) × (at ≤ s.now.end) }
     requires tabled { Tabled names.now known.n table.now }
     requires found_alternatives { FoundAlternatives (text s.now) s.now.end inner_depth n at }
     ensures { BodyWalked (view_of names.now known) (text s.now) s.now.end n at
@@ -77,7 +77,7 @@ pub struct Survey {
 
 // The rule at `at`.
 pub fn survey_rule(s: &Sheet, names: &[u32], known: Known, table: &[u8], at: usize) -> Survey
-    requires room { (known.n ≤ rule_limit) × (at + 4 ≤ s.now.end) }
+    requires bounds { (known.n ≤ rule_limit) × (at + 4 ≤ s.now.end) }
     requires tabled { Tabled names.now known.n table.now }
     requires found_rule { FoundRule (text s.now) s.now.end at }
     ensures { Surveyed (view_of names.now known) (text s.now) s.now.end at result }

@@ -34,24 +34,26 @@ pub fn element(
     null: bool,
     t: &mut [u64],
 ) -> Place
-    requires room { (known.n ≤ rule_limit) × (5 ≤ length t.old) }
+    requires bounds { (known.n ≤ rule_limit) × (5 ≤ length t.old) }
     requires tabled { Tabled names.now known.n table.now }
     requires found_element { FoundElement (text s.now) s.now.end depth at }
     ensures { ElementWalked (surveying (view_of names.now known)) (text s.now) s.now.end depth at
         (seen_of t.old seeks null) result.at (seen_of t.new result.seeks result.null) }
 {
     let head = element_head(s, depth, at);
-    if head.kind == Kind::TOKEN {
-        let there = leaf_end(s, depth, at, head.kind, head.payload);
-        let p = Passing { seeks, null };
-        let q = see_symbol(known.past, skips_at(s.bytes, at), p);
-        return Place {
-            at: there,
-            seeks: q.seeks,
-            null: q.null,
-        };
+    match head.kind {
+        Kind::Token => {
+            let there = leaf_end(s, depth, at, Kind::Token, head.payload);
+            let p = Passing { seeks, null };
+            let q = see_symbol(known.past, skips_at(s.bytes, at), p);
+            Place {
+                at: there,
+                seeks: q.seeks,
+                null: q.null,
+            }
+        }
+        _ => other_element(s, depth, names, known, table, at, seeks, null, t),
     }
-    other_element(s, depth, names, known, table, at, seeks, null, t)
 }
 
 // The same of any element, in a function of its own so that `element` stays small.
@@ -67,7 +69,7 @@ fn other_element(
     null: bool,
     t: &mut [u64],
 ) -> Place
-    requires room { (known.n ≤ rule_limit) × (5 ≤ length t.old) }
+    requires bounds { (known.n ≤ rule_limit) × (5 ≤ length t.old) }
     requires tabled { Tabled names.now known.n table.now }
     requires found_element { FoundElement (text s.now) s.now.end depth at }
     ensures { ElementWalked (surveying (view_of names.now known)) (text s.now) s.now.end depth at
@@ -77,36 +79,40 @@ fn other_element(
     let kind = head.kind;
     let payload = head.payload;
     let skips = skips_at(s.bytes, at);
-    if kind == Kind::BLOCK {
-        let count = word(s.bytes, payload);
-        let b = alternatives(
-            s,
-            depth - 1,
-            names,
-            known,
-            table,
-            count,
-            payload + 1,
-            seeks,
-            false,
-            t,
-        );
-        let empty = skips | b.null;
-        return Place {
-            at: b.at,
-            seeks: seeks & empty,
-            null: null & empty,
-        };
-    }
-    let there = leaf_end(s, depth, at, kind, payload);
-    let p = Passing { seeks, null };
-    let q = see_leaf(
-        s, depth, at, kind, payload, names, known, table, skips, p, t,
-    );
-    Place {
-        at: there,
-        seeks: q.seeks,
-        null: q.null,
+    match kind {
+        Kind::Block => {
+            let count = word(s.bytes, payload);
+            let b = alternatives(
+                s,
+                depth - 1,
+                names,
+                known,
+                table,
+                count,
+                payload + 1,
+                seeks,
+                false,
+                t,
+            );
+            let empty = skips | b.null;
+            Place {
+                at: b.at,
+                seeks: seeks & empty,
+                null: null & empty,
+            }
+        }
+        _ => {
+            let there = leaf_end(s, depth, at, kind, payload);
+            let p = Passing { seeks, null };
+            let q = see_leaf(
+                s, depth, at, kind, payload, names, known, table, skips, p, t,
+            );
+            Place {
+                at: there,
+                seeks: q.seeks,
+                null: q.null,
+            }
+        }
     }
 }
 
@@ -124,7 +130,7 @@ fn elements(
     null: bool,
     t: &mut [u64],
 ) -> Place
-    requires room { (known.n ≤ rule_limit) × (5 ≤ length t.old) × (at ≤ s.now.end) }
+    requires bounds { (known.n ≤ rule_limit) × (5 ≤ length t.old) × (at ≤ s.now.end) }
     requires tabled { Tabled names.now known.n table.now }
     requires found_elements { FoundElements (text s.now) s.now.end depth n at }
     ensures { ElementsWalked (surveying (view_of names.now known)) (text s.now) s.now.end depth n at
@@ -150,7 +156,7 @@ pub fn alternative(
     null: bool,
     t: &mut [u64],
 ) -> Place
-    requires room { (known.n ≤ rule_limit) × (5 ≤ length t.old) }
+    requires bounds { (known.n ≤ rule_limit) × (5 ≤ length t.old) }
     requires tabled { Tabled names.now known.n table.now }
     requires found_alternative { FoundAlternative (text s.now) s.now.end depth at }
     ensures { AlternativeWalked (surveying (view_of names.now known)) (text s.now) s.now.end depth at
@@ -182,7 +188,7 @@ fn alternatives(
     null: bool,
     t: &mut [u64],
 ) -> Place
-    requires room { (known.n ≤ rule_limit) × (5 ≤ length t.old) × (at ≤ s.now.end) }
+    requires bounds { (known.n ≤ rule_limit) × (5 ≤ length t.old) × (at ≤ s.now.end) }
     requires tabled { Tabled names.now known.n table.now }
     requires found_alternatives { FoundAlternatives (text s.now) s.now.end depth n at }
     ensures { AlternativesWalked (surveying (view_of names.now known)) (text s.now) s.now.end depth n at

@@ -84,7 +84,7 @@ fn put(
         × EntriesAfter res.old work.old before.end before.to before.rules p before.entries entries }
     ensures applied_of { AppliedOf res.old work.old before.end before.to before.rules before.counters p before.entries
         res.new trail.old trail.new (Ok result) }
-    ensures res_len_unchanged { (length res.new ≡ length res.old)
+    ensures lengths_stay { (length res.new ≡ length res.old)
         × (length trail.new ≡ length trail.old) × (length work.new ≡ length work.old) }
 {
     let rules = before.rules;
@@ -123,7 +123,7 @@ pub fn apply(
     requires applicable { Applicable res.old work.old before.end before.to before.rules p }
     ensures applied_of { AppliedOf res.old work.old before.end before.to before.rules before.counters p before.entries
         res.new trail.old trail.new result }
-    ensures res_len_unchanged { (length res.new ≡ length res.old)
+    ensures lengths_stay { (length res.new ≡ length res.old)
         × (length trail.new ≡ length trail.old) × (length work.new ≡ length work.old) }
 {
     let rules = before.rules;

@@ -9,6 +9,7 @@ ghost use Rattle.collisions.specs.Names.{labels_bit, references_bit, has_name, O
 ghost use Rattle.collisions.specs.Walks.{noting_past_block, noting_past_alternative, LabelSeen, LeafSeen};
 ghost use Rattle.collisions.specs.declared.clash.Clash.{Clash};
 ghost use Rattle.collisions.specs.Clash.{clash_label, clash_leaf, comparing, NameBound, ClashesAt};
+ghost use Rattle.words.specs.Kinds.{kind_number};
 ghost use Rattle.words.specs.Sheet.{text};
 
 use crate::names::{Names, has};
@@ -33,7 +34,7 @@ struct Comparer<'a> {
 }
 
 fn see_label(s: &Sheet, depth: u32, at: usize, work: &[u8], c: Clash) -> Clash
-    requires room { (at + 6 ≤ s.now.end) × Ordered (text s.now) s.now.end work.now }
+    requires bounds { (at + 6 ≤ s.now.end) × Ordered (text s.now) s.now.end work.now }
     requires found_element { FoundElement (text s.now) s.now.end depth at }
     ensures { LabelSeen (text s.now) at
         (clash_label (has_name (text s.now) work.now labels_bit)
@@ -65,24 +66,22 @@ fn see_leaf(
     s: &Sheet,
     depth: u32,
     at: usize,
-    kind: u32,
+    kind: Kind,
     payload: usize,
     work: &[u8],
     c: Clash,
 ) -> Clash
-    requires room { Ordered (text s.now) s.now.end work.now }
-    requires head_at { HeadAt (text s.now) s.now.end at kind payload × (kind ≡ block_kind → ⊥)
+    requires bounds { Ordered (text s.now) s.now.end work.now }
+    requires head_at { HeadAt (text s.now) s.now.end at (kind_number kind) payload × (kind_number kind ≡ block_kind → ⊥)
         × FoundElement (text s.now) s.now.end depth at }
-    ensures { LeafSeen (text s.now) s.now.end kind payload
+    ensures { LeafSeen (text s.now) s.now.end (kind_number kind) payload
         (clash_leaf (has_name (text s.now) work.now references_bit)) c result }
 {
-    if kind == Kind::CALL {
-        return bind(s, work, word(s.bytes, payload), c);
+    match kind {
+        Kind::Call => bind(s, work, word(s.bytes, payload), c),
+        Kind::Token => bind(s, work, word(s.bytes, payload), c),
+        _ => c,
     }
-    if kind == Kind::TOKEN {
-        return bind(s, work, word(s.bytes, payload), c);
-    }
-    c
 }
 
 impl Visitor for Comparer<'_> {
@@ -112,7 +111,7 @@ impl Visitor for Comparer<'_> {
 
 // Whether the alternative at `at` collides with what is marked.
 pub fn clash_at(s: &Sheet, work: &[u8], at: usize) -> Clash
-    requires room { Ordered (text s.now) s.now.end work.now }
+    requires bounds { Ordered (text s.now) s.now.end work.now }
     requires found_alternative { FoundAlternative (text s.now) s.now.end inner_depth at }
     ensures { ClashesAt (text s.now) s.now.end inner_depth at work.now result }
 {

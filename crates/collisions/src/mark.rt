@@ -11,20 +11,21 @@ ghost use Rattle.collisions.specs.Names as names;
 ghost use Rattle.collisions.specs.Walks.{noting_past_block, noting_past_alternative};
 ghost use Rattle.collisions.specs.Walks.{LeafSeen, FoundReference, FoundReferences, ItemsWalked};
 ghost use Rattle.collisions.specs.Mark.{Marks, marks_of, mark_leaf, marking, LabelMarked, ReferenceMarked, ReferencesMarked, MarkedAround};
+ghost use Rattle.words.specs.Kinds.{kind_number};
 ghost use Rattle.words.specs.Sheet.{text};
 
 use crate::names::{Names, clear_both, put};
 use crate::references::reference_count;
 use planned::list::Listed;
 use planned::read::item;
-use words::numbers::{Block, ReferenceKind};
+use words::numbers::{Block, Kind, ReferenceKind};
 use words::sheet::Sheet;
 use words::visit::{Visitor, walk_element};
 use words::walk::Head;
 use words::words::word;
 
 fn mark_label(s: &Sheet, depth: u32, at: usize, work: &mut [u8])
-    requires room { (at + 6 ≤ s.now.end) × Ordered (text s.now) s.now.end work.old }
+    requires bounds { (at + 6 ≤ s.now.end) × Ordered (text s.now) s.now.end work.old }
     requires found_element { FoundElement (text s.now) s.now.end depth at }
     ensures { LabelMarked (text s.now) s.now.end at work.old work.new }
 {
@@ -37,7 +38,7 @@ fn mark_label(s: &Sheet, depth: u32, at: usize, work: &mut [u8])
 
 // The reference at `at`; all but those of the last kind bind.
 fn mark_reference(s: &Sheet, at: usize, name: u32, work: &mut [u8], dangling: bool) -> bool
-    requires room { (0 < at) × (at + 2 ≤ s.now.end) × Ordered (text s.now) s.now.end work.old }
+    requires bounds { (0 < at) × (at + 2 ≤ s.now.end) × Ordered (text s.now) s.now.end work.old }
     requires found_reference { FoundReference (text s.now) s.now.end at }
     ensures { Kept (text s.now) s.now.end work.old work.new × ReferenceMarked name
         (text s.now) s.now.end at (marks_of (text s.now) work.old dangling) (at + 2)
@@ -46,7 +47,7 @@ fn mark_reference(s: &Sheet, at: usize, name: u32, work: &mut [u8], dangling: bo
     let kind = word(s.bytes, at);
     let to = word(s.bytes, at + 1);
     let refers = dangling | (name == to);
-    if ReferenceKind::QUALIFIED < kind {
+    if u32::from(ReferenceKind::Qualified) < kind {
         return refers;
     }
     put(s, work, Names::REFERENCES, at + 1);
@@ -55,7 +56,7 @@ fn mark_reference(s: &Sheet, at: usize, name: u32, work: &mut [u8], dangling: bo
 
 // n references from `at` on.
 fn mark_references(s: &Sheet, n: u32, at: usize, name: u32, work: &mut [u8], dangling: bool) -> bool
-    requires room { (0 < at) × (at ≤ s.now.end) × Ordered (text s.now) s.now.end work.old }
+    requires bounds { (0 < at) × (at ≤ s.now.end) × Ordered (text s.now) s.now.end work.old }
     requires found_references { FoundReferences (text s.now) s.now.end n at }
     ensures { Kept (text s.now) s.now.end work.old work.new × ReferencesMarked name
         (text s.now) s.now.end n at (marks_of (text s.now) work.old dangling)
@@ -75,17 +76,17 @@ fn mark_leaf(
     s: &Sheet,
     depth: u32,
     at: usize,
-    kind: u32,
+    kind: Kind,
     payload: usize,
     name: u32,
     work: &mut [u8],
     dangling: bool,
 ) -> bool
-    requires room { Ordered (text s.now) s.now.end work.old }
-    requires head_at { HeadAt (text s.now) s.now.end at kind payload × (kind ≡ block_kind → ⊥)
+    requires bounds { Ordered (text s.now) s.now.end work.old }
+    requires head_at { HeadAt (text s.now) s.now.end at (kind_number kind) payload × (kind_number kind ≡ block_kind → ⊥)
         × FoundElement (text s.now) s.now.end depth at }
     ensures { Kept (text s.now) s.now.end work.old work.new × LeafSeen
-        (text s.now) s.now.end kind payload (mark_leaf name) (marks_of (text s.now) work.old dangling)
+        (text s.now) s.now.end (kind_number kind) payload (mark_leaf name) (marks_of (text s.now) work.old dangling)
         (marks_of (text s.now) work.new result) }
 {
     let n = reference_count(s, depth, at, kind, payload);
@@ -139,7 +140,7 @@ impl Visitor for Marker<'_> {
 
 // The elements of a planned alternative from one index up to another.
 fn mark_items(marker: &mut Marker<'_>, s: &Sheet, x: Listed, from: usize, to: usize)
-    requires room { Located marker.old.work.now x × (from ≤ to) × (to ≤ x.ne) }
+    requires bounds { Located marker.old.work.now x × (from ≤ to) × (to ≤ x.ne) }
     requires ordered { Ordered (text s.now) s.now.end marker.old.work.now
         × ListedIn (text s.now) s.now.end inner_depth marker.old.work.now x }
     ensures same_reference { marker.old.work.ghost_name ≡ marker.new.work.ghost_name }
@@ -159,7 +160,7 @@ fn mark_items(marker: &mut Marker<'_>, s: &Sheet, x: Listed, from: usize, to: us
 // All elements of a planned alternative but the one at an index are marked, and nothing else. The answer says whether one of
 // them refers to a name.
 pub fn mark_around(s: &Sheet, work: &mut [u8], x: Listed, index: usize, name: u32) -> bool
-    requires room { (s.now.end ≤ most_words) × Located work.old x × (index < x.ne) }
+    requires bounds { (s.now.end ≤ most_words) × Located work.old x × (index < x.ne) }
     requires listed_in { ListedIn (text s.now) s.now.end inner_depth work.old x }
     ensures { MarkedAround (text s.now) s.now.end inner_depth
         (meaning (text s.now) s.now.end inner_depth work.old x).elements index name

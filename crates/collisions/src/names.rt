@@ -108,7 +108,7 @@ fn find(s: &Sheet, work: &[u8], name: u32) -> usize
 
 // Whether the entry behind those below a name has it.
 fn is_at(s: &Sheet, work: &[u8], name: u32, k: usize) -> bool
-    requires room { Ordered (text s.now) s.now.end work.now }
+    requires bounds { Ordered (text s.now) s.now.end work.now }
     requires parted { Parted (text s.now) work.now name k }
     ensures { IsAt (text s.now) work.now name k result }
 {

@@ -9,12 +9,13 @@ ghost use Rattle.planned.specs.Layout.{meaning};
 ghost use Rattle.planned.specs.List.{Located, ListedIn};
 ghost use Rattle.collisions.specs.Walks.{noting_past_block, noting_past_alternative, LabelSeen, LeafSeen};
 ghost use Rattle.collisions.specs.Quiet.{is_quiet, noisy_label, noisy_leaf, listening};
+ghost use Rattle.words.specs.Kinds.{kind_number};
 ghost use Rattle.words.specs.Sheet.{text};
 
 use crate::references::reference_count;
 use planned::list::Listed;
 use planned::read::item;
-use words::numbers::Block;
+use words::numbers::{Block, Kind};
 use words::sheet::Sheet;
 use words::visit::{Visitor, walk_element};
 use words::walk::Head;
@@ -33,10 +34,10 @@ fn see_label(s: &[u8], at: usize, noisy: bool) -> bool
     noisy | (word(s, at + 4) != 0)
 }
 
-fn see_leaf(s: &Sheet, depth: u32, at: usize, kind: u32, payload: usize, noisy: bool) -> bool
-    requires head_at { HeadAt (text s.now) s.now.end at kind payload × (kind ≡ block_kind → ⊥)
+fn see_leaf(s: &Sheet, depth: u32, at: usize, kind: Kind, payload: usize, noisy: bool) -> bool
+    requires head_at { HeadAt (text s.now) s.now.end at (kind_number kind) payload × (kind_number kind ≡ block_kind → ⊥)
         × FoundElement (text s.now) s.now.end depth at }
-    ensures { LeafSeen (text s.now) s.now.end kind payload noisy_leaf noisy result }
+    ensures { LeafSeen (text s.now) s.now.end (kind_number kind) payload noisy_leaf noisy result }
 {
     noisy | (reference_count(s, depth, at, kind, payload) != 0)
 }
@@ -68,7 +69,7 @@ impl Visitor for Listener {
 
 // Whether nothing in a planned alternative has a label or a reference.
 pub fn is_quiet(s: &Sheet, work: &[u8], x: Listed) -> bool
-    requires room { Located work.now x }
+    requires bounds { Located work.now x }
     requires listed_in { ListedIn (text s.now) s.now.end inner_depth work.now x }
     ensures { result ≡ is_quiet inner_depth (meaning (text s.now) s.now.end inner_depth work.now x).elements }
 {

@@ -3,6 +3,7 @@ ghost use Rattle.std.specs.Prelude.{◌≡◌};
 ghost use Rattle.grammar.specs.Numbers.{block_kind};
 ghost use Rattle.grammar.specs.Found.{FoundElement, HeadAt};
 ghost use Rattle.collisions.specs.Walks.{Refers};
+ghost use Rattle.words.specs.Kinds.{kind_number};
 ghost use Rattle.words.specs.Sheet.{text};
 
 use words::numbers::Kind;
@@ -10,14 +11,13 @@ use words::sheet::Sheet;
 use words::words::word;
 
 // How many references the element at `at` has, which is no block.
-pub fn reference_count(s: &Sheet, depth: u32, at: usize, kind: u32, payload: usize) -> u32
-    requires head_at { HeadAt (text s.now) s.now.end at kind payload × (kind ≡ block_kind → ⊥)
+pub fn reference_count(s: &Sheet, depth: u32, at: usize, kind: Kind, payload: usize) -> u32
+    requires head_at { HeadAt (text s.now) s.now.end at (kind_number kind) payload × (kind_number kind ≡ block_kind → ⊥)
         × FoundElement (text s.now) s.now.end depth at }
-    ensures { Refers (text s.now) s.now.end kind payload result }
+    ensures { Refers (text s.now) s.now.end (kind_number kind) payload result }
 {
-    if kind == Kind::ACTION || kind == Kind::PREDICATE {
-        word(s.bytes, payload + 1)
-    } else {
-        0
+    match kind {
+        Kind::Action | Kind::Predicate => word(s.bytes, payload + 1),
+        _ => 0,
     }
 }

@@ -45,7 +45,7 @@ fn close(trail: &mut [u8], pen: Pen, id: u32) -> Pen
 
 // The rule's fixed words and its alternatives, and their entries.
 fn write_body(s: &Sheet, at: usize, l: Sizes, work: &mut [u8], trail: &mut [u8], pen: Pen) -> Pen
-    requires room { (at + 4 ≤ s.now.end) × (compose_at ≤ pen.to) }
+    requires bounds { (at + 4 ≤ s.now.end) × (compose_at ≤ pen.to) }
     requires laid { Laid work.old l × AllIn (text s.now) s.now.end inner_depth work.old l }
     requires hub_fits { HubFits (text s.now) s.now.end work.old l pen at trail.old }
     ensures { BodyDrawn (text s.now) s.now.end work.old l pen at work.new
@@ -57,7 +57,7 @@ fn write_body(s: &Sheet, at: usize, l: Sizes, work: &mut [u8], trail: &mut [u8],
 
 // The whole rule, and its entries.
 pub fn write_hub(s: &Sheet, at: usize, l: Sizes, work: &mut [u8], trail: &mut [u8], pen: Pen) -> Pen
-    requires room { (at + 4 ≤ s.now.end) × (compose_at ≤ pen.to) }
+    requires bounds { (at + 4 ≤ s.now.end) × (compose_at ≤ pen.to) }
     requires laid { Laid work.old l × AllIn (text s.now) s.now.end inner_depth work.old l }
     requires hub_fits { HubFits (text s.now) s.now.end work.old l pen at trail.old }
     ensures { HubDrawn (text s.now) s.now.end work.old l pen at work.new

@@ -32,7 +32,7 @@ pub fn compose(
     trail: &mut [u8],
     pen: Pen,
 ) -> Composed
-    requires room { Room s.now to × (end ≤ to) × (pen.to ≡ compose_at) }
+    requires bounds { Room s.now to × (end ≤ to) × (pen.to ≡ compose_at) }
     requires applies { Applies (words s.now) end to rules p work.old trail.old pen }
     ensures { ComposedAs (words s.now) end to rules p work.old work.new
         trail.old trail.new pen result }

@@ -15,7 +15,7 @@ use writing::copy::copy_words;
 
 // The kind stays; the distances are those from the new sheet's first word; behind them are the counters.
 fn write_trailer(s: &[u8], end: usize, to: usize, work: &mut [u8], pen: Pen)
-    requires room { Room s.now to × (end ≤ to) × (compose_at ≤ pen.to) × (work_bytes ≤ length work.old) }
+    requires bounds { Room s.now to × (end ≤ to) × (compose_at ≤ pen.to) × (work_bytes ≤ length work.old) }
     requires end_bound { pen.to + (to - end) + 8 ≤ compose_end }
     ensures { Wrote work.old work.new (pen.to + (to - end))
         (trailer_words (words s.now) end to pen) }
@@ -37,7 +37,7 @@ fn write_trailer(s: &[u8], end: usize, to: usize, work: &mut [u8], pen: Pen)
 }
 
 pub fn write_end(s: &[u8], end: usize, to: usize, work: &mut [u8], pen: Pen) -> Pen
-    requires room { Room s.now to × (end ≤ to) × (compose_at ≤ pen.to) × (work_bytes ≤ length work.old) }
+    requires bounds { Room s.now to × (end ≤ to) × (compose_at ≤ pen.to) × (work_bytes ≤ length work.old) }
     requires end_bound { pen.to + (to - end) + 8 ≤ compose_end }
     ensures { Moved (end_words (words s.now) end to pen) work.old work.new pen result }
 {

@@ -17,7 +17,7 @@ use words::sheet::Sheet;
 
 // The hub with its new body.
 fn add_hub(s: &Sheet, rules: Rules, p: Plan, work: &mut [u8], trail: &mut [u8], d: Draft) -> Draft
-    requires room { Standing (text s.now) s.now.end rules × (p.hub < rules.n) }
+    requires bounds { Standing (text s.now) s.now.end rules × (p.hub < rules.n) }
     requires fact { Open d work.old × (d.rules.n ≤ p.hub) }
     requires laid { Laid work.old p.l × AllIn (text s.now) s.now.end inner_depth work.old p.l }
     requires new_hub_fits { NewHubFits (text s.now) s.now.end rules p work.old trail.old d }
@@ -43,7 +43,7 @@ pub fn compose_rules(
     trail: &mut [u8],
     d: Draft,
 ) -> Draft
-    requires room { Standing (text s.now) s.now.end rules × (p.hub < rules.n) }
+    requires bounds { Standing (text s.now) s.now.end rules × (p.hub < rules.n) }
     requires fact { Open d work.old × (d.rules.n ≤ 0) }
     requires laid { Laid work.old p.l × AllIn (text s.now) s.now.end inner_depth work.old p.l }
     requires new_rules_fit { NewRulesFit (text s.now) s.now.end rules p work.old trail.old d }

@@ -1,29 +1,21 @@
--- The numbers that entries of the trail tell: of the reason and of the sort of the id (SPECIFICATION 12.1). And what taking an id of a
--- sort gives.
+-- The numbers of the reasons that entries of the trail tell (SPECIFICATION 12.1), and what taking an id of a sort gives.
 use Rattle.std.specs.Prelude.{ℕ, ◌+◌, ◌<◌, ◌^◌, ◌≡◌}
-use Rattle.grammar.specs.Numbers.{alternative_sort, element_sort, label_sort, action_sort, predicate_sort}
 use Rattle.reference.specs.Numbers.{rule_boundary, block_boundary}
 use Rattle.reference.specs.Apply.{past}
+use Rattle.words.specs.Kinds.{sort_number}
 use Rattle.writing.specs.Taken.{counters_of}
 use Rattle.writing.specs.declared.counters.Counters.{Counters}
 use Rattle.copies.specs.declared.pen.Reason.{Reason}
 use Rattle.copies.specs.declared.pen.Reason.TheVariants.{RuleBoundary, BlockBoundary}
-use Rattle.copies.specs.declared.pen.IdSort.{IdSort}
-use Rattle.copies.specs.declared.pen.IdSort.TheVariants.{Alternative, Element, Label, Action, Predicate}
+use Rattle.words.specs.declared.numbers.Sort.{Sort}
+use Rattle.words.specs.declared.numbers.Sort.TheVariants.{Alternative, Element, Label, Action, Predicate}
 
 abbrev pub reason_number : Reason → ℕ
 reason_number RuleBoundary = rule_boundary
 reason_number BlockBoundary = block_boundary
 
-abbrev pub sort_number : IdSort → ℕ
-sort_number Alternative = alternative_sort
-sort_number Element = element_sort
-sort_number Label = label_sort
-sort_number Action = action_sort
-sort_number Predicate = predicate_sort
-
 -- The next free id of a sort.
-abbrev pub counter_of : IdSort → Counters → ℕ
+abbrev pub counter_of : Sort → Counters → ℕ
 counter_of Alternative c = c.alternative
 counter_of Element c = c.element
 counter_of Label c = c.label
@@ -31,6 +23,6 @@ counter_of Action c = c.action
 counter_of Predicate c = c.predicate
 
 -- It was taken: its counter moves on where there is a next number.
-pub record Took (sort : IdSort) (c : Counters) (id : ℕ) (r : Counters) : Type 0 where
+pub record Took (sort : Sort) (c : Counters) (id : ℕ) (r : Counters) : Type 0 where
   pub is : id ≡ counter_of sort c
   pub counters : counter_of sort c + 1 < 2 ^ 32 → counters_of r ≡ past (sort_number sort) (counters_of c)

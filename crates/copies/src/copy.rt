@@ -5,8 +5,8 @@ ghost use Rattle.copies.specs.Copy.{AlternativeFits, AlternativeCopied, Alternat
 ghost use Rattle.words.specs.Sheet.{text};
 
 use crate::parts::{copy_count, copy_head, copy_leaf, copy_marked};
-use crate::pen::{IdSort, Pen};
-use words::numbers::Kind;
+use crate::pen::Pen;
+use words::numbers::{Kind, Sort};
 use words::sheet::Sheet;
 use words::walk::{alternative_head, element_head, leaf_end};
 use words::words::word;
@@ -38,16 +38,20 @@ pub fn copy_element(
     let kind = head.kind;
     let payload = head.payload;
     let inside = copy_head(s, at, payload, plain, out, trail, pen);
-    if kind == Kind::BLOCK {
-        let count = word(s.bytes, payload);
-        let behind = copy_count(count, out, inside);
-        return copy_alternatives(s, depth - 1, count, payload + 1, out, trail, behind);
-    }
-    let there = leaf_end(s, depth, at, kind, payload);
-    let last = copy_leaf(s, kind, payload, there, out, trail, inside);
-    Copied {
-        next: there,
-        pen: last,
+    match kind {
+        Kind::Block => {
+            let count = word(s.bytes, payload);
+            let behind = copy_count(count, out, inside);
+            copy_alternatives(s, depth - 1, count, payload + 1, out, trail, behind)
+        }
+        _ => {
+            let there = leaf_end(s, depth, at, kind, payload);
+            let last = copy_leaf(s, kind, payload, there, out, trail, inside);
+            Copied {
+                next: there,
+                pen: last,
+            }
+        }
     }
 }
 
@@ -62,7 +66,7 @@ fn copy_elements(
     trail: &mut [u8],
     pen: Pen,
 ) -> Copied
-    requires room { at ≤ s.now.end }
+    requires bounds { at ≤ s.now.end }
     requires elements_fit { ElementsFit (text s.now) s.now.end depth n at out.old trail.old pen }
     ensures { ElementsCopied (text s.now) s.now.end depth n at out.old out.new
         trail.old trail.new pen result.next result.pen }
@@ -94,7 +98,7 @@ fn copy_alternative(
     let head = alternative_head(s, depth, at);
     let count = head.count;
     let first = head.first;
-    let inside = copy_marked(s, at, first, IdSort::Alternative, out, trail, pen);
+    let inside = copy_marked(s, at, first, Sort::Alternative, out, trail, pen);
     copy_elements(s, depth, count, first, out, trail, inside)
 }
 
@@ -109,7 +113,7 @@ fn copy_alternatives(
     trail: &mut [u8],
     pen: Pen,
 ) -> Copied
-    requires room { at ≤ s.now.end }
+    requires bounds { at ≤ s.now.end }
     requires alternatives_fit { AlternativesFit (text s.now) s.now.end depth n at out.old trail.old pen }
     ensures { AlternativesCopied (text s.now) s.now.end depth n at out.old out.new
         trail.old trail.new pen result.next result.pen }

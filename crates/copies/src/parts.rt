@@ -3,13 +3,14 @@ ghost use Rattle.std.specs.Prelude.{◌≡◌, ◌∷◌, ◌+◌, ◌-◌, ◌*
 ghost use Rattle.grammar.specs.Words.{words};
 ghost use Rattle.words.specs.Room.{Room};
 ghost use Rattle.writing.specs.Wrote.{Wrote};
-ghost use Rattle.copies.specs.Reasons.{sort_number, counter_of};
+ghost use Rattle.words.specs.Kinds.{kind_number, sort_number};
+ghost use Rattle.copies.specs.Reasons.{counter_of};
 ghost use Rattle.copies.specs.Heads.{LabelRoom, LabelGiven, HeadRoom, HeadCopied, packed_if};
 ghost use Rattle.copies.specs.Heads.{MarkedRoom, BehindRoom, CopiedBehind, MarkedCopied, LeafRoom, LeafCopied, CountCopied};
 ghost use Rattle.words.specs.Sheet.{text};
 
-use crate::pen::{Given, IdSort, Pen, Reason, fresh, write_words};
-use words::numbers::Kind;
+use crate::pen::{Given, Pen, Reason, fresh, write_words};
+use words::numbers::{Kind, Sort};
 use words::sheet::Sheet;
 use words::words::word;
 use writing::copy::{copy_words, write};
@@ -35,7 +36,7 @@ fn label_id(s: &[u8], at: usize, trail: &mut [u8], pen: Pen) -> Given
         return Given { id: 0, pen };
     }
     let owner = word(s, at);
-    fresh(trail, pen, IdSort::Label, Reason::BlockBoundary, owner)
+    fresh(trail, pen, Sort::Label, Reason::BlockBoundary, owner)
 }
 
 // The words of an element's head, of which three are given.
@@ -76,7 +77,7 @@ pub fn copy_head(
     let to = pen.to + (payload - at);
     let kind = packed(s.bytes, at + 2, plain);
     let owner = word(s.bytes, at);
-    let given = fresh(trail, pen, IdSort::Element, Reason::BlockBoundary, owner);
+    let given = fresh(trail, pen, Sort::Element, Reason::BlockBoundary, owner);
     let first = given.pen;
     let named = label_id(s.bytes, at + 3, trail, first);
     write_head(s.bytes, at, payload, given.id, kind, named.id, out, pen.to);
@@ -102,12 +103,12 @@ pub fn copy_marked(
     s: &Sheet,
     at: usize,
     there: usize,
-    sort: IdSort,
+    sort: Sort,
     out: &mut [u8],
     trail: &mut [u8],
     pen: Pen,
 ) -> Pen
-    requires room { there ≤ s.now.end }
+    requires bounds { there ≤ s.now.end }
     requires marked_room { MarkedRoom (counter_of sort pen.counters) at there out.old trail.old pen }
     ensures { MarkedCopied (sort_number sort) (counter_of sort pen.counters) (text s.now) at there
         out.old out.new trail.old trail.new pen result }
@@ -120,26 +121,26 @@ pub fn copy_marked(
 // The payload of an element that is no block, up to where it ends.
 pub fn copy_leaf(
     s: &Sheet,
-    kind: u32,
+    kind: Kind,
     at: usize,
     there: usize,
     out: &mut [u8],
     trail: &mut [u8],
     pen: Pen,
 ) -> Pen
-    requires { (there ≤ s.now.end) × LeafRoom kind at there out.old trail.old pen }
-    ensures { LeafCopied (text s.now) s.now.end kind at there out.old out.new
+    requires { (there ≤ s.now.end) × LeafRoom (kind_number kind) at there out.old trail.old pen }
+    ensures { LeafCopied (text s.now) s.now.end (kind_number kind) at there out.old out.new
         trail.old trail.new pen result }
 {
-    if kind == Kind::ACTION {
-        return copy_marked(s, at, there, IdSort::Action, out, trail, pen);
+    match kind {
+        Kind::Action => copy_marked(s, at, there, Sort::Action, out, trail, pen),
+        Kind::Predicate => copy_marked(s, at, there, Sort::Predicate, out, trail, pen),
+        _ => {
+            let to = pen.to + (there - at);
+            copy_words(s.bytes, at, out, pen.to, there - at);
+            Pen { to, ..pen }
+        }
     }
-    if kind == Kind::PREDICATE {
-        return copy_marked(s, at, there, IdSort::Predicate, out, trail, pen);
-    }
-    let to = pen.to + (there - at);
-    copy_words(s.bytes, at, out, pen.to, there - at);
-    Pen { to, ..pen }
 }
 
 // How many alternatives a block has.

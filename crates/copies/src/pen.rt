@@ -1,7 +1,8 @@
 // The pen that draws copies, the entries of the trail, and fresh ids with their entries.
 ghost use Rattle.std.specs.Prelude.{◌≡◌, [], ◌∷◌, ◌+◌, ◌*◌, ◌≤◌, length};
 ghost use Rattle.writing.specs.Wrote.{Wrote};
-ghost use Rattle.copies.specs.Reasons.{reason_number, sort_number, counter_of, Took};
+ghost use Rattle.words.specs.Kinds.{sort_number};
+ghost use Rattle.copies.specs.Reasons.{reason_number, counter_of, Took};
 ghost use Rattle.copies.specs.Pen.{EntryRoom, Gave};
 
 use words::numbers::Sort;
@@ -37,33 +38,6 @@ impl From<Reason> for u32 {
     }
 }
 
-// The sorts of ids that copies get; rules are not copied.
-#[derive(Clone, Copy, Debug, PartialEq, Eq)]
-pub enum IdSort {
-    Alternative,
-    Element,
-    Label,
-    Action,
-    Predicate,
-}
-
-// The number by which the trail tells it.
-impl From<IdSort> for u32 {
-    ghost use Rattle.copies.specs.Reasons.{sort_number};
-
-    ghost from_gives = { λ sort number. number ≡ sort_number sort };
-
-    fn from(sort: IdSort) -> u32 {
-        match sort {
-            IdSort::Alternative => Sort::ALTERNATIVE,
-            IdSort::Element => Sort::ELEMENT,
-            IdSort::Label => Sort::LABEL,
-            IdSort::Action => Sort::ACTION,
-            IdSort::Predicate => Sort::PREDICATE,
-        }
-    }
-}
-
 // A fresh id, and the pen behind its entry.
 #[derive(Clone, Copy)]
 pub struct Given {
@@ -90,20 +64,20 @@ pub fn write_entry(trail: &mut [u8], at: usize, kind: u32, id: u32, reason: Reas
 }
 
 // An id of a sort just taken.
-fn take_id(counters: Counters, sort: IdSort) -> Taken
+fn take_id(counters: Counters, sort: Sort) -> Taken
     ensures { Took sort counters result.id result.counters }
 {
     match sort {
-        IdSort::Alternative => counters.take_alternative(),
-        IdSort::Element => counters.take_element(),
-        IdSort::Label => counters.take_label(),
-        IdSort::Action => counters.take_action(),
-        IdSort::Predicate => counters.take_predicate(),
+        Sort::Alternative => counters.take_alternative(),
+        Sort::Element => counters.take_element(),
+        Sort::Label => counters.take_label(),
+        Sort::Action => counters.take_action(),
+        Sort::Predicate => counters.take_predicate(),
     }
 }
 
 // A fresh id of a sort, with its entry.
-pub fn fresh(trail: &mut [u8], pen: Pen, sort: IdSort, reason: Reason, owner: u32) -> Given
+pub fn fresh(trail: &mut [u8], pen: Pen, sort: Sort, reason: Reason, owner: u32) -> Given
     requires { EntryRoom (counter_of sort pen.counters) trail.old pen }
     ensures { Gave (sort_number sort) (counter_of sort pen.counters) (reason_number reason) owner
         trail.old trail.new pen result.id result.pen }

@@ -37,7 +37,7 @@ pub fn copy_rules(
     work: &mut [u8],
     d: Draft,
 ) -> Draft
-    requires room { Standing (text s.now) s.now.end rules × (from ≤ until) × (until ≤ rules.n) }
+    requires bounds { Standing (text s.now) s.now.end rules × (from ≤ until) × (until ≤ rules.n) }
     requires fact { Open d work.old × (d.rules.n ≤ from) × RulesFit (text s.now) s.now.end rules row from until d }
     ensures { RulesAdded (text s.now) s.now.end rules row from until work.old work.new d result }
 {

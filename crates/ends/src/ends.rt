@@ -43,7 +43,7 @@ pub fn element_end(s: &Sheet, depth: u32, at: usize) -> usize
 
 // n elements from `at` on.
 pub fn elements_end(s: &Sheet, depth: u32, n: u32, at: usize) -> usize
-    requires room { at ≤ s.now.end }
+    requires bounds { at ≤ s.now.end }
     requires found_elements { FoundElements (text s.now) s.now.end depth n at }
     ensures { ElementsWalked skipping (text s.now) s.now.end depth n at tt result tt }
 {

@@ -35,7 +35,7 @@ fn tell(
     cycles: &mut [[u64; Row::WORDS]; Row::RULES],
     work: &mut [u8],
 ) -> Told
-    requires room { work_bytes ≤ length work.old }
+    requires bounds { work_bytes ≤ length work.old }
     requires standing { Standing (text s.now) s.now.end rules }
     requires calls_value { (calls.old ≡ no_rows) × (corners.old ≡ no_rows) × (cycles.old ≡ no_rows) }
     ensures rules_told { RulesTold (text s.now) s.now.end rules (reading past) result.marks result.cycles

@@ -28,7 +28,7 @@ fn write_option(s: &Sheet, p: usize, work: &mut [u8], to: usize)
 
 // The options, two words each.
 fn write_options(s: &Sheet, depth: u32, work: &mut [u8], x: Listed, to: usize)
-    requires room { (compose_at ≤ to) × (4 * (to + 2 * x.no) ≤ length work.old) }
+    requires bounds { (compose_at ≤ to) × (4 * (to + 2 * x.no) ≤ length work.old) }
     requires located { Located work.old x × InList x × ListedIn (text s.now) s.now.end depth work.old x }
     ensures { Wrote work.old work.new to
         (each encode_option (options_from (text s.now) s.now.end depth work.old x.o x.no)) }
@@ -51,7 +51,7 @@ fn write_fixed(s: &Sheet, slot: usize, id: u32, no: u32, ne: u32, work: &mut [u8
 }
 
 pub fn write_head(s: &Sheet, depth: u32, work: &mut [u8], x: Listed, id: u32, to: usize)
-    requires room { (compose_at ≤ to) × (4 * (to + 5 + 2 * x.no) ≤ length work.old) }
+    requires bounds { (compose_at ≤ to) × (4 * (to + 5 + 2 * x.no) ≤ length work.old) }
     requires located { Located work.old x × InList x × ListedIn (text s.now) s.now.end depth work.old x }
     ensures { Wrote work.old work.new to
         (head_words depth (meaning (text s.now) s.now.end depth work.old x) id) }

@@ -20,7 +20,11 @@ fn copy_span(s: &Sheet, at: usize, q: usize, plain: bool, out: &mut [u8], to: us
         write_words(
             out,
             to,
-            &[word(s.bytes, at), word(s.bytes, at + 1), Kind::CALL],
+            &[
+                word(s.bytes, at),
+                word(s.bytes, at + 1),
+                u32::from(Kind::Call),
+            ],
         );
         copy_words(s.bytes, at + 3, out, to + 3, n - 3);
         return to + n;
@@ -31,7 +35,7 @@ fn copy_span(s: &Sheet, at: usize, q: usize, plain: bool, out: &mut [u8], to: us
 
 // The words of the element at `at`, or of what was made plain of it, which is a call. Returned is where they end.
 pub fn copy_same(s: &Sheet, depth: u32, at: usize, plain: bool, out: &mut [u8], to: usize) -> usize
-    requires room { ItemThere (text s.now) s.now.end depth at plain }
+    requires bounds { ItemThere (text s.now) s.now.end depth at plain }
     requires same_fits { SameFits (text s.now) s.now.end depth at plain to out.old }
     ensures { SameCopied (text s.now) s.now.end depth at plain to out.old out.new result }
 {

@@ -13,7 +13,7 @@ use words::words::word;
 
 // How many alternatives the rule at `at` has, if it is to be counted.
 fn count_if(s: &Sheet, at: usize, on: bool) -> usize
-    requires room { at + 4 ≤ s.now.end }
+    requires bounds { at + 4 ≤ s.now.end }
     requires found_rule { FoundRule (text s.now) s.now.end at }
     ensures { Counted (text s.now) s.now.end at on result }
 {
@@ -25,7 +25,7 @@ fn count_if(s: &Sheet, at: usize, on: bool) -> usize
 
 // How many the members have.
 fn alternatives(s: &Sheet, rules: Rules, members: [u64; Row::WORDS]) -> usize
-    requires room { (s.now.end ≤ most_words) × (rules.n ≤ rule_limit) }
+    requires bounds { (s.now.end ≤ most_words) × (rules.n ≤ rule_limit) }
     requires standing { Standing (text s.now) s.now.end rules }
     ensures { Summed (text s.now) s.now.end rules.places members rules.n result }
 {
@@ -40,7 +40,7 @@ fn alternatives(s: &Sheet, rules: Rules, members: [u64; Row::WORDS]) -> usize
 
 // The square of the members' alternatives, and at least the floor.
 pub fn budget(s: &Sheet, rules: Rules, members: [u64; Row::WORDS], floor: usize) -> usize
-    requires room { s.now.end ≤ most_words }
+    requires bounds { s.now.end ≤ most_words }
     requires standing { Standing (text s.now) s.now.end rules }
     ensures { IsBudget (text s.now) s.now.end rules members floor result }
 {

@@ -6,6 +6,7 @@ ghost use Rattle.grammar.specs.Found.{FoundElements, FoundAlternatives, FoundRul
 ghost use Rattle.analysis.specs.Names.{Told};
 ghost use Rattle.analysis.specs.Facts.{Standing};
 ghost use Rattle.hub.specs.Corner.{NameSettles, Settles, AnySettles, IsCandidate, Candidates};
+ghost use Rattle.words.specs.Kinds.{kind_number};
 ghost use Rattle.words.specs.Sheet.{text};
 
 use analysis::names::scan;
@@ -37,7 +38,7 @@ fn name_settles(names: &[u32], c: Cycle, name: u32) -> bool
 
 // n elements from `at` on: the first that is significant decides.
 fn settled_outside(s: &Sheet, depth: u32, names: &[u32], c: Cycle, n: u32, at: usize) -> bool
-    requires room { (c.n ≤ rule_limit) × Told names.now c.n × (at ≤ s.now.end) }
+    requires bounds { (c.n ≤ rule_limit) × Told names.now c.n × (at ≤ s.now.end) }
     requires found_elements { FoundElements (text s.now) s.now.end depth n at }
     ensures { Settles names.now c (text s.now) s.now.end depth n at result }
 {
@@ -46,20 +47,20 @@ fn settled_outside(s: &Sheet, depth: u32, names: &[u32], c: Cycle, n: u32, at: u
         let head = element_head(s, depth, p);
         let kind = head.kind;
         let payload = head.payload;
-        if Kind::CALL < kind {
-            return true;
+        match kind {
+            Kind::Epsilon | Kind::Action | Kind::Predicate => {
+                p = leaf_end(s, depth, p, kind, payload);
+            }
+            Kind::Call => return name_settles(names, c, word(s.bytes, payload)),
+            Kind::Token | Kind::Terminal | Kind::Block | Kind::EndOfInput => return true,
         }
-        if kind == Kind::CALL {
-            return name_settles(names, c, word(s.bytes, payload));
-        }
-        p = leaf_end(s, depth, p, kind, payload);
     }
     true
 }
 
 // n alternatives from `at` on: one is enough.
 fn any_settled(s: &Sheet, names: &[u32], c: Cycle, n: u32, at: usize) -> bool
-    requires room { (c.n ≤ rule_limit) × Told names.now c.n × (at ≤ s.now.end) }
+    requires bounds { (c.n ≤ rule_limit) × Told names.now c.n × (at ≤ s.now.end) }
     requires found_alternatives { FoundAlternatives (text s.now) s.now.end inner_depth n at }
     ensures { AnySettles names.now c (text s.now) s.now.end inner_depth n at result }
 {
@@ -78,7 +79,7 @@ fn any_settled(s: &Sheet, names: &[u32], c: Cycle, n: u32, at: usize) -> bool
 
 // Rule i, which stands at `at`: a member with an alternative that begins outside.
 fn is_candidate(s: &Sheet, names: &[u32], c: Cycle, i: usize, at: usize) -> bool
-    requires room { (c.n ≤ rule_limit) × Told names.now c.n × (i < c.n) × (at + 4 ≤ s.now.end) }
+    requires bounds { (c.n ≤ rule_limit) × Told names.now c.n × (i < c.n) × (at + 4 ≤ s.now.end) }
     requires found_rule { FoundRule (text s.now) s.now.end at }
     ensures { IsCandidate names.now c (text s.now) s.now.end i at result }
 {
@@ -88,7 +89,7 @@ fn is_candidate(s: &Sheet, names: &[u32], c: Cycle, i: usize, at: usize) -> bool
 
 // Every rule looked at.
 pub fn candidates(s: &Sheet, rules: Rules, c: Cycle) -> [u64; Row::WORDS]
-    requires room { (c.n ≡ rules.n) × (rules.n ≤ rule_limit) × Told rules.names c.n }
+    requires bounds { (c.n ≡ rules.n) × (rules.n ≤ rule_limit) × Told rules.names c.n }
     requires standing { Standing (text s.now) s.now.end rules }
     ensures { Candidates rules.names c (text s.now) s.now.end rules.places rules.n result }
 {

@@ -22,7 +22,7 @@ pub fn choose_hub(
     members: [u64; Row::WORDS],
     kept: [u64; Row::WORDS],
 ) -> Option<usize>
-    requires room { length calls.now ≡ rule_limit }
+    requires bounds { length calls.now ≡ rule_limit }
     requires standing { Standing (text s.now) s.now.end rules }
     ensures { Chosen (text s.now) s.now.end rules nullable calls.now members kept result }
 {

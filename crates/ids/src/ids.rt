@@ -5,6 +5,7 @@ ghost use Rattle.grammar.specs.Found.{FoundRules};
 ghost use Rattle.std.proofs.Common.{rules};
 ghost use Rattle.ids.specs.Ids.{seeing_past_block, seeing_past_alternative};
 ghost use Rattle.ids.specs.Ids.{own_of, own_ids, alternative_id, seeing, behind, CollectedSort};
+ghost use Rattle.words.specs.Kinds.{sort_number};
 ghost use Rattle.words.specs.Sheet.{text};
 
 use words::numbers::{Kind, Sort};
@@ -15,32 +16,18 @@ use words::words::{put_word, word};
 
 // The id of one sort that an element has itself.
 #[inline]
-pub(crate) fn own_id(s: &[u8], sort: u32, at: usize, payload: usize) -> Option<u32>
+pub(crate) fn own_id(s: &[u8], sort: Sort, at: usize, payload: usize) -> Option<u32>
     requires { (4 * (at + 6) ≤ length s.now) × (4 * payload + 4 ≤ length s.now) }
-    ensures { own_of result ≡ own_ids (words s.now) at payload sort }
+    ensures { own_of result ≡ own_ids (words s.now) at payload (sort_number sort) }
 {
-    if sort == Sort::ELEMENT {
-        return Some(word(s, at));
-    }
-    if sort == Sort::LABEL {
-        if word(s, at + 4) == 0 {
-            return None;
-        }
-        return Some(word(s, at + 3));
-    }
     let kind = word(s, at + 2) % Kind::END;
-    if sort == Sort::ACTION {
-        if kind == Kind::ACTION {
-            return Some(word(s, payload));
-        }
-        return None;
+    match sort {
+        Sort::Element => Some(word(s, at)),
+        Sort::Label if word(s, at + 4) != 0 => Some(word(s, at + 3)),
+        Sort::Action if kind == u32::from(Kind::Action) => Some(word(s, payload)),
+        Sort::Predicate if kind == u32::from(Kind::Predicate) => Some(word(s, payload)),
+        _ => None,
     }
-    if sort == Sort::PREDICATE {
-        if kind == Kind::PREDICATE {
-            return Some(word(s, payload));
-        }
-    }
-    None
 }
 
 // Writes `id` behind the `out` words that stand there.
@@ -53,10 +40,10 @@ fn push(work: &mut [u8], out: usize, id: u32) -> usize
 }
 
 // Writes an element's own id, where it has one of the sort.
-fn put_own(s: &[u8], sort: u32, at: usize, payload: usize, work: &mut [u8], out: usize) -> usize
+fn put_own(s: &[u8], sort: Sort, at: usize, payload: usize, work: &mut [u8], out: usize) -> usize
     requires { (4 * (at + 6) ≤ length s.now) × (4 * payload + 4 ≤ length s.now) × (4 * out + 4 ≤ length work.old) }
     ensures { (result ≤ out + 1) × (take result (words work.new)
-        ≡ take out (words work.old) ++ own_ids (words s.now) at payload sort) }
+        ≡ take out (words work.old) ++ own_ids (words s.now) at payload (sort_number sort)) }
 {
     match own_id(s, sort, at, payload) {
         Some(id) => push(work, out, id),
@@ -65,21 +52,21 @@ fn put_own(s: &[u8], sort: u32, at: usize, payload: usize, work: &mut [u8], out:
 }
 
 // Writes an alternative's id, where alternatives are the sort.
-fn put_alternative(s: &[u8], sort: u32, at: usize, work: &mut [u8], out: usize) -> usize
+fn put_alternative(s: &[u8], sort: Sort, at: usize, work: &mut [u8], out: usize) -> usize
     requires { (4 * at + 4 ≤ length s.now) × (4 * out + 4 ≤ length work.old) }
     ensures { (result ≤ out + 1) × (take result (words work.new)
-        ≡ take out (words work.old) ++ alternative_id (words s.now) at sort) }
+        ≡ take out (words work.old) ++ alternative_id (words s.now) at (sort_number sort)) }
 {
-    if sort == Sort::ALTERNATIVE {
-        return push(work, out, word(s, at));
+    match sort {
+        Sort::Alternative => push(work, out, word(s, at)),
+        _ => out,
     }
-    out
 }
 
 // What collects the ids of one sort: `out` words stand there.
 #[derive(Drop)]
 struct Collector<'a> {
-    sort: u32,
+    sort: Sort,
     work: &'a mut [u8],
     out: usize,
 }
@@ -87,7 +74,7 @@ struct Collector<'a> {
 impl Visitor for Collector<'_> {
     ghost State = { List ℕ };
 
-    ghost steps = { λ ws v. seeing (behind v.sort) };
+    ghost steps = { λ ws v. seeing (behind (sort_number v.sort)) };
 
     ghost state = { λ ws d v. take v.out (words v.work.now) };
 
@@ -112,10 +99,10 @@ impl Visitor for Collector<'_> {
 }
 
 // All ids of one sort, written from the first word on; returned is how many there are.
-pub fn collect(s: &Sheet, n: u32, sort: u32, work: &mut [u8]) -> usize
-    requires room { 4 * s.now.end + 4 ≤ length work.old }
+pub fn collect(s: &Sheet, n: u32, sort: Sort, work: &mut [u8]) -> usize
+    requires bounds { 4 * s.now.end + 4 ≤ length work.old }
     requires found_rules { FoundRules (text s.now) s.now.end n 0 }
-    ensures { CollectedSort (text s.now) s.now.end n sort (words work.new) result }
+    ensures { CollectedSort (text s.now) s.now.end n (sort_number sort) (words work.new) result }
 {
     let mut collector = Collector { sort, work, out: 0 };
     walk_rules(&mut collector, s, n, 0);

@@ -38,7 +38,7 @@ pub fn is_distinct(s: &mut [u8], n: usize) -> bool
     requires { 4 * n ≤ length s.old }
     ensures value { result ≡ distinct (take n (words s.old)) }
     ensures untouched { Untouched (words s.old) (words s.new) 0 n }
-    ensures s_len_unchanged { length s.new ≡ length s.old }
+    ensures length_stays { length s.new ≡ length s.old }
 {
     if is_rising(s, 0, n) {
         return true;

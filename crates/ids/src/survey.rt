@@ -64,11 +64,11 @@ impl Survey {
         ensures { OwnSeen (words s.now) at payload self.old self.new }
     {
         self.elements += 1;
-        self.element.see_own(own_id(s, Sort::ELEMENT, at, payload));
-        self.label.see_own(own_id(s, Sort::LABEL, at, payload));
-        self.action.see_own(own_id(s, Sort::ACTION, at, payload));
+        self.element.see_own(own_id(s, Sort::Element, at, payload));
+        self.label.see_own(own_id(s, Sort::Label, at, payload));
+        self.action.see_own(own_id(s, Sort::Action, at, payload));
         self.predicate
-            .see_own(own_id(s, Sort::PREDICATE, at, payload));
+            .see_own(own_id(s, Sort::Predicate, at, payload));
     }
 
     // An alternative's id.

@@ -14,7 +14,7 @@ use words::words::word;
 
 // The rule at `at`, with all that is in it; returned is where it ends.
 fn rule(s: &Sheet, at: usize, out: &mut Text<'_>) -> usize
-    requires room { (at + 4 ≤ s.now.end) × (out.old.n ≤ 10 * at + 64) }
+    requires bounds { (at + 4 ≤ s.now.end) × (out.old.n ≤ 10 * at + 64) }
     requires found_rule { FoundRule (text s.now) s.now.end at }
     ensures same_buffer { out.new.bytes.ghost_name ≡ out.old.bytes.ghost_name }
     ensures listed { (out.new.n ≤ 10 * result + 64) × RuleListed (text s.now) s.now.end at
@@ -29,7 +29,7 @@ fn rule(s: &Sheet, at: usize, out: &mut Text<'_>) -> usize
 
 // The rules from the first word on; returned is where they end.
 fn rules(s: &Sheet, count: u32, out: &mut Text<'_>) -> usize
-    requires room { out.old.n ≤ 64 }
+    requires bounds { out.old.n ≤ 64 }
     requires found_rules { FoundRules (text s.now) s.now.end count 0 }
     ensures same_buffer { out.new.bytes.ghost_name ≡ out.old.bytes.ghost_name }
     ensures listed { (out.new.n ≤ 10 * result + 64) × RulesListed (text s.now) s.now.end count 0

@@ -7,6 +7,7 @@ ghost use Rattle.listed.specs.Text.{line};
 ghost use Rattle.listed.specs.Listed.{element_word, alternative_line};
 ghost use Rattle.listed.specs.Put.{WroteFew};
 ghost use Rattle.listed.specs.Walk.{Pen, pen, listing, name_of};
+ghost use Rattle.words.specs.Kinds.{kind_number};
 ghost use Rattle.words.specs.Sheet.{text};
 
 use crate::text::Text;
@@ -18,11 +19,11 @@ use words::words::word;
 
 // The name of a call or a token; else 0.
 #[tactic(auto, unfolding(crate::specs::Walk::name_of))]
-fn name_of(kind: u32, w: u32) -> u32
-    ensures { result ≡ name_of kind w }
+fn name_of(kind: Kind, w: u32) -> u32
+    ensures { result ≡ name_of (kind_number kind) w }
 {
     match kind {
-        Kind::CALL | Kind::TOKEN => w,
+        Kind::Call | Kind::Token => w,
         _ => 0,
     }
 }
@@ -38,20 +39,23 @@ fn level(depth: u32) -> u32
 // The line of the element at `at` itself.
 fn element_line(s: &Sheet, depth: u32, at: usize, head: Head, out: &mut Text<'_>)
     requires words { (4 * at + 12 ≤ length s.now.bytes.now) × (4 * head.payload + 4 ≤ length s.now.bytes.now) }
-    requires room { (depth ≤ inner_depth) × (out.old.n < 2 ^ 35) }
+    requires bounds { (depth ≤ inner_depth) × (out.old.n < 2 ^ 35) }
     ensures { WroteFew out.old out.new
-        (line element_word ((inner_depth - depth) ∷ get_or (text s.now) at 0 ∷ head.kind ∷ get_or (text s.now) (at + 2) 0 / kind_end
-        ∷ name_of head.kind (get_or (text s.now) head.payload 0) ∷ [])) 57 }
+        (line element_word ((inner_depth - depth) ∷ get_or (text s.now) at 0 ∷ kind_number head.kind
+        ∷ get_or (text s.now) (at + 2) 0 / kind_end ∷ name_of (kind_number head.kind) (get_or (text s.now) head.payload 0) ∷ [])) 57 }
 {
     let id = word(s.bytes, at);
     let quantifier = word(s.bytes, at + 2) / Kind::END;
     let name = name_of(head.kind, word(s.bytes, head.payload));
-    out.line(b"e", &[level(depth), id, head.kind, quantifier, name]);
+    out.line(
+        b"e",
+        &[level(depth), id, u32::from(head.kind), quantifier, name],
+    );
 }
 
 // The line of the alternative at `at` itself.
 fn alternative_line(s: &Sheet, depth: u32, at: usize, out: &mut Text<'_>)
-    requires room { (4 * at + 4 ≤ length s.now.bytes.now) × (depth ≤ inner_depth) × (out.old.n < 2 ^ 35) }
+    requires bounds { (4 * at + 4 ≤ length s.now.bytes.now) × (depth ≤ inner_depth) × (out.old.n < 2 ^ 35) }
     ensures { WroteFew out.old out.new (alternative_line (inner_depth - depth) (get_or (text s.now) at 0)) 24 }
 {
     let id = word(s.bytes, at);

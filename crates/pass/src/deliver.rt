@@ -23,14 +23,14 @@ fn deliver_sheet(
 ) -> Result<Ended, Refusal>
     requires { Lent sheet.now res.old trail.old work.old × AreBytes sheet.now × WasSheet sheet.now read }
     ensures answered { Answered past sheet.now res.new trail.new result }
-    ensures res_len_unchanged { (length res.new ≡ length res.old)
+    ensures lengths_stay { (length res.new ≡ length res.old)
         × (length trail.new ≡ length trail.old) × (length work.new ≡ length work.old) }
 {
     let rules = read.rules;
     let parts = read.parts;
     let n = sheet.len() / 4;
     copy_words(sheet, 0, res, 0, n);
-    if parts.kind != UnitKind::PARSER {
+    if parts.kind != u32::from(UnitKind::Parser) {
         return Ok(Ended {
             plans: 0,
             steps: 0,
@@ -69,7 +69,7 @@ pub fn deliver(
     requires { Lent sheet.now res.old trail.old work.old × AreBytes sheet.now }
     ensures answered { Answered past sheet.now res.new trail.new result }
     ensures are_bytes { AreBytes res.new × AreBytes trail.new }
-    ensures res_len_unchanged { (length res.new ≡ length res.old)
+    ensures lengths_stay { (length res.new ≡ length res.old)
         × (length trail.new ≡ length trail.old) × (length work.new ≡ length work.old) }
 {
     let read = examine(sheet, work)?;

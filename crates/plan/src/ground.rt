@@ -30,12 +30,12 @@ pub fn find_out(
     corners: &mut [[u64; Row::WORDS]; Row::RULES],
     work: &mut [u8],
 ) -> Ground
-    requires room { (work_bytes ≤ length work.old) × KeptAt s.now.bytes.now s.now.end to }
+    requires bounds { (work_bytes ≤ length work.old) × KeptAt s.now.bytes.now s.now.end to }
     requires standing { Standing (text s.now) s.now.end rules }
-    requires calls_len { (length calls.old ≡ rule_limit) × (length corners.old ≡ rule_limit) }
+    requires lengths { (length calls.old ≡ rule_limit) × (length corners.old ≡ rule_limit) }
     ensures facts_found { FactsFound (text s.now) s.now.end rules past calls.new corners.new result.marks }
     ensures kept_of { KeptOf (text s.now) s.now.end to rules result.kept }
-    ensures calls_len_2 { (length calls.new ≡ rule_limit) × (length corners.new ≡ rule_limit) }
+    ensures lengths_after { (length calls.new ≡ rule_limit) × (length corners.new ≡ rule_limit) }
     ensures work_after { work.new ≡ table_with rules.names rules.n work.old }
 {
     let marks = find_rows(s, rules, past, calls, corners, work);

@@ -48,7 +48,7 @@ fn finish(
     work: &[u8],
     done: Done,
 ) -> Result<Plan, Unplanned>
-    requires room { Standing (text s.now) s.now.end f.now.rules × (hub < f.now.rules.n) }
+    requires bounds { Standing (text s.now) s.now.end f.now.rules × (hub < f.now.rules.n) }
     requires laid { Laid work.now done.l × AllIn (text s.now) s.now.end inner_depth work.now done.l }
     ensures { PlanLast (text s.now) s.now.end f.now.rules f.now.past f.now.calls.now f.now.marks f.now.kept members hub done
         work.now result }
@@ -85,7 +85,7 @@ fn make(
     limits: Limits,
     work: &mut [u8],
 ) -> Result<Plan, Unplanned>
-    requires room { (s.now.end ≤ most_words) × (work_bytes ≤ length work.old) × LimitsFit limits }
+    requires bounds { (s.now.end ≤ most_words) × (work_bytes ≤ length work.old) × LimitsFit limits }
     requires hub_known { HubKnown (text s.now) s.now.end f.now.rules f.now.past f.now.calls.now f.now.marks f.now.kept members hub }
     ensures { PlanMade (text s.now) s.now.end f.now.rules f.now.past f.now.calls.now f.now.marks f.now.kept members limits hub
         work.new result }
@@ -103,7 +103,7 @@ fn make(
 // Whether the rule at `at` takes arguments: its flags are odd.
 #[tactic(auto, using(crate::proofs::Laws::With::takes_word))]
 fn takes_arguments(s: &Sheet, at: usize) -> bool
-    requires room { at + 4 ≤ s.now.end }
+    requires bounds { at + 4 ≤ s.now.end }
     requires found_rule { FoundRule (text s.now) s.now.end at }
     ensures { TakesArguments (text s.now) s.now.end at result }
 {
@@ -119,7 +119,7 @@ fn with_hub(
     limits: Limits,
     work: &mut [u8],
 ) -> Result<Plan, Unplanned>
-    requires room { (s.now.end ≤ most_words) × (work_bytes ≤ length work.old) × LimitsFit limits }
+    requires bounds { (s.now.end ≤ most_words) × (work_bytes ≤ length work.old) × LimitsFit limits }
     requires inside { hub < f.now.rules.n }
     requires cycle_known { CycleKnown (text s.now) s.now.end f.now.rules f.now.past f.now.calls.now f.now.marks f.now.kept members }
     ensures { PlanWith (text s.now) s.now.end f.now.rules f.now.past f.now.calls.now f.now.marks f.now.kept members limits hub
@@ -146,7 +146,7 @@ pub fn plan_cycle(
     limits: Limits,
     work: &mut [u8],
 ) -> Result<Plan, Unplanned>
-    requires room { (s.now.end ≤ most_words) × (work_bytes ≤ length work.old) × LimitsFit limits }
+    requires bounds { (s.now.end ≤ most_words) × (work_bytes ≤ length work.old) × LimitsFit limits }
     requires cycle_known { CycleKnown (text s.now) s.now.end f.now.rules f.now.past f.now.calls.now f.now.marks f.now.kept members }
     ensures { PlanOf (text s.now) s.now.end f.now.rules f.now.past f.now.calls.now f.now.marks f.now.kept members limits
         work.new result }

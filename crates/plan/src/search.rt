@@ -69,7 +69,7 @@ fn try_cycles(
     limits: Limits,
     work: &mut [u8],
 ) -> Found
-    requires room { (s.now.end ≤ most_words) × (work_bytes ≤ length work.old) × LimitsFit limits }
+    requires bounds { (s.now.end ≤ most_words) × (work_bytes ≤ length work.old) × LimitsFit limits }
     requires closed_len { (length closed.now ≡ rule_limit) × (f.now.rules.n ≤ rule_limit) }
     requires joined_known { JoinedKnown (text s.now) s.now.end f.now.rules f.now.past f.now.calls.now f.now.marks f.now.kept closed.now }
     ensures { TriedOf (text s.now) s.now.end f.now.rules f.now.past f.now.calls.now f.now.marks f.now.kept closed.now limits
@@ -110,7 +110,7 @@ pub fn find_plan(
     limits: Limits,
     work: &mut [u8],
 ) -> Found
-    requires room { (s.now.end ≤ most_words) × (work_bytes ≤ length work.old) × LimitsFit limits }
+    requires bounds { (s.now.end ≤ most_words) × (work_bytes ≤ length work.old) × LimitsFit limits }
     requires rules_known { RulesKnown (text s.now) s.now.end f.now.rules f.now.past f.now.calls.now corners.now f.now.marks f.now.kept }
     ensures { FoundOf (text s.now) s.now.end f.now.rules f.now.past f.now.calls.now corners.now f.now.marks f.now.kept limits
         work.new result }

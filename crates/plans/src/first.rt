@@ -26,7 +26,7 @@ pub struct FirstTold {
 
 // The first plan for rules that stand in a sheet, with their preserved ids behind them up to `to`.
 pub fn decide_first(s: &Sheet, to: usize, rules: Rules, past: bool, work: &mut [u8]) -> Found
-    requires room { (s.now.end ≤ most_words) × (work_bytes ≤ length work.old) × KeptAt s.now.bytes.now s.now.end to }
+    requires bounds { (s.now.end ≤ most_words) × (work_bytes ≤ length work.old) × KeptAt s.now.bytes.now s.now.end to }
     requires standing { Standing (text s.now) s.now.end rules }
     ensures { FirstOf (text s.now) s.now.end to rules past work.new result }
 {

@@ -27,7 +27,7 @@ pub fn plan_nth(
 )
     ensures nth_told { NthTold (reading_of textbook) nth sheet.now (read_lent sheet.now work.old)
         (work_after sheet.now work.old) work.new numbers.new removable.new }
-    ensures work_len_unchanged { length work.new ≡ length work.old }
+    ensures length_stays { length work.new ≡ length work.old }
 {
     match read(sheet, work) {
         Err(refusal) => {
@@ -62,7 +62,7 @@ pub fn first_plan(
     ensures first_told { FirstTold (reading_of textbook) sheet.now (read_lent sheet.now work.old)
         (work_after sheet.now work.old) work.new numbers.new cycle.new
         removable.new clauses.new }
-    ensures work_len_unchanged { length work.new ≡ length work.old }
+    ensures length_stays { length work.new ≡ length work.old }
 {
     match read(sheet, work) {
         Err(refusal) => {

@@ -42,7 +42,7 @@ impl Told {
 
 // The decision for the nth cycle of rules that stand in a sheet, with their preserved ids behind them up to `to`.
 pub fn decide_nth(s: &Sheet, to: usize, rules: Rules, past: bool, nth: u32, work: &mut [u8]) -> Nth
-    requires room { (s.now.end ≤ most_words) × (work_bytes ≤ length work.old) × KeptAt s.now.bytes.now s.now.end to }
+    requires bounds { (s.now.end ≤ most_words) × (work_bytes ≤ length work.old) × KeptAt s.now.bytes.now s.now.end to }
     requires standing { Standing (text s.now) s.now.end rules }
     ensures { NthOf (text s.now) s.now.end to rules past nth work.new result }
 {

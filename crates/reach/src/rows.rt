@@ -87,7 +87,7 @@ pub fn add_if(row: [u64; Row::WORDS], j: usize, on: bool) -> [u64; Row::WORDS]
 
 // The rules below n that pass a test.
 pub fn collect<F: Fn(usize) -> bool>(n: usize, test: F) -> [u64; Row::WORDS]
-    requires room { n ≤ rule_limit }
+    requires bounds { n ≤ rule_limit }
     requires test { (i : ℕ) → i < n → F.pre test i }
     ensures { Collected (F.post test) n result }
 {

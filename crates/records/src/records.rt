@@ -5,6 +5,7 @@ ghost use Rattle.grammar.specs.Words.{words};
 ghost use Rattle.grammar.specs.Read.{is_name, is_label, action_of, option_at, reference_at, body_at, call_at, token_at, leaf_at};
 ghost use Rattle.grammar.specs.Read.{head_at, payload_at, element_at, alternative_at, block_at};
 ghost use Rattle.grammar.specs.Parse.{many};
+ghost use Rattle.words.specs.Kinds.{kind_number};
 ghost use Rattle.records.specs.Step.{is_fixed, named, repeated, step_of};
 
 use words::numbers::{AlternativeFlag, Kind, Name, Quantifier, ReferenceKind};
@@ -77,7 +78,7 @@ fn reference_at(s: &[u8], end: usize, at: usize) -> Option<usize>
     if left(at, end) < 2 {
         return None;
     }
-    if ReferenceKind::NON_LOCAL < word(s, at) {
+    if ReferenceKind::try_from(word(s, at)).is_err() {
         return None;
     }
     if is_name(word(s, at + 1)) {
@@ -118,25 +119,27 @@ fn token_at(s: &[u8], end: usize, at: usize) -> Option<usize>
     named_at(s, end, 1, at)
 }
 
-fn leaf_at(s: &[u8], end: usize, kind: u32, at: usize) -> Option<usize>
+#[tactic(auto, using(crate::proofs::Laws::Records::leaves))]
+fn leaf_at(s: &[u8], end: usize, kind: Kind, at: usize) -> Option<usize>
     requires { 4 * end ≤ length s.now }
-    ensures { result ≡ step_of (leaf_at (words s.now) end kind at) }
+    ensures { result ≡ step_of (leaf_at (words s.now) end (kind_number kind) at) }
 {
     match kind {
-        Kind::EPSILON | Kind::TERMINAL | Kind::END_OF_INPUT => Some(at),
-        Kind::CALL => call_at(s, end, at),
-        Kind::TOKEN => token_at(s, end, at),
-        Kind::ACTION | Kind::PREDICATE => body_at(s, end, at),
+        Kind::Epsilon | Kind::Terminal | Kind::EndOfInput => Some(at),
+        Kind::Call => call_at(s, end, at),
+        Kind::Token => token_at(s, end, at),
+        Kind::Action | Kind::Predicate => body_at(s, end, at),
         _ => None,
     }
 }
 
 // Quantifier and label in the fixed words of an element.
+#[tactic(auto, using(crate::proofs::Laws::Trees::heads))]
 fn is_head(s: &[u8], at: usize) -> bool
     requires { 4 * (at + 6) ≤ length s.now }
     ensures { result ≡ is_fixed (words s.now) at }
 {
-    if Quantifier::ONE_OR_MORE_NONGREEDY < word(s, at + 2) / Kind::END {
+    if Quantifier::try_from(word(s, at + 2) / Kind::END).is_err() {
         return false;
     }
     is_label(word(s, at + 3), word(s, at + 4))
@@ -154,15 +157,15 @@ fn head_at(s: &[u8], end: usize, at: usize) -> Option<usize>
 }
 
 #[cycle(tree)]
-fn payload_at(s: &[u8], end: usize, depth: u32, kind: u32, at: usize) -> Option<usize>
+fn payload_at(s: &[u8], end: usize, depth: u32, kind: Kind, at: usize) -> Option<usize>
     requires { 4 * end ≤ length s.now }
     ensures { (h : ElementHead)
-        → result ≡ step_of (payload_at (words s.now) end (block_at (words s.now) end depth) h kind at) }
+        → result ≡ step_of (payload_at (words s.now) end (block_at (words s.now) end depth) h (kind_number kind) at) }
 {
-    if kind == Kind::BLOCK {
-        return block_at(s, end, depth, at);
+    match kind {
+        Kind::Block => block_at(s, end, depth, at),
+        _ => leaf_at(s, end, kind, at),
     }
-    leaf_at(s, end, kind, at)
 }
 
 #[cycle(tree)]
@@ -173,7 +176,7 @@ fn element_at(s: &[u8], end: usize, depth: u32, at: usize) -> Option<usize>
     if left(at, end) < 6 {
         return None;
     }
-    let kind = word(s, at + 2) % Kind::END;
+    let kind = Kind::try_from(word(s, at + 2) % Kind::END).ok()?;
     let p = head_at(s, end, at)?;
     payload_at(s, end, depth, kind, p)
 }

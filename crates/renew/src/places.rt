@@ -52,7 +52,7 @@ fn place_less(
     corners: &mut [[u64; Row::WORDS]; Row::RULES],
 ) -> Renewed
     requires k_lt_n { (k < n) × (n ≤ rule_limit) }
-    requires calls_len { (length calls.old ≡ rule_limit) × (length corners.old ≡ rule_limit) }
+    requires lengths { (length calls.old ≡ rule_limit) × (length corners.old ≡ rule_limit) }
     ensures { PlaceLess calls.old corners.old m calls.new corners.new result n k }
 {
     rows_less(calls, n, k);
@@ -82,7 +82,7 @@ fn place_less_if(
     corners: &mut [[u64; Row::WORDS]; Row::RULES],
 ) -> Renewed
     requires k_lt_n { (k < n) × (n ≤ rule_limit) }
-    requires calls_len { (length calls.old ≡ rule_limit) × (length corners.old ≡ rule_limit) }
+    requires lengths { (length calls.old ≡ rule_limit) × (length corners.old ≡ rule_limit) }
     ensures { PlaceLessIf calls.old corners.old m calls.new corners.new result gone n k }
 {
     if has(gone, k) {
@@ -99,8 +99,8 @@ pub fn rules_less(
     calls: &mut [[u64; Row::WORDS]; Row::RULES],
     corners: &mut [[u64; Row::WORDS]; Row::RULES],
 ) -> Renewed
-    requires n_le_rule_limit { n ≤ rule_limit }
-    requires calls_len { (length calls.old ≡ rule_limit) × (length corners.old ≡ rule_limit) }
+    requires few_rules { n ≤ rule_limit }
+    requires lengths { (length calls.old ≡ rule_limit) × (length corners.old ≡ rule_limit) }
     ensures { RulesLess calls.old corners.old m calls.new corners.new result gone n }
 {
     let mut t = m;

@@ -44,9 +44,9 @@ fn survey_hub(
     corners: &mut [[u64; Row::WORDS]; Row::RULES],
     work: &mut [u8],
 ) -> [u64; Row::WORDS]
-    requires room { (work_bytes ≤ length work.old) × (hub < rules.n) }
+    requires bounds { (work_bytes ≤ length work.old) × (hub < rules.n) }
     requires standing { Standing (text s.now) s.now.end rules }
-    requires calls_len { (length calls.old ≡ rule_limit) × (length corners.old ≡ rule_limit) }
+    requires lengths { (length calls.old ≡ rule_limit) × (length corners.old ≡ rule_limit) }
     ensures hub_surveyed { HubSurveyed (text s.now) s.now.end rules hub past nullable
         calls.old corners.old stops calls.new corners.new result }
     ensures work_after { work.new ≡ table_with rules.names rules.n work.old }
@@ -76,13 +76,13 @@ pub fn renew(
     corners: &mut [[u64; Row::WORDS]; Row::RULES],
     work: &mut [u8],
 ) -> Renewed
-    requires room { work_bytes ≤ length work.old }
-    requires calls_len { (length calls.old ≡ rule_limit) × (length corners.old ≡ rule_limit) }
+    requires bounds { work_bytes ≤ length work.old }
+    requires lengths { (length calls.old ≡ rule_limit) × (length corners.old ≡ rule_limit) }
     requires renewable { Renewable (text s.now) s.now.end rules n before.hub gone past calls.old corners.old
         before.marks before.kept }
     ensures renewed_of { RenewedOf (text s.now) s.now.end rules n before.hub gone past
         calls.old corners.old before.marks before.kept calls.new corners.new result }
-    ensures calls_len_2 { (length calls.new ≡ rule_limit) × (length corners.new ≡ rule_limit) }
+    ensures lengths_after { (length calls.new ≡ rule_limit) × (length corners.new ≡ rule_limit) }
     ensures work_after { work.new ≡ table_with rules.names rules.n work.old }
 {
     let rest = rules_less(gone, before, n, calls, corners);

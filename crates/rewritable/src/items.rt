@@ -20,7 +20,7 @@ fn is_one(s: &Sheet, e: Item) -> bool
     requires { e.at + 6 ≤ s.now.end }
     ensures { result ≡ (e.plain || eqb (get_or (text s.now) (e.at + 2) 0 / kind_end) once) }
 {
-    e.plain || word(s.bytes, e.at + 2) / Kind::END == Quantifier::ONCE
+    e.plain || word(s.bytes, e.at + 2) / Kind::END == u32::from(Quantifier::Once)
 }
 
 // Whether an element is a call of a name, with quantifier 0.
@@ -29,7 +29,10 @@ fn is_call_of(s: &Sheet, depth: u32, name: u32, e: Item) -> bool
     ensures { ItemTested (text s.now) s.now.end depth e.at e.plain (is_call_of name) result }
 {
     let head = element_head(s, depth, e.at);
-    head.kind == Kind::CALL && is_one(s, e) && word(s.bytes, head.payload) == name
+    match head.kind {
+        Kind::Call => is_one(s, e) && word(s.bytes, head.payload) == name,
+        _ => false,
+    }
 }
 
 // Whether such a call gives arguments.
@@ -45,12 +48,15 @@ fn is_silent(s: &Sheet, depth: u32, e: Item) -> bool
     requires { FoundElement (text s.now) s.now.end depth e.at }
     ensures { ItemTested (text s.now) s.now.end depth e.at e.plain is_epsilon_only result }
 {
-    element_head(s, depth, e.at).kind < Kind::CALL
+    match element_head(s, depth, e.at).kind {
+        Kind::Epsilon | Kind::Action | Kind::Predicate => true,
+        _ => false,
+    }
 }
 
 // Whether an alternative begins with a call of a name.
 pub fn starts_with_call(s: &Sheet, depth: u32, name: u32, work: &[u8], x: Listed) -> bool
-    requires room { Located work.now x }
+    requires bounds { Located work.now x }
     requires listed_in { ListedIn (text s.now) s.now.end depth work.now x }
     ensures { result ≡ starts_with_call name (meaning (text s.now) s.now.end depth work.now x).elements }
 {
@@ -59,7 +65,7 @@ pub fn starts_with_call(s: &Sheet, depth: u32, name: u32, work: &[u8], x: Listed
 
 // Whether an alternative gives the hub no arguments, and is more than epsilon, actions and predicates.
 pub fn may_be_rewritten(s: &Sheet, depth: u32, name: u32, work: &[u8], x: Listed) -> bool
-    requires room { Located work.now x }
+    requires bounds { Located work.now x }
     requires listed_in { ListedIn (text s.now) s.now.end depth work.now x }
     ensures { result ≡ may_be_rewritten name (meaning (text s.now) s.now.end depth work.now x).elements }
 {

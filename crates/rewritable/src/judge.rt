@@ -39,7 +39,7 @@ fn judge_alternative(
     work: &[u8],
     x: Listed,
 ) -> Option<Verdict>
-    requires room { (known.n ≤ rule_limit) × (hub < known.n) }
+    requires bounds { (known.n ≤ rule_limit) × (hub < known.n) }
     requires tabled { Tabled names.now known.n table.now }
     requires located { Located work.now x × ListedIn (text s.now) s.now.end depth work.now x }
     ensures { VerdictOf (view_of names.now known) members hub depth
@@ -72,7 +72,7 @@ fn judge_list(
     work: &[u8],
     l: Sizes,
 ) -> Option<[u64; Row::WORDS]>
-    requires room { (known.n ≤ rule_limit) × (hub < known.n) }
+    requires bounds { (known.n ≤ rule_limit) × (hub < known.n) }
     requires tabled { Tabled names.now known.n table.now }
     requires laid { Laid work.now l × AllIn (text s.now) s.now.end depth work.now l }
     ensures { JudgedOf (view_of names.now known) members hub depth
@@ -103,7 +103,7 @@ pub fn judge(
     work: &[u8],
     l: Sizes,
 ) -> Option<[u64; Row::WORDS]>
-    requires room { Standing (text s.now) s.now.end rules }
+    requires bounds { Standing (text s.now) s.now.end rules }
     requires n_value { (known.n ≡ rules.n) × (hub < rules.n) }
     requires laid { Laid work.now l × AllIn (text s.now) s.now.end inner_depth work.now l }
     ensures { JudgedFound (text s.now) s.now.end rules known members hub work.now l result }

@@ -28,7 +28,7 @@ fn walk_item(
     p: Passing,
     t: &mut [u64],
 ) -> Passing
-    requires room { (known.n ≤ rule_limit) × (5 ≤ length t.old) }
+    requires bounds { (known.n ≤ rule_limit) × (5 ≤ length t.old) }
     requires tabled { Tabled names.now known.n table.now }
     requires item_stands { ItemStands (text s.now) s.now.end depth e.at e.plain }
     ensures { ItemWalked (view_of names.now known) (text s.now) s.now.end depth e.at e.plain
@@ -71,7 +71,7 @@ fn walk_rest(
     p: Passing,
     t: &mut [u64],
 ) -> Passing
-    requires room { (known.n ≤ rule_limit) × (5 ≤ length t.old) }
+    requires bounds { (known.n ≤ rule_limit) × (5 ≤ length t.old) }
     requires tabled { Tabled names.now known.n table.now }
     requires located { Located work.now x × ListedIn (text s.now) s.now.end depth work.now x }
     ensures { RestWalked (view_of names.now known) depth
@@ -103,7 +103,7 @@ pub fn walk_alternative(
     work: &[u8],
     x: Listed,
 ) -> Walk
-    requires room { known.n ≤ rule_limit }
+    requires bounds { known.n ≤ rule_limit }
     requires tabled { Tabled names.now known.n table.now }
     requires located { Located work.now x × ListedIn (text s.now) s.now.end depth work.now x }
     ensures { WalkOf (view_of names.now known) depth

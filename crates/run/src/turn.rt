@@ -31,14 +31,14 @@ fn bring_up(
     a: Applied,
     p: Plan,
 ) -> State
-    requires room { Room res.now a.end × (work_bytes ≤ length work.old) × (st.at.rules.n ≤ rule_limit) }
-    requires calls_len { (length calls.old ≡ rule_limit) × (length corners.old ≡ rule_limit) }
+    requires bounds { Room res.now a.end × (work_bytes ≤ length work.old) × (st.at.rules.n ≤ rule_limit) }
+    requires lengths { (length calls.old ≡ rule_limit) × (length corners.old ≡ rule_limit) }
     requires plans_bound { (st.plans + 1 < word_end) × (st.steps + p.steps < word_end) }
     requires renewable { Renewable (words res.now) a.end a.rules st.at.rules.n p.hub p.removable past calls.old
         corners.old st.marks st.kept }
     ensures up_to_date { UpToDate (words res.now) past calls.old corners.old st a p
         calls.new corners.new result }
-    ensures calls_len_2 { (length calls.new ≡ rule_limit) × (length corners.new ≡ rule_limit) }
+    ensures lengths_after { (length calls.new ≡ rule_limit) × (length corners.new ≡ rule_limit) }
 {
     let at = st.at;
     let old = at.rules;
@@ -84,13 +84,13 @@ fn advance(
     p: Plan,
 ) -> Result<State, Refusal>
     requires buffers { Buffers res.old trail.old work.old × Small limits × (room ≡ most_words) }
-    requires calls_len { (length calls.old ≡ rule_limit) × (length corners.old ≡ rule_limit) }
+    requires lengths { (length calls.old ≡ rule_limit) × (length corners.old ≡ rule_limit) }
     requires advancing { Advancing (limits_of limits) past res.old trail.old work.old calls.old corners.old st p }
     ensures advanced_of { AdvancedOf (limits_of limits) past res.old trail.old work.old calls.old
         corners.old st p res.new trail.new calls.new corners.new result }
-    ensures res_len_unchanged { (length res.new ≡ length res.old)
+    ensures lengths_stay { (length res.new ≡ length res.old)
         × (length trail.new ≡ length trail.old) × (length work.new ≡ length work.old) }
-    ensures calls_len_2 { (length calls.new ≡ rule_limit) × (length corners.new ≡ rule_limit) }
+    ensures lengths_after { (length calls.new ≡ rule_limit) × (length corners.new ≡ rule_limit) }
 {
     let at = st.at;
     let a = apply(res, trail, work, at, room, p)?;
@@ -110,13 +110,13 @@ pub fn take_turn(
     st: State,
 ) -> Result<Option<State>, Refusal>
     requires buffers { Buffers res.old trail.old work.old × LimitsFit limits × Small limits × (room ≡ most_words) }
-    requires calls_len { (length calls.old ≡ rule_limit) × (length corners.old ≡ rule_limit) }
+    requires lengths { (length calls.old ≡ rule_limit) × (length corners.old ≡ rule_limit) }
     requires going { Going (limits_of limits) past res.old trail.old calls.old corners.old st }
     ensures turned_of { TurnedOf (limits_of limits) past res.old trail.old calls.old
         corners.old st res.new trail.new calls.new corners.new result }
-    ensures res_len_unchanged { (length res.new ≡ length res.old)
+    ensures lengths_stay { (length res.new ≡ length res.old)
         × (length trail.new ≡ length trail.old) × (length work.new ≡ length work.old) }
-    ensures calls_len_2 { (length calls.new ≡ rule_limit) × (length corners.new ≡ rule_limit) }
+    ensures lengths_after { (length calls.new ≡ rule_limit) × (length corners.new ≡ rule_limit) }
 {
     let at = st.at;
     let rules = at.rules;

@@ -35,7 +35,7 @@ pub fn run_unit(
         × (recorded.entries ≡ 0) }
     requires begun { Begun res.old end to rules counters }
     ensures run_of { RunOf (limits_of limits) past res.old end to rules counters res.new trail.new result }
-    ensures res_len_unchanged { (length res.new ≡ length res.old)
+    ensures lengths_stay { (length res.new ≡ length res.old)
         × (length trail.new ≡ length trail.old) × (length work.new ≡ length work.old) }
 {
     let mut calls = [[0u64; Row::WORDS]; Row::RULES];

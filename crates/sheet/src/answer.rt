@@ -16,6 +16,7 @@ use words::words::word;
 use writing::counters::Counters;
 
 // The sheet's parts: unit kind; the preserved list's place, in words, and how many ids it has; counters.
+// Stays: the kind by its number. The definition's sheet has a number there, whatever it is, and is handed on as it stands.
 #[derive(Clone, Copy, Debug, PartialEq, Eq)]
 pub struct Parts {
     pub kind: u32,
@@ -44,10 +45,7 @@ fn is_trailer(s: &[u8], t: usize) -> bool
     ensures { result ≡ is_trailer (words s.now) }
 {
     let kind = word(s, t);
-    if kind < UnitKind::LEXER {
-        return false;
-    }
-    if UnitKind::COMBINED < kind {
+    if UnitKind::try_from(kind).is_err() {
         return false;
     }
     let first = word(s, t + 1);
@@ -101,7 +99,7 @@ fn judged(s: &[u8], t: usize, end: usize, rules: Rules, work: &mut [u8]) -> Resu
 pub fn examine(s: &[u8], work: &mut [u8]) -> Result<Reading, Refusal>
     requires { Lent s.now work.old }
     ensures read_as { ReadAs (read_words (words s.now)) result }
-    ensures work_len_unchanged { length work.new ≡ length work.old }
+    ensures length_stays { length work.new ≡ length work.old }
 {
     let t = s.len() / 4 - Sheet::TRAILER_WORDS;
     if !is_trailer(s, t) {

@@ -8,6 +8,7 @@ ghost use Rattle.records.specs.Rules.{FoundRows};
 ghost use Rattle.writing.specs.Taken.{counters_of};
 ghost use Rattle.ids.specs.Survey.{RisesApart, Surveyed, SortDistinct, PartsDistinct, BodiesDistinct, all_under};
 ghost use Rattle.sheet.specs.Verdict.{verdict};
+ghost use Rattle.words.specs.Kinds.{sort_number};
 ghost use Rattle.words.specs.Sheet.{text};
 
 use ids::ids::collect;
@@ -39,10 +40,10 @@ fn rows_are_distinct(rules: Rules, work: &mut [u8]) -> bool
 }
 
 // Whether no two ids of one sort are equal: those that rise are not, the others are collected and parted.
-fn sort_is_distinct(s: &Sheet, n: u32, sort: u32, falls: u64, work: &mut [u8]) -> bool
-    requires room { 4 * s.now.end + 4 ≤ length work.old }
-    requires found_rules { FoundRules (text s.now) s.now.end n 0 × RisesApart (text s.now) s.now.end n sort falls }
-    ensures { SortDistinct (text s.now) s.now.end n sort result }
+fn sort_is_distinct(s: &Sheet, n: u32, sort: Sort, falls: u64, work: &mut [u8]) -> bool
+    requires bounds { 4 * s.now.end + 4 ≤ length work.old }
+    requires found_rules { FoundRules (text s.now) s.now.end n 0 × RisesApart (text s.now) s.now.end n (sort_number sort) falls }
+    ensures { SortDistinct (text s.now) s.now.end n (sort_number sort) result }
 {
     if falls == 0 {
         return true;
@@ -53,22 +54,22 @@ fn sort_is_distinct(s: &Sheet, n: u32, sort: u32, falls: u64, work: &mut [u8]) -
 
 // Labels, actions and predicates.
 fn parts_are_distinct(s: &Sheet, n: u32, v: Survey, work: &mut [u8]) -> bool
-    requires room { 4 * s.now.end + 4 ≤ length work.old }
+    requires bounds { 4 * s.now.end + 4 ≤ length work.old }
     requires found_rules { FoundRules (text s.now) s.now.end n 0 × Surveyed (text s.now) s.now.end n v }
     ensures { PartsDistinct (text s.now) s.now.end n result }
 {
-    sort_is_distinct(s, n, Sort::LABEL, v.label.falls, work)
-        && sort_is_distinct(s, n, Sort::ACTION, v.action.falls, work)
-        && sort_is_distinct(s, n, Sort::PREDICATE, v.predicate.falls, work)
+    sort_is_distinct(s, n, Sort::Label, v.label.falls, work)
+        && sort_is_distinct(s, n, Sort::Action, v.action.falls, work)
+        && sort_is_distinct(s, n, Sort::Predicate, v.predicate.falls, work)
 }
 
 fn bodies_are_distinct(s: &Sheet, n: u32, v: Survey, work: &mut [u8]) -> bool
-    requires room { 4 * s.now.end + 4 ≤ length work.old }
+    requires bounds { 4 * s.now.end + 4 ≤ length work.old }
     requires found_rules { FoundRules (text s.now) s.now.end n 0 × Surveyed (text s.now) s.now.end n v }
     ensures { BodiesDistinct (text s.now) s.now.end n result }
 {
-    sort_is_distinct(s, n, Sort::ALTERNATIVE, v.alternative.falls, work)
-        && sort_is_distinct(s, n, Sort::ELEMENT, v.element.falls, work)
+    sort_is_distinct(s, n, Sort::Alternative, v.alternative.falls, work)
+        && sort_is_distinct(s, n, Sort::Element, v.element.falls, work)
         && parts_are_distinct(s, n, v, work)
 }
 
@@ -90,7 +91,7 @@ fn bodies_are_below(v: Survey, counters: Counters) -> bool
 
 // Refusals 5 and 6, of good rules, whose rows are given; the work area is left in any state.
 pub fn judge(s: &Sheet, rules: Rules, counters: Counters, work: &mut [u8]) -> Result<(), Refusal>
-    requires room { (4 * (s.now.end + rule_limit) ≤ length work.old) }
+    requires bounds { (4 * (s.now.end + rule_limit) ≤ length work.old) }
     requires found_rows { FoundRows (text s.now) s.now.end rules }
     ensures { (f : FoundRows (text s.now) s.now.end rules)
         → result ≡ verdict (is_distinct f.found.trees) (is_below (counters_of counters) f.found.trees) }

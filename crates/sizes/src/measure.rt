@@ -17,7 +17,7 @@ use words::sheet::Sheet;
 
 // The copy of the element at `at`.
 fn measure_element(s: &Sheet, depth: u32, at: usize) -> Measure
-    requires room { s.now.end ≤ most_words }
+    requires bounds { s.now.end ≤ most_words }
     requires found_element { FoundElement (text s.now) s.now.end depth at }
     ensures { ElementSized (text s.now) s.now.end depth at result }
 {
@@ -42,7 +42,7 @@ fn measure_element(s: &Sheet, depth: u32, at: usize) -> Measure
 
 // The copies of the elements of an alternative that is listed.
 fn measure_elements(s: &Sheet, depth: u32, work: &[u8], x: Listed) -> Measure
-    requires room { (s.now.end ≤ most_words) × Located work.now x }
+    requires bounds { (s.now.end ≤ most_words) × Located work.now x }
     requires listed_in { ListedIn (text s.now) s.now.end depth work.now x }
     ensures { ElementsSized depth (meaning (text s.now) s.now.end depth work.now x).elements result }
 {
@@ -56,7 +56,7 @@ fn measure_elements(s: &Sheet, depth: u32, work: &[u8], x: Listed) -> Measure
 
 // An alternative that is listed. One that is still what filled its slot keeps its ids.
 fn measure_alternative(s: &Sheet, depth: u32, work: &[u8], x: Listed) -> Measure
-    requires room { (s.now.end ≤ most_words) × Located work.now x }
+    requires bounds { (s.now.end ≤ most_words) × Located work.now x }
     requires listed_in { ListedIn (text s.now) s.now.end depth work.now x }
     ensures { AlternativeSized depth (meaning (text s.now) s.now.end depth work.now x) result }
 {
@@ -76,7 +76,7 @@ fn measure_alternative(s: &Sheet, depth: u32, work: &[u8], x: Listed) -> Measure
 }
 
 fn measure_list(s: &Sheet, depth: u32, work: &[u8], l: Sizes) -> Measure
-    requires room { s.now.end ≤ most_words }
+    requires bounds { s.now.end ≤ most_words }
     requires laid { Laid work.now l × AllIn (text s.now) s.now.end depth work.now l }
     ensures { Measured depth (settled (text s.now) s.now.end depth work.now l) result }
 {
@@ -92,7 +92,7 @@ fn measure_list(s: &Sheet, depth: u32, work: &[u8], l: Sizes) -> Measure
 
 // The settled alternatives, for a hub's own body.
 pub fn measure(s: &Sheet, work: &[u8], l: Sizes) -> Measure
-    requires room { s.now.end ≤ most_words }
+    requires bounds { s.now.end ≤ most_words }
     requires laid { Laid work.now l × AllIn (text s.now) s.now.end inner_depth work.now l }
     ensures { Measured inner_depth (settled (text s.now) s.now.end inner_depth work.now l) result }
 {

@@ -6,6 +6,7 @@ ghost use Rattle.grammar.specs.Fold.{ElementWalked};
 ghost use Rattle.sizes.specs.Tally.{ids_in, counting, OwnCounted, AlternativeCounted};
 ghost use Rattle.sizes.specs.declared.tally.Tally.{Tally};
 ghost use Rattle.std.proofs.Common.{rules};
+ghost use Rattle.words.specs.Kinds.{kind_number};
 ghost use Rattle.words.specs.Sheet.{text};
 
 use words::numbers::Kind;
@@ -32,13 +33,13 @@ pub struct Passed {
 }
 
 // The ids of an element itself.
-fn with_own(s: &[u8], at: usize, kind: u32, t: Tally) -> Tally
+fn with_own(s: &[u8], at: usize, kind: Kind, t: Tally) -> Tally
     requires { (4 * (at + 6) ≤ length s.now) × (ids_in t < 2 ^ 32) }
-    ensures { OwnCounted (words s.now) at kind t result }
+    ensures { OwnCounted (words s.now) at (kind_number kind) t result }
 {
     let label = usize::from(word(s, at + 4) != 0);
-    let action = usize::from(kind == Kind::ACTION);
-    let predicate = usize::from(kind == Kind::PREDICATE);
+    let action = usize::from(kind == Kind::Action);
+    let predicate = usize::from(kind == Kind::Predicate);
     Tally {
         alternatives: t.alternatives,
         elements: t.elements + 1,
@@ -88,7 +89,7 @@ impl Visitor for Tally {
 
 // The element at `at`, with all that is in it.
 pub fn element(s: &Sheet, depth: u32, at: usize, t: Tally) -> Passed
-    requires room { ids_in t ≤ at }
+    requires bounds { ids_in t ≤ at }
     requires found_element { FoundElement (text s.now) s.now.end depth at }
     ensures { (ids_in result.tally ≤ result.at)
         × ElementWalked counting (text s.now) s.now.end depth at t result.at result.tally }

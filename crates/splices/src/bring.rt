@@ -11,7 +11,7 @@ use words::sheet::Sheet;
 
 // The hub's alternative at `at`: the places of its elements and options, and a mark for the slot.
 pub fn hub_in_hand(s: &Sheet, depth: u32, at: usize, work: &mut [u8]) -> Listed
-    requires room { (s.now.end ≤ most_words) × (work_bytes ≤ length work.old) }
+    requires bounds { (s.now.end ≤ most_words) × (work_bytes ≤ length work.old) }
     requires found_alternative { FoundAlternative (text s.now) s.now.end depth at }
     ensures { Brought (text s.now) s.now.end depth at work.old work.new result }
 {

@@ -73,7 +73,7 @@ fn meets_standing(s: &Sheet, depth: u32, at: usize, n: usize, name: u32, value: 
 
 // Option j of the alternative at `at`, against those in hand, then against its own in front of it.
 fn option_meets(s: &Sheet, depth: u32, work: &[u8], h: Listed, at: usize, j: usize) -> Meets
-    requires room { OptionsIn (text s.now) s.now.end depth work.now h.o h.no }
+    requires bounds { OptionsIn (text s.now) s.now.end depth work.now h.o h.no }
     requires j_bound { at + 7 + 2 * j ≤ s.now.end }
     ensures { result ≡ meets (options_from (text s.now) s.now.end depth work.now h.o h.no
         ++ standing_options (text s.now) s.now.end depth (at + 5) j)
@@ -89,7 +89,7 @@ fn option_meets(s: &Sheet, depth: u32, work: &[u8], h: Listed, at: usize, j: usi
 
 // How many options the alternative at `at` adds to those in hand; none where two of one name have two values.
 pub fn options_added(s: &Sheet, depth: u32, work: &[u8], h: Listed, at: usize) -> Option<usize>
-    requires room { Located work.now h × ListedIn (text s.now) s.now.end depth work.now h }
+    requires bounds { Located work.now h × ListedIn (text s.now) s.now.end depth work.now h }
     requires found_alternative { FoundAlternative (text s.now) s.now.end depth at }
     ensures { OptionsAdded (text s.now) s.now.end depth at
         (meaning (text s.now) s.now.end depth work.now h).options result }
@@ -116,7 +116,7 @@ fn put_if_new(
     j: usize,
     to: usize,
 ) -> usize
-    requires room { OptionsIn (text s.now) s.now.end depth work.old h.o h.no }
+    requires bounds { OptionsIn (text s.now) s.now.end depth work.old h.o h.no }
     requires j_bound { (at + 7 + 2 * j ≤ s.now.end) × (s.now.end ≤ most_words) × (2 * (to + 1) ≤ length work.old) }
     ensures { PutIfNew (meets (options_from (text s.now) s.now.end depth work.old h.o h.no
         ++ standing_options (text s.now) s.now.end depth (at + 5) j)
@@ -134,7 +134,7 @@ fn put_if_new(
 
 // From half `to` on stand the options in hand; behind them come those that the alternative at `at` adds. Returned is where they end.
 fn put_new_options(s: &Sheet, depth: u32, work: &mut [u8], h: Listed, at: usize, to: usize) -> usize
-    requires room { (s.now.end ≤ most_words) × Located work.old h
+    requires bounds { (s.now.end ≤ most_words) × Located work.old h
         × OptionsIn (text s.now) s.now.end depth work.old h.o h.no }
     requires found_alternative { FoundAlternative (text s.now) s.now.end depth at × (to ≤ h.o) }
     requires options_fit { OptionsFit (text s.now) s.now.end depth at work.old h to × Copied work.old work.old h.o to h.no }
@@ -150,7 +150,7 @@ fn put_new_options(s: &Sheet, depth: u32, work: &mut [u8], h: Listed, at: usize,
 
 // The options in hand, and those that the alternative at `at` adds, listed from half `to` on; returned is where they end.
 pub fn put_options(s: &Sheet, depth: u32, work: &mut [u8], h: Listed, at: usize, to: usize) -> usize
-    requires room { (s.now.end ≤ most_words) × Located work.old h
+    requires bounds { (s.now.end ≤ most_words) × Located work.old h
         × OptionsIn (text s.now) s.now.end depth work.old h.o h.no }
     requires found_alternative { FoundAlternative (text s.now) s.now.end depth at × (to ≤ h.o) }
     requires options_fit { OptionsFit (text s.now) s.now.end depth at work.old h to }

@@ -13,7 +13,7 @@ use words::words::word;
 
 // The places of the n elements from `at` on, written from half `to` on; returned is where the elements end.
 pub fn put_places(s: &Sheet, depth: u32, n: u32, at: usize, work: &mut [u8], to: usize) -> usize
-    requires room { (s.now.end ≤ most_words) × (at ≤ s.now.end) }
+    requires bounds { (s.now.end ≤ most_words) × (at ≤ s.now.end) }
     requires found_elements { FoundElements (text s.now) s.now.end depth n at }
     requires n_in_bounds { 2 * (to + n) ≤ length work.old }
     ensures { PlacesPut (text s.now) s.now.end depth n at work.old work.new to result }
@@ -38,7 +38,7 @@ pub fn put_option_places(n: usize, at: usize, work: &mut [u8], to: usize)
 
 // How many options the alternative at `at` has.
 pub fn option_count(s: &Sheet, depth: u32, at: usize) -> usize
-    requires room { at + 5 ≤ s.now.end }
+    requires bounds { at + 5 ≤ s.now.end }
     requires found_alternative { FoundAlternative (text s.now) s.now.end depth at }
     ensures { OptionCount (text s.now) s.now.end at result }
 {

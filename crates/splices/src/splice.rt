@@ -31,7 +31,7 @@ fn put_elements(
     at: usize,
     to: usize,
 ) -> usize
-    requires room { (s.now.end ≤ most_words) × Located work.old h × (index < h.ne) }
+    requires bounds { (s.now.end ≤ most_words) × Located work.old h × (index < h.ne) }
     requires found_elements { FoundElements (text s.now) s.now.end depth count at × (at ≤ s.now.end) × (to + (h.ne - 1 + count) ≤ h.e) }
     ensures { ElementsPut (text s.now) s.now.end depth h index count at work.old work.new to result }
 {
@@ -73,7 +73,7 @@ fn put_parts(
     e: usize,
     to: usize,
 ) -> Ends
-    requires room { (s.now.end ≤ most_words) × HandIn (text s.now) s.now.end depth h index work.old }
+    requires bounds { (s.now.end ≤ most_words) × HandIn (text s.now) s.now.end depth h index work.old }
     requires found_alternative { FoundAlternative (text s.now) s.now.end depth at × (to ≤ h.o) }
     requires parts_fit { PartsFit (text s.now) s.now.end depth h at work.old e to }
     ensures { PartsPut (text s.now) s.now.end depth h index at work.old work.new
@@ -88,7 +88,7 @@ fn put_parts(
 
 // What the alternative at `f.at` becomes, as a record; returned is what comes next.
 fn put_one(s: &Sheet, depth: u32, work: &mut [u8], h: Listed, index: usize, f: Spot) -> Spot
-    requires room { (s.now.end ≤ most_words) × HandIn (text s.now) s.now.end depth h index work.old }
+    requires bounds { (s.now.end ≤ most_words) × HandIn (text s.now) s.now.end depth h index work.old }
     requires found_alternative { FoundAlternative (text s.now) s.now.end depth f.at }
     requires one_fits { OneFits (text s.now) s.now.end depth h f.at work.old f.a f.e f.o }
     ensures a_value { result.a ≡ f.a + 1 }
@@ -120,7 +120,7 @@ fn put_all(
     n: usize,
     f: Spot,
 ) -> Sizes
-    requires room { (s.now.end ≤ most_words) × HandIn (text s.now) s.now.end depth h index work.old }
+    requires bounds { (s.now.end ≤ most_words) × HandIn (text s.now) s.now.end depth h index work.old }
     requires all_fit { AllFit (text s.now) s.now.end depth h index n f.at work.old f.a f.e f.o l.tope l.topo }
     ensures value { result ≡ with_top l f.a f.e f.o }
     ensures all_put { AllPut (text s.now) s.now.end depth h index n f.at work.old work.new
@@ -157,7 +157,7 @@ pub fn push_splice(
     at: usize,
     z: Size,
 ) -> Sizes
-    requires room { (s.now.end ≤ most_words) × (at + 4 ≤ s.now.end) × FoundRule (text s.now) s.now.end at }
+    requires bounds { (s.now.end ≤ most_words) × (at + 4 ≤ s.now.end) × FoundRule (text s.now) s.now.end at }
     requires laid { Laid work.old l × HasRoom l z.a z.e z.o × HandIn (text s.now) s.now.end inner_depth h index work.old }
     requires spliceable { Spliceable (text s.now) s.now.end inner_depth at work.old h index z.a z.e z.o }
     ensures { PushedSplice (text s.now) s.now.end inner_depth at work.old work.new

@@ -63,13 +63,13 @@ fn is_bare(s: &[u8], at: usize, payload: usize) -> bool
 fn meet_member(bare: bool, quantifier: u32, t: usize, hub: usize) -> Met
     ensures { result ≡ met_member bare quantifier t hub }
 {
-    if quantifier == Quantifier::OPTIONAL_GREEDY {
+    if quantifier == u32::from(Quantifier::OptionalGreedy) {
         if bare {
             return Met::Optional(t);
         }
         return Met::Blocked;
     }
-    if quantifier != Quantifier::ONCE {
+    if quantifier != u32::from(Quantifier::Once) {
         return Met::Blocked;
     }
     if t == hub {
@@ -99,34 +99,34 @@ fn quantifier_of(s: &[u8], x: Item) -> u32
     ensures { result ≡ quantifier_at (words s.now) x.at x.plain }
 {
     if x.plain {
-        return Quantifier::ONCE;
+        return u32::from(Quantifier::Once);
     }
     word(s, x.at + 2) / Kind::END
 }
 
 // One element of the list.
 fn meet_item(s: &Sheet, names: &[u32], c: Cycle, x: Item) -> Met
-    requires room { (c.n ≤ rule_limit) × Told names.now c.n }
+    requires bounds { (c.n ≤ rule_limit) × Told names.now c.n }
     requires found_element { FoundElement (text s.now) s.now.end inner_depth x.at }
     ensures { ItemMet names.now c (text s.now) s.now.end inner_depth x.at x.plain result }
 {
     let head = element_head(s, Block::DEPTH, x.at);
     let kind = head.kind;
     let payload = head.payload;
-    if Kind::CALL < kind {
-        return Met::Settled;
+    match kind {
+        Kind::Epsilon | Kind::Action | Kind::Predicate => Met::Silent,
+        Kind::Call => {
+            let bare = is_bare(s.bytes, x.at, payload);
+            let quantifier = quantifier_of(s.bytes, x);
+            meet_call(names, c, word(s.bytes, payload), bare, quantifier)
+        }
+        Kind::Token | Kind::Terminal | Kind::Block | Kind::EndOfInput => Met::Settled,
     }
-    if kind < Kind::CALL {
-        return Met::Silent;
-    }
-    let bare = is_bare(s.bytes, x.at, payload);
-    let quantifier = quantifier_of(s.bytes, x);
-    meet_call(names, c, word(s.bytes, payload), bare, quantifier)
 }
 
 // The corner of an alternative that is listed.
 pub fn find_corner(s: &Sheet, names: &[u32], c: Cycle, work: &[u8], x: Listed) -> Corner
-    requires room { (c.n ≤ rule_limit) × Told names.now c.n }
+    requires bounds { (c.n ≤ rule_limit) × Told names.now c.n }
     requires located { Located work.now x × ListedIn (text s.now) s.now.end inner_depth work.now x }
     ensures { CornerAt names.now c (text s.now) s.now.end inner_depth work.now x result }
 {

@@ -62,7 +62,7 @@ impl From<Clause> for u32 {
 // Whether the names in the alternative at `at` collide with those around the element that it would replace.
 #[tactic(auto, using(crate::proofs::Laws::Decide::collides))]
 fn collision(s: &Sheet, work: &[u8], quiet: bool, at: usize) -> Result<(), Clause>
-    requires room { Searchable (text s.now) s.now.end work.now quiet }
+    requires bounds { Searchable (text s.now) s.now.end work.now quiet }
     requires found_alternative { FoundAlternative (text s.now) s.now.end inner_depth at }
     ensures { CollisionAt (text s.now) s.now.end inner_depth at work.now quiet result }
 {
@@ -81,7 +81,7 @@ fn collision(s: &Sheet, work: &[u8], quiet: bool, at: usize) -> Result<(), Claus
 
 // The alternative at `at` in place of an element of the one in hand: how many options it adds, or the clause of a decline.
 fn splice_one(s: &Sheet, work: &[u8], quiet: bool, h: Listed, at: usize) -> Result<usize, Clause>
-    requires room { (s.now.end ≤ most_words) × Searchable (text s.now) s.now.end work.now quiet }
+    requires bounds { (s.now.end ≤ most_words) × Searchable (text s.now) s.now.end work.now quiet }
     requires located { Located work.now h × ListedIn (text s.now) s.now.end inner_depth work.now h }
     requires found_alternative { FoundAlternative (text s.now) s.now.end inner_depth at }
     ensures { OneAt (text s.now) s.now.end inner_depth at work.now h quiet result }
@@ -105,7 +105,7 @@ fn counted(z: Size, ne: usize, no: usize) -> Size
 // The alternative at `at` is counted, which adds so many options.
 #[tactic(auto, using(crate::proofs::Laws::Added::counts))]
 fn count_one(s: &Sheet, h: Listed, at: usize, more: usize, z: Size) -> Size
-    requires room { (s.now.end ≤ most_words) × HandFits h × (at + 5 ≤ s.now.end) × (more ≤ most_words) }
+    requires bounds { (s.now.end ≤ most_words) × HandFits h × (at + 5 ≤ s.now.end) × (more ≤ most_words) }
     requires small_size { SmallSize z }
     requires found_alternative { FoundAlternative (text s.now) s.now.end inner_depth at }
     ensures { AlternativeCounted (text s.now) s.now.end inner_depth at h more z result }
@@ -123,7 +123,7 @@ pub fn splice_size(
     h: Listed,
     at: usize,
 ) -> Result<Size, Clause>
-    requires room { (s.now.end ≤ most_words) × Located work.now h × HandFits h }
+    requires bounds { (s.now.end ≤ most_words) × Located work.now h × HandFits h }
     requires listed_in { ListedIn (text s.now) s.now.end inner_depth work.now h × Searchable (text s.now) s.now.end work.now quiet }
     requires found_rule { FoundRule (text s.now) s.now.end at × (at + 4 ≤ s.now.end) }
     ensures { RuleSized (text s.now) s.now.end inner_depth at work.now h quiet result }

@@ -24,7 +24,7 @@ pub struct Prepared {
 
 // Sets of names are made only where anything is labelled or refers.
 fn prepare(s: &Sheet, work: &mut [u8], h: Listed, index: usize, name: u32) -> Prepared
-    requires room { (s.now.end ≤ most_words) × Located work.old h × (index < h.ne) }
+    requires bounds { (s.now.end ≤ most_words) × Located work.old h × (index < h.ne) }
     requires listed_in { ListedIn (text s.now) s.now.end inner_depth work.old h }
     ensures { PreparedFor (text s.now) s.now.end inner_depth
         (meaning (text s.now) s.now.end inner_depth work.old h).elements index name
@@ -54,7 +54,7 @@ pub fn decide(
     at: usize,
     optional: bool,
 ) -> Result<Size, Clause>
-    requires room { (s.now.end ≤ most_words) × Located work.old h × InHand h × (index < h.ne) }
+    requires bounds { (s.now.end ≤ most_words) × Located work.old h × InHand h × (index < h.ne) }
     requires listed_in { ListedIn (text s.now) s.now.end inner_depth work.old h }
     requires found_rule { FoundRule (text s.now) s.now.end at × (at + 4 ≤ s.now.end)
         × RuleNamed (text s.now) s.now.end inner_depth at name }

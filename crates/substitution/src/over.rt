@@ -34,7 +34,7 @@ fn look_step(
     p: Place,
     optional: bool,
 ) -> Result<(), Unplanned>
-    requires room { (s.now.end ≤ most_words) × Located work.old h × InHand h × Reached c h.ne p optional }
+    requires bounds { (s.now.end ≤ most_words) × Located work.old h × InHand h × Reached c h.ne p optional }
     requires listed_in { ListedIn (text s.now) s.now.end inner_depth work.old h }
     requires ground { Ground (text s.now) s.now.end names.now places.now c }
     ensures { StepLooked (text s.now) s.now.end names.now places.now c budget
@@ -60,7 +60,7 @@ fn look_hand(
     work: &mut [u8],
     h: Listed,
 ) -> Result<(), Unplanned>
-    requires room { (s.now.end ≤ most_words) × Located work.old h × InHand h }
+    requires bounds { (s.now.end ≤ most_words) × Located work.old h × InHand h }
     requires listed_in { ListedIn (text s.now) s.now.end inner_depth work.old h }
     requires ground { Ground (text s.now) s.now.end names.now places.now c }
     ensures { HandLooked (text s.now) s.now.end names.now places.now c budget
@@ -84,7 +84,7 @@ fn look_at(
     work: &mut [u8],
     at: usize,
 ) -> Result<(), Unplanned>
-    requires room { (s.now.end ≤ most_words) × (work_bytes ≤ length work.old) }
+    requires bounds { (s.now.end ≤ most_words) × (work_bytes ≤ length work.old) }
     requires found_alternative { FoundAlternative (text s.now) s.now.end inner_depth at }
     requires ground { Ground (text s.now) s.now.end names.now places.now c }
     ensures { LookedAt (text s.now) s.now.end names.now places.now c budget at
@@ -104,7 +104,7 @@ fn look_all(
     work: &mut [u8],
     at: usize,
 ) -> Result<Option<Done>, Unplanned>
-    requires room { (s.now.end ≤ most_words) × (work_bytes ≤ length work.old) }
+    requires bounds { (s.now.end ≤ most_words) × (work_bytes ≤ length work.old) }
     requires at_value { (at ≡ get_or places.now c.hub 0) × (at + 4 ≤ s.now.end) }
     requires ground { Ground (text s.now) s.now.end names.now places.now c }
     ensures { Unstored (text s.now) s.now.end names.now places.now c budget
@@ -128,7 +128,7 @@ pub fn unstored(
     budget: usize,
     work: &mut [u8],
 ) -> Result<Option<Done>, Unplanned>
-    requires room { (s.now.end ≤ most_words) × (work_bytes ≤ length work.old) }
+    requires bounds { (s.now.end ≤ most_words) × (work_bytes ≤ length work.old) }
     requires ground { Ground (text s.now) s.now.end names.now places.now c }
     ensures { Unstored (text s.now) s.now.end names.now places.now c budget
         work.new result }

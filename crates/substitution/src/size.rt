@@ -27,7 +27,7 @@ fn with_one(s: &Sheet, at: usize, z: Size) -> Size
 
 // The rule at `at`.
 pub fn hub_size(s: &Sheet, at: usize) -> Size
-    requires room { s.now.end ≤ most_words }
+    requires bounds { s.now.end ≤ most_words }
     requires found_rule { FoundRule (text s.now) s.now.end at × (at + 4 ≤ s.now.end) }
     ensures { RuleCounted (text s.now) s.now.end at result }
 {

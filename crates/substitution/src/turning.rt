@@ -58,9 +58,9 @@ fn stored(
     first: State,
     work: &mut [u8],
 ) -> Result<Option<Done>, Unplanned>
-    requires room { (s.now.end ≤ most_words) × LimitsFit limits }
+    requires bounds { (s.now.end ≤ most_words) × LimitsFit limits }
     requires shut { Shut (Ready (text s.now) s.now.end work.old first 0 0 0) }
-    requires shut_2 { Shut (Ground (text s.now) s.now.end names.now places.now c) }
+    requires shut_ground { Shut (Ground (text s.now) s.now.end names.now places.now c) }
     requires shut_3 { Shut (Going (text s.now) s.now.end names.now places.now c limits budget work.old first) }
     ensures { MadeOf (text s.now) s.now.end names.now places.now c limits budget work.new result }
 {
@@ -83,7 +83,7 @@ fn run(
     budget: usize,
     work: &mut [u8],
 ) -> Result<Option<Done>, Unplanned>
-    requires room { (s.now.end ≤ most_words) × (work_bytes ≤ length work.old) × LimitsFit limits }
+    requires bounds { (s.now.end ≤ most_words) × (work_bytes ≤ length work.old) × LimitsFit limits }
     requires shut { Shut (Ground (text s.now) s.now.end names.now places.now c) }
     ensures { MadeOf (text s.now) s.now.end names.now places.now c limits budget work.new result }
 {
@@ -107,7 +107,7 @@ pub fn substitute(
     budget: usize,
     work: &mut [u8],
 ) -> Result<Option<Done>, Unplanned>
-    requires room { (s.now.end ≤ most_words) × (work_bytes ≤ length work.old) × LimitsFit limits }
+    requires bounds { (s.now.end ≤ most_words) × (work_bytes ≤ length work.old) × LimitsFit limits }
     requires ground { Ground (text s.now) s.now.end rules.names rules.places c }
     ensures { MadeOf (text s.now) s.now.end rules.names rules.places c limits budget work.new result }
 {

@@ -78,7 +78,7 @@ fn take_stack(work: &[u8], st: State) -> Taken
 
 // The first of the hub's remaining alternatives.
 fn take_hub(s: &Sheet, work: &mut [u8], st: State) -> Taken
-    requires room { (s.now.end ≤ most_words) × (st.left ≡ 0 → ⊥) × IsDrained st.l true }
+    requires bounds { (s.now.end ≤ most_words) × (st.left ≡ 0 → ⊥) × IsDrained st.l true }
     requires shut { Shut (Ready (text s.now) s.now.end work.old st 0 0 0) }
     ensures { TakenFrom (text s.now) s.now.end work.old work.new st result }
 {
@@ -94,7 +94,7 @@ fn take_hub(s: &Sheet, work: &mut [u8], st: State) -> Taken
 
 // The next alternative: the stack comes before what is still in the sheet.
 pub fn take(s: &Sheet, work: &mut [u8], st: State) -> Taken
-    requires room { (s.now.end ≤ most_words) × HasNext st }
+    requires bounds { (s.now.end ≤ most_words) × HasNext st }
     requires shut { Shut (Ready (text s.now) s.now.end work.old st 0 0 0) }
     ensures { TakenFrom (text s.now) s.now.end work.old work.new st result }
 {

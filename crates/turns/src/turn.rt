@@ -67,7 +67,7 @@ fn push(
     z: Size,
     optional: bool,
 ) -> Sizes
-    requires room { (s.now.end ≤ most_words) × (at + 4 ≤ s.now.end) × FoundRule (text s.now) s.now.end at }
+    requires bounds { (s.now.end ≤ most_words) × (at + 4 ≤ s.now.end) × FoundRule (text s.now) s.now.end at }
     requires laid { Laid work.old l × HasRoom l z.a z.e z.o × HandIn (text s.now) s.now.end inner_depth h index work.old }
     requires goable { Goable (text s.now) s.now.end inner_depth at work.old h index optional z }
     ensures { PushedBy (text s.now) s.now.end inner_depth at work.old work.new l result h index optional z }
@@ -107,7 +107,7 @@ fn advance(
     z: Size,
     optional: bool,
 ) -> Result<State, Unplanned>
-    requires room { (s.now.end ≤ most_words) × LimitsFit limits × SmallSize z }
+    requires bounds { (s.now.end ≤ most_words) × LimitsFit limits × SmallSize z }
     requires fact { (st.budget ≡ 0 → ⊥) × (st.steps + st.budget < 2 ^ 64) }
     requires shut { Shut (With (text s.now) s.now.end work.old st h) × InHand h × (index < h.ne) }
     requires at_bound { (at + 4 ≤ s.now.end) × FoundRule (text s.now) s.now.end at }
@@ -144,7 +144,7 @@ fn step_in_hand(
     at: usize,
     optional: bool,
 ) -> Result<State, Unplanned>
-    requires room { (s.now.end ≤ most_words) × LimitsFit limits × (st.budget ≡ 0 → ⊥) × (index < h.ne) }
+    requires bounds { (s.now.end ≤ most_words) × LimitsFit limits × (st.budget ≡ 0 → ⊥) × (index < h.ne) }
     requires shut { Shut (With (text s.now) s.now.end work.old st h) × InHand h × Located work.old h }
     requires called { Called (text s.now) s.now.end work.old h index name at optional }
     ensures { SteppedTo (text s.now) s.now.end work.old work.new st h index at optional limits result }
@@ -164,7 +164,7 @@ fn step(
     at: usize,
     optional: bool,
 ) -> Result<State, Unplanned>
-    requires room { (s.now.end ≤ most_words) × LimitsFit limits × (index < t.x.ne) }
+    requires bounds { (s.now.end ≤ most_words) × LimitsFit limits × (index < t.x.ne) }
     requires shut { Shut (With (text s.now) s.now.end work.old t.st t.x) }
     requires in_hand { (t.hand ≡ true → InHand t.x) × (t.hand ≡ false → InList t.x) }
     requires called { Called (text s.now) s.now.end work.old t.x index name at optional }
@@ -190,7 +190,7 @@ fn step_at(
     p: Place,
     optional: bool,
 ) -> Result<State, Unplanned>
-    requires room { (s.now.end ≤ most_words) × LimitsFit limits }
+    requires bounds { (s.now.end ≤ most_words) × LimitsFit limits }
     requires shut { Shut (With (text s.now) s.now.end work.old t.st t.x) }
     requires in_hand { (t.hand ≡ true → InHand t.x) × (t.hand ≡ false → InList t.x) }
     requires called_at { CalledAt (text s.now) s.now.end work.old names.now places.now t.x p optional }
@@ -223,10 +223,10 @@ fn act(
     work: &mut [u8],
     t: Taken,
 ) -> Result<State, Unplanned>
-    requires room { (s.now.end ≤ most_words) × LimitsFit limits }
+    requires bounds { (s.now.end ≤ most_words) × LimitsFit limits }
     requires shut { Shut (With (text s.now) s.now.end work.old t.st t.x) }
     requires in_hand { (t.hand ≡ true → InHand t.x) × (t.hand ≡ false → InList t.x) }
-    requires shut_2 { Shut (Ground (text s.now) s.now.end names.now places.now c) }
+    requires shut_ground { Shut (Ground (text s.now) s.now.end names.now places.now c) }
     ensures { ActedOn (text s.now) s.now.end names.now places.now c limits
         work.old work.new t.st t.x result }
 {
@@ -250,9 +250,9 @@ pub fn take_turn(
     work: &mut [u8],
     st: State,
 ) -> Result<State, Unplanned>
-    requires room { (s.now.end ≤ most_words) × LimitsFit limits × HasNext st }
+    requires bounds { (s.now.end ≤ most_words) × LimitsFit limits × HasNext st }
     requires shut { Shut (Ready (text s.now) s.now.end work.old st 0 0 0) }
-    requires shut_2 { Shut (Ground (text s.now) s.now.end names.now places.now c) }
+    requires shut_ground { Shut (Ground (text s.now) s.now.end names.now places.now c) }
     ensures { TurnedTo (text s.now) s.now.end names.now places.now c limits
         work.old work.new st result }
 {

@@ -1,3 +1,4 @@
 -- The laws that the answers cite, each in the shape of the facts that the code has at one of its returns.
 pub mod Words
 pub mod Visit
+pub mod Heads

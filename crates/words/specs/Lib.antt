@@ -1,3 +1,5 @@
+pub mod Kinds
+pub mod Laws
 pub mod Refusal
 pub mod Room
 pub mod Sheet

@@ -1,5 +1,7 @@
 // The limits of a sheet, and the numbers that have a meaning in it.
 ghost use Rattle.std.specs.Prelude.{◌≡◌};
+ghost use Rattle.words.specs.Kinds.{Names, unit_number, quantifier_number, kind_number, reference_number, sort_number};
+ghost use Rattle.words.specs.Refusal.{refusal_number};
 
 // The area that a caller lends.
 #[derive(Drop)]
@@ -19,15 +21,42 @@ impl Name {
     pub const MOST: u32 = 4294967295;
 }
 
-#[derive(Drop)]
-pub struct UnitKind;
+// A number that names none of what it was read as.
+#[derive(Clone, Copy, Debug, PartialEq, Eq)]
+pub struct Unnamed(pub u32);
 
-impl UnitKind {
-    pub const LEXER: u32 = 1;
+#[derive(Clone, Copy, Debug, PartialEq, Eq)]
+pub enum UnitKind {
+    Lexer,
+    Parser,
+    Combined,
+}
 
-    pub const PARSER: u32 = 2;
+impl From<UnitKind> for u32 {
+    ghost from_gives = { λ kind number. number ≡ unit_number kind };
 
-    pub const COMBINED: u32 = 3;
+    fn from(kind: UnitKind) -> u32 {
+        match kind {
+            UnitKind::Lexer => 1,
+            UnitKind::Parser => 2,
+            UnitKind::Combined => 3,
+        }
+    }
+}
+
+impl TryFrom<u32> for UnitKind {
+    type Error = Unnamed;
+
+    ghost try_from_gives = { Names unit_number };
+
+    fn try_from(number: u32) -> Result<Self, Unnamed> {
+        match number {
+            1 => Ok(UnitKind::Lexer),
+            2 => Ok(UnitKind::Parser),
+            3 => Ok(UnitKind::Combined),
+            _ => Err(Unnamed(number)),
+        }
+    }
 }
 
 #[derive(Drop)]
@@ -55,76 +84,168 @@ impl Block {
 }
 
 // But for the first the odd ones are greedy.
-#[derive(Drop)]
-pub struct Quantifier;
+#[derive(Clone, Copy, Debug, PartialEq, Eq)]
+pub enum Quantifier {
+    Once,
+    OptionalGreedy,
+    OptionalNongreedy,
+    ZeroOrMoreGreedy,
+    ZeroOrMoreNongreedy,
+    OneOrMoreGreedy,
+    OneOrMoreNongreedy,
+}
 
-impl Quantifier {
-    pub const ONCE: u32 = 0;
+impl From<Quantifier> for u32 {
+    ghost from_gives = { λ quantifier number. number ≡ quantifier_number quantifier };
 
-    pub const OPTIONAL_GREEDY: u32 = 1;
+    fn from(quantifier: Quantifier) -> u32 {
+        match quantifier {
+            Quantifier::Once => 0,
+            Quantifier::OptionalGreedy => 1,
+            Quantifier::OptionalNongreedy => 2,
+            Quantifier::ZeroOrMoreGreedy => 3,
+            Quantifier::ZeroOrMoreNongreedy => 4,
+            Quantifier::OneOrMoreGreedy => 5,
+            Quantifier::OneOrMoreNongreedy => 6,
+        }
+    }
+}
 
-    pub const OPTIONAL_NONGREEDY: u32 = 2;
+impl TryFrom<u32> for Quantifier {
+    type Error = Unnamed;
 
-    pub const ZERO_OR_MORE_GREEDY: u32 = 3;
+    ghost try_from_gives = { Names quantifier_number };
 
-    pub const ZERO_OR_MORE_NONGREEDY: u32 = 4;
-
-    pub const ONE_OR_MORE_GREEDY: u32 = 5;
-
-    pub const ONE_OR_MORE_NONGREEDY: u32 = 6;
+    fn try_from(number: u32) -> Result<Self, Unnamed> {
+        match number {
+            0 => Ok(Quantifier::Once),
+            1 => Ok(Quantifier::OptionalGreedy),
+            2 => Ok(Quantifier::OptionalNongreedy),
+            3 => Ok(Quantifier::ZeroOrMoreGreedy),
+            4 => Ok(Quantifier::ZeroOrMoreNongreedy),
+            5 => Ok(Quantifier::OneOrMoreGreedy),
+            6 => Ok(Quantifier::OneOrMoreNongreedy),
+            _ => Err(Unnamed(number)),
+        }
+    }
 }
 
 // An element's kind says what its payload is; one word packs it with the quantifier.
-#[derive(Drop)]
-pub struct Kind;
+#[derive(Clone, Copy, Debug, PartialEq, Eq)]
+pub enum Kind {
+    Epsilon,
+    Action,
+    Predicate,
+    Call,
+    Token,
+    Terminal,
+    Block,
+    EndOfInput,
+}
 
 impl Kind {
-    pub const EPSILON: u32 = 0;
-
-    pub const ACTION: u32 = 1;
-
-    pub const PREDICATE: u32 = 2;
-
-    pub const CALL: u32 = 3;
-
-    pub const TOKEN: u32 = 4;
-
-    pub const TERMINAL: u32 = 5;
-
-    pub const BLOCK: u32 = 6;
-
-    pub const END_OF_INPUT: u32 = 7;
-
     pub const END: u32 = 256;
 }
 
-#[derive(Drop)]
-pub struct ReferenceKind;
+impl From<Kind> for u32 {
+    ghost from_gives = { λ kind number. number ≡ kind_number kind };
 
-impl ReferenceKind {
-    pub const ATTRIBUTE: u32 = 0;
+    fn from(kind: Kind) -> u32 {
+        match kind {
+            Kind::Epsilon => 0,
+            Kind::Action => 1,
+            Kind::Predicate => 2,
+            Kind::Call => 3,
+            Kind::Token => 4,
+            Kind::Terminal => 5,
+            Kind::Block => 6,
+            Kind::EndOfInput => 7,
+        }
+    }
+}
 
-    pub const QUALIFIED: u32 = 1;
+impl TryFrom<u32> for Kind {
+    type Error = Unnamed;
 
-    pub const NON_LOCAL: u32 = 2;
+    ghost try_from_gives = { Names kind_number };
+
+    fn try_from(number: u32) -> Result<Self, Unnamed> {
+        match number {
+            0 => Ok(Kind::Epsilon),
+            1 => Ok(Kind::Action),
+            2 => Ok(Kind::Predicate),
+            3 => Ok(Kind::Call),
+            4 => Ok(Kind::Token),
+            5 => Ok(Kind::Terminal),
+            6 => Ok(Kind::Block),
+            7 => Ok(Kind::EndOfInput),
+            _ => Err(Unnamed(number)),
+        }
+    }
+}
+
+#[derive(Clone, Copy, Debug, PartialEq, Eq)]
+pub enum ReferenceKind {
+    Attribute,
+    Qualified,
+    NonLocal,
+}
+
+impl From<ReferenceKind> for u32 {
+    ghost from_gives = { λ kind number. number ≡ reference_number kind };
+
+    fn from(kind: ReferenceKind) -> u32 {
+        match kind {
+            ReferenceKind::Attribute => 0,
+            ReferenceKind::Qualified => 1,
+            ReferenceKind::NonLocal => 2,
+        }
+    }
+}
+
+impl TryFrom<u32> for ReferenceKind {
+    type Error = Unnamed;
+
+    ghost try_from_gives = { Names reference_number };
+
+    fn try_from(number: u32) -> Result<Self, Unnamed> {
+        match number {
+            0 => Ok(ReferenceKind::Attribute),
+            1 => Ok(ReferenceKind::Qualified),
+            2 => Ok(ReferenceKind::NonLocal),
+            _ => Err(Unnamed(number)),
+        }
+    }
 }
 
 // Ids are told apart within a sort.
-#[derive(Drop)]
-pub struct Sort;
+#[derive(Clone, Copy, Debug, PartialEq, Eq)]
+pub enum Sort {
+    Alternative,
+    Element,
+    Label,
+    Action,
+    Predicate,
+}
 
+// Stays: rules have a number of their own beside the sorts. No counter gives their ids, since rules are not copied: as one of the
+// sorts they could be asked for a fresh id, and there is none.
 impl Sort {
     pub const RULE: u32 = 1;
+}
 
-    pub const ALTERNATIVE: u32 = 2;
+impl From<Sort> for u32 {
+    ghost from_gives = { λ sort number. number ≡ sort_number sort };
 
-    pub const ELEMENT: u32 = 3;
-
-    pub const LABEL: u32 = 4;
-
-    pub const ACTION: u32 = 5;
-
-    pub const PREDICATE: u32 = 6;
+    fn from(sort: Sort) -> u32 {
+        match sort {
+            Sort::Alternative => 2,
+            Sort::Element => 3,
+            Sort::Label => 4,
+            Sort::Action => 5,
+            Sort::Predicate => 6,
+        }
+    }
 }
 
 // Why a call is refused; the lowest that holds.
@@ -143,8 +264,6 @@ pub enum Refusal {
 
 // The number by which it is told (SPECIFICATION 4).
 impl From<Refusal> for u32 {
-    ghost use Rattle.words.specs.Refusal.{refusal_number};
-
     ghost from_gives = { λ refusal number. number ≡ refusal_number refusal };
 
     fn from(refusal: Refusal) -> u32 {

@@ -7,6 +7,7 @@ ghost use Rattle.grammar.specs.Found.{FoundElement, FoundElements, FoundAlternat
 ghost use Rattle.grammar.specs.Fold.{Steps, ElementWalked, ElementsWalked, AlternativeWalked, AlternativesWalked};
 ghost use Rattle.grammar.specs.Fold.{RuleWalked, RulesWalked};
 ghost use Rattle.words.specs.Visit.{LeafPassed, BlockEntered, AlternativeEntered, VisitorLaws};
+ghost use Rattle.words.specs.Kinds.{kind_number};
 ghost use Rattle.words.specs.Sheet.{text};
 
 use crate::numbers::{Block, Kind};
@@ -32,8 +33,8 @@ pub trait Visitor {
 
     // The element at `at`, which is no block.
     fn leaf(&mut self, s: &Sheet, depth: u32, at: usize, head: Head)
-        requires room { Self.Fits (text s.now) s.now.end depth at self.old }
-        requires head_at { HeadAt (text s.now) s.now.end at head.kind head.payload × (head.kind ≡ block_kind → ⊥)
+        requires bounds { Self.Fits (text s.now) s.now.end depth at self.old }
+        requires head_at { HeadAt (text s.now) s.now.end at (kind_number head.kind) head.payload × (kind_number head.kind ≡ block_kind → ⊥)
             × FoundElement (text s.now) s.now.end depth at }
         ensures { Self.Kept (text s.now) s.now.end self.old self.new × Self.Fits (text s.now) s.now.end depth (at + 6) self.new
             × LeafPassed (Self.steps (text s.now) self.old) (text s.now) s.now.end at head.payload
@@ -41,8 +42,8 @@ pub trait Visitor {
 
     // The head of the element at `at`, which is a block.
     fn enter_block(&mut self, s: &Sheet, depth: u32, at: usize, head: Head)
-        requires room { Self.Fits (text s.now) s.now.end depth at self.old × (1 ≤ depth) }
-        requires head_at { HeadAt (text s.now) s.now.end at head.kind head.payload × (head.kind ≡ block_kind)
+        requires bounds { Self.Fits (text s.now) s.now.end depth at self.old × (1 ≤ depth) }
+        requires head_at { HeadAt (text s.now) s.now.end at (kind_number head.kind) head.payload × (kind_number head.kind ≡ block_kind)
             × FoundElement (text s.now) s.now.end depth at }
         ensures { Self.Kept (text s.now) s.now.end self.old self.new × Self.Fits (text s.now) s.now.end (depth - 1) (at + 6) self.new
             × BlockEntered (Self.steps (text s.now) self.old) (text s.now) s.now.end at head.payload
@@ -50,7 +51,7 @@ pub trait Visitor {
 
     // The head of the alternative at `at`.
     fn enter_alternative(&mut self, s: &Sheet, depth: u32, at: usize)
-        requires room { Self.Fits (text s.now) s.now.end depth at self.old × (at + 5 ≤ s.now.end) }
+        requires bounds { Self.Fits (text s.now) s.now.end depth at self.old × (at + 5 ≤ s.now.end) }
         requires found_alternative { FoundAlternative (text s.now) s.now.end depth at }
         ensures { Self.Kept (text s.now) s.now.end self.old self.new × Self.Fits (text s.now) s.now.end depth (at + 5) self.new
             × AlternativeEntered (Self.steps (text s.now) self.old) (text s.now) s.now.end at depth
@@ -63,7 +64,7 @@ pub trait Visitor {
 #[cycle(tree)]
 #[inline]
 pub fn walk_element<V: Visitor>(v: &mut V, s: &Sheet, depth: u32, at: usize) -> usize
-    requires room { V.Fits (text s.now) s.now.end depth at v.old }
+    requires bounds { V.Fits (text s.now) s.now.end depth at v.old }
     requires found_element { FoundElement (text s.now) s.now.end depth at }
     ensures { V.Kept (text s.now) s.now.end v.old v.new × V.Fits (text s.now) s.now.end depth result v.new
         × ElementWalked (V.steps (text s.now) v.old) (text s.now) s.now.end depth at
@@ -72,20 +73,24 @@ pub fn walk_element<V: Visitor>(v: &mut V, s: &Sheet, depth: u32, at: usize) -> 
     let head = element_head(s, depth, at);
     let kind = head.kind;
     let payload = head.payload;
-    if kind == Kind::BLOCK {
-        v.enter_block(s, depth, at, head);
-        let count = word(s.bytes, payload);
-        return walk_alternatives(v, s, depth - 1, count, payload + 1);
+    match kind {
+        Kind::Block => {
+            v.enter_block(s, depth, at, head);
+            let count = word(s.bytes, payload);
+            walk_alternatives(v, s, depth - 1, count, payload + 1)
+        }
+        _ => {
+            v.leaf(s, depth, at, head);
+            leaf_end(s, depth, at, kind, payload)
+        }
     }
-    v.leaf(s, depth, at, head);
-    leaf_end(s, depth, at, kind, payload)
 }
 
 // n elements from `at` on.
 #[cycle(tree)]
 #[inline]
 pub fn walk_elements<V: Visitor>(v: &mut V, s: &Sheet, depth: u32, n: u32, at: usize) -> usize
-    requires room { V.Fits (text s.now) s.now.end depth at v.old × (at ≤ s.now.end) }
+    requires bounds { V.Fits (text s.now) s.now.end depth at v.old × (at ≤ s.now.end) }
     requires found_elements { FoundElements (text s.now) s.now.end depth n at }
     ensures { V.Kept (text s.now) s.now.end v.old v.new × V.Fits (text s.now) s.now.end depth result v.new
         × ElementsWalked (V.steps (text s.now) v.old) (text s.now) s.now.end depth n at
@@ -102,7 +107,7 @@ pub fn walk_elements<V: Visitor>(v: &mut V, s: &Sheet, depth: u32, n: u32, at: u
 #[cycle(tree)]
 #[inline]
 pub fn walk_alternative<V: Visitor>(v: &mut V, s: &Sheet, depth: u32, at: usize) -> usize
-    requires room { V.Fits (text s.now) s.now.end depth at v.old }
+    requires bounds { V.Fits (text s.now) s.now.end depth at v.old }
     requires found_alternative { FoundAlternative (text s.now) s.now.end depth at }
     ensures { V.Kept (text s.now) s.now.end v.old v.new × V.Fits (text s.now) s.now.end depth result v.new
         × AlternativeWalked (V.steps (text s.now) v.old) (text s.now) s.now.end depth at
@@ -117,7 +122,7 @@ pub fn walk_alternative<V: Visitor>(v: &mut V, s: &Sheet, depth: u32, at: usize)
 #[cycle(tree)]
 #[inline(never)]
 pub fn walk_alternatives<V: Visitor>(v: &mut V, s: &Sheet, depth: u32, n: u32, at: usize) -> usize
-    requires room { V.Fits (text s.now) s.now.end depth at v.old × (at ≤ s.now.end) }
+    requires bounds { V.Fits (text s.now) s.now.end depth at v.old × (at ≤ s.now.end) }
     requires found_alternatives { FoundAlternatives (text s.now) s.now.end depth n at }
     ensures { V.Kept (text s.now) s.now.end v.old v.new × V.Fits (text s.now) s.now.end depth result v.new
         × AlternativesWalked (V.steps (text s.now) v.old) (text s.now) s.now.end depth n at
@@ -132,7 +137,7 @@ pub fn walk_alternatives<V: Visitor>(v: &mut V, s: &Sheet, depth: u32, n: u32, a
 
 // The body of the rule at `at`.
 pub fn walk_rule<V: Visitor>(v: &mut V, s: &Sheet, at: usize) -> usize
-    requires room { V.Fits (text s.now) s.now.end inner_depth at v.old × (at + 4 ≤ s.now.end) }
+    requires bounds { V.Fits (text s.now) s.now.end inner_depth at v.old × (at + 4 ≤ s.now.end) }
     requires found_rule { FoundRule (text s.now) s.now.end at }
     ensures { V.Kept (text s.now) s.now.end v.old v.new × V.Fits (text s.now) s.now.end inner_depth result v.new
         × RuleWalked (V.steps (text s.now) v.old) (text s.now) s.now.end at
@@ -144,7 +149,7 @@ pub fn walk_rule<V: Visitor>(v: &mut V, s: &Sheet, at: usize) -> usize
 
 // The bodies of n rules from `at` on.
 pub fn walk_rules<V: Visitor>(v: &mut V, s: &Sheet, n: u32, at: usize) -> usize
-    requires room { V.Fits (text s.now) s.now.end inner_depth at v.old × (at ≤ s.now.end) }
+    requires bounds { V.Fits (text s.now) s.now.end inner_depth at v.old × (at ≤ s.now.end) }
     requires found_rules { FoundRules (text s.now) s.now.end n at }
     ensures { V.Kept (text s.now) s.now.end v.old v.new × V.Fits (text s.now) s.now.end inner_depth result v.new
         × RulesWalked (V.steps (text s.now) v.old) (text s.now) s.now.end n at

@@ -2,6 +2,7 @@
 ghost use Rattle.std.specs.Prelude.{◌≡◌, ◌+◌, ◌*◌, ◌<◌, ◌≤◌, ◌^◌};
 ghost use Rattle.grammar.specs.Numbers.{block_kind};
 ghost use Rattle.grammar.specs.Found.{FoundElement, FoundAlternative, HeadAt, AlternativeAt, LeafEnd};
+ghost use Rattle.words.specs.Kinds.{kind_number};
 ghost use Rattle.words.specs.Sheet.{text};
 
 use crate::numbers::Kind;
@@ -11,7 +12,7 @@ use crate::words::word;
 // Where an element's payload begins, and its kind.
 #[derive(Clone, Copy, Debug, PartialEq, Eq)]
 pub struct Head {
-    pub kind: u32,
+    pub kind: Kind,
     pub payload: usize,
 }
 
@@ -31,17 +32,18 @@ fn past_options(from: usize, n: u32) -> usize
 }
 
 pub fn element_head(s: &Sheet, depth: u32, at: usize) -> Head
-    requires room { at + 6 ≤ s.now.end }
+    requires bounds { at + 6 ≤ s.now.end }
     requires found_element { FoundElement (text s.now) s.now.end depth at }
-    ensures { HeadAt (text s.now) s.now.end at result.kind result.payload }
+    ensures { HeadAt (text s.now) s.now.end at (kind_number result.kind) result.payload }
 {
-    let kind = word(s.bytes, at + 2) % Kind::END;
+    let number = word(s.bytes, at + 2) % Kind::END;
+    let kind = Kind::try_from(number).unwrap();
     let payload = past_options(at + 6, word(s.bytes, at + 5));
     Head { kind, payload }
 }
 
 pub fn alternative_head(s: &Sheet, depth: u32, at: usize) -> Elements
-    requires room { at + 5 ≤ s.now.end }
+    requires bounds { at + 5 ≤ s.now.end }
     requires found_alternative { FoundAlternative (text s.now) s.now.end depth at }
     ensures { AlternativeAt (text s.now) s.now.end at result.count result.first }
 {
@@ -51,22 +53,15 @@ pub fn alternative_head(s: &Sheet, depth: u32, at: usize) -> Elements
 }
 
 // Where an element that is no block ends.
-pub fn leaf_end(s: &Sheet, depth: u32, at: usize, kind: u32, payload: usize) -> usize
-    requires head_at { (HeadAt (text s.now) s.now.end at kind payload) × (kind ≡ block_kind → ⊥) }
+pub fn leaf_end(s: &Sheet, depth: u32, at: usize, kind: Kind, payload: usize) -> usize
+    requires head_at { (HeadAt (text s.now) s.now.end at (kind_number kind) payload) × (kind_number kind ≡ block_kind → ⊥) }
     requires found_element { FoundElement (text s.now) s.now.end depth at }
     ensures { LeafEnd (text s.now) s.now.end depth at payload result }
 {
-    if kind == Kind::CALL {
-        return payload + 2;
+    match kind {
+        Kind::Call => payload + 2,
+        Kind::Token => payload + 1,
+        Kind::Action | Kind::Predicate => past_options(payload + 2, word(s.bytes, payload + 1)),
+        Kind::Epsilon | Kind::Terminal | Kind::Block | Kind::EndOfInput => payload,
     }
-    if kind == Kind::TOKEN {
-        return payload + 1;
-    }
-    if kind == Kind::ACTION {
-        return past_options(payload + 2, word(s.bytes, payload + 1));
-    }
-    if kind == Kind::PREDICATE {
-        return past_options(payload + 2, word(s.bytes, payload + 1));
-    }
-    payload
 }

@@ -40,8 +40,8 @@ fn put_bytes(s: &mut [u8], at: usize, w: u32)
 // The word at `at`, counted in words, is now `w`; no other word changes, and no byte behind the last one.
 pub fn put_word(s: &mut [u8], at: usize, w: u32)
     requires { 4 * at + 4 ≤ length s.old }
-    ensures s_after { words s.new ≡ set (words s.old) at w }
-    ensures s_after_2 { s.new ≡ with_word s.old (4 * at) w }
+    ensures words_after { words s.new ≡ set (words s.old) at w }
+    ensures bytes_after { s.new ≡ with_word s.old (4 * at) w }
 {
     put_bytes(s, 4 * at, w);
 }

@@ -43,7 +43,7 @@ pub fn write_items(
     trail: &mut [u8],
     pen: Pen,
 ) -> Pen
-    requires room { compose_at ≤ pen.to }
+    requires bounds { compose_at ≤ pen.to }
     requires readable { Readable (text s.now) s.now.end depth work.old x
         × ItemsFit (text s.now) s.now.end depth work.old x fresh trail.old pen }
     ensures { ItemsDrawn (text s.now) s.now.end depth work.old x fresh work.new

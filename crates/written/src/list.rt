@@ -13,12 +13,12 @@ ghost use Rattle.written.specs.Planned.{HeadDrawn, AlternativeFits, AlternativeD
 ghost use Rattle.words.specs.Sheet.{text};
 
 use crate::items::write_items;
-use copies::pen::{IdSort, Pen, Reason, fresh};
+use copies::pen::{Pen, Reason, fresh};
 use heads::head::write_head;
 use heads::read::read_here;
 use planned::list::{Listed, Mark, Sizes};
 use planned::read::Cursor;
-use words::numbers::Block;
+use words::numbers::{Block, Sort};
 use words::sheet::Sheet;
 use words::words::word;
 
@@ -32,7 +32,7 @@ fn id_at(s: &Sheet, at: usize) -> u32
 
 // The head of an alternative, with an id.
 fn begin(s: &Sheet, depth: u32, work: &mut [u8], x: Listed, id: u32, pen: Pen) -> Pen
-    requires room { (compose_at ≤ pen.to) × (4 * (pen.to + 5 + 2 * x.no) ≤ length work.old) }
+    requires bounds { (compose_at ≤ pen.to) × (4 * (pen.to + 5 + 2 * x.no) ≤ length work.old) }
     requires readable { Readable (text s.now) s.now.end depth work.old x }
     ensures { HeadDrawn (text s.now) s.now.end depth work.old x id work.new pen result }
 {
@@ -45,7 +45,7 @@ fn begin(s: &Sheet, depth: u32, work: &mut [u8], x: Listed, id: u32, pen: Pen) -
 
 // An alternative that always filled its slot: it keeps its id, and nothing is recorded (SPECIFICATION 11.2).
 fn write_same(s: &Sheet, depth: u32, work: &mut [u8], x: Listed, trail: &mut [u8], pen: Pen) -> Pen
-    requires room { (compose_at ≤ pen.to) × (is_marked x.slot ≡ true) }
+    requires bounds { (compose_at ≤ pen.to) × (is_marked x.slot ≡ true) }
     requires readable { Readable (text s.now) s.now.end depth work.old x
         × AlternativeFits (text s.now) s.now.end depth work.old x trail.old pen }
     ensures { AlternativeDrawn (text s.now) s.now.end depth work.old x work.new
@@ -58,20 +58,20 @@ fn write_same(s: &Sheet, depth: u32, work: &mut [u8], x: Listed, trail: &mut [u8
 
 // A new alternative: a fresh id, and fresh ids for all that is in it (SPECIFICATION 11.3).
 fn write_new(s: &Sheet, depth: u32, work: &mut [u8], x: Listed, trail: &mut [u8], pen: Pen) -> Pen
-    requires room { (compose_at ≤ pen.to) × (is_marked x.slot ≡ false) }
+    requires bounds { (compose_at ≤ pen.to) × (is_marked x.slot ≡ false) }
     requires readable { Readable (text s.now) s.now.end depth work.old x
         × AlternativeFits (text s.now) s.now.end depth work.old x trail.old pen }
     ensures { AlternativeDrawn (text s.now) s.now.end depth work.old x work.new
         trail.old trail.new pen result }
 {
     let owner = id_at(s, x.origin as usize);
-    let given = fresh(trail, pen, IdSort::Alternative, Reason::RuleBoundary, owner);
+    let given = fresh(trail, pen, Sort::Alternative, Reason::RuleBoundary, owner);
     let inside = begin(s, depth, work, x, given.id, given.pen);
     write_items(s, depth, work, x, true, trail, inside)
 }
 
 fn write_one(s: &Sheet, depth: u32, work: &mut [u8], x: Listed, trail: &mut [u8], pen: Pen) -> Pen
-    requires room { compose_at ≤ pen.to }
+    requires bounds { compose_at ≤ pen.to }
     requires readable { Readable (text s.now) s.now.end depth work.old x
         × AlternativeFits (text s.now) s.now.end depth work.old x trail.old pen }
     ensures { AlternativeDrawn (text s.now) s.now.end depth work.old x work.new
@@ -84,7 +84,7 @@ fn write_one(s: &Sheet, depth: u32, work: &mut [u8], x: Listed, trail: &mut [u8]
 }
 
 fn write_list(s: &Sheet, depth: u32, work: &mut [u8], l: Sizes, trail: &mut [u8], pen: Pen) -> Pen
-    requires room { compose_at ≤ pen.to }
+    requires bounds { compose_at ≤ pen.to }
     requires laid { Laid work.old l × AllIn (text s.now) s.now.end depth work.old l }
     requires list_fits { ListFits (text s.now) s.now.end depth work.old l trail.old pen }
     ensures { ListDrawn (text s.now) s.now.end depth work.old l work.new
@@ -102,7 +102,7 @@ fn write_list(s: &Sheet, depth: u32, work: &mut [u8], l: Sizes, trail: &mut [u8]
 
 // The hub's new alternatives, drawn behind the list in the work area.
 pub fn write_planned(s: &Sheet, work: &mut [u8], l: Sizes, trail: &mut [u8], pen: Pen) -> Pen
-    requires room { compose_at ≤ pen.to }
+    requires bounds { compose_at ≤ pen.to }
     requires laid { Laid work.old l × AllIn (text s.now) s.now.end inner_depth work.old l }
     requires fits { Fits (each (encode_alternative (encode_block inner_depth)))
         (drawn_list (text s.now) s.now.end inner_depth work.old l (counters_of pen.counters)) work.old trail.old pen }

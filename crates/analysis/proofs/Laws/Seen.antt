@@ -18,7 +18,11 @@ use Rattle.grammar.specs.Laws.Stands.{stands_head}
 use Rattle.reference.specs.Walks.{sort_of, is_end}
 use Rattle.reach.specs.Rows.{bit, AddIf}
 use Rattle.analysis.specs.Names.{is_named, any_below, At, Nowhere, IsTarget}
-use Rattle.std.specs.Prelude.{Option, Some, None}
+use Rattle.std.specs.Prelude.{Option, Some, None, ◌⊎◌}
+use Rattle.std.proofs.Common.{inl, inr}
+use Rattle.words.specs.declared.numbers.Kind.{Kind}
+use Rattle.words.specs.declared.numbers.Kind.TheVariants as kind
+use Rattle.words.specs.Kinds.{kind_number}
 use Rattle.analysis.specs.Survey.{View, Seen, seen_of, is_semantic, calls_to, leaf_null, leaf_ends, past_leaf, StopSeen, BitSeen, past_call}
 use Rattle.analysis.specs.Survey.{SymbolSeen, NameSeen, LeafSeen}
 use Rattle.reach.proofs.Laws.Rows.{two_words}
@@ -179,7 +183,7 @@ module _ (v : View) {m : ℕ} {skips : Bool} (xs : List ℕ) (seeks null : Bool)
 
 -- a leaf of a kind
 module _ (v : View) {ws : List ℕ} {end k p : ℕ} {skips : Bool} where
-  pub leaf_call : {w : ℕ} {s r : Seen} → k ≡ call_kind → w ≡ get_or ws p 0 → NameSeen v w skips s r → LeafSeen v ws end k p skips s r
+  leaf_call : {w : ℕ} {s r : Seen} → k ≡ call_kind → w ≡ get_or ws p 0 → NameSeen v w skips s r → LeafSeen v ws end k p skips s r
   unfolding leaf_kind encode_leaf
   leaf_call {s = s} {r} e f n = record { is = go }
     where
@@ -207,7 +211,7 @@ module _ (v : View) {ws : List ℕ} {end k p : ℕ} {skips : Bool} where
       go terminal q h u = past_terminal v (seen_of xs seeks null) skips r
       go end_of_input q h u = absurd (z h)
 
-  pub leaf_epsilon : (xs : List ℕ) (seeks null : Bool) → k ≡ epsilon_kind
+  leaf_epsilon : (xs : List ℕ) (seeks null : Bool) → k ≡ epsilon_kind
       → LeafSeen v ws end k p skips (seen_of xs seeks null) (seen_of xs seeks null)
   unfolding leaf_kind seen_of calls_to leaf_null leaf_ends sort_of is_end is_semantic leaf_ids
   leaf_epsilon xs seeks null e = record { is = go }
@@ -223,7 +227,7 @@ module _ (v : View) {ws : List ℕ} {end k p : ℕ} {skips : Bool} where
       go terminal q h u = absurd (omega arith)
       go end_of_input q h u = absurd (omega arith)
 
-  pub leaf_end_lem : (xs : List ℕ) (seeks null : Bool) → k ≡ end_kind
+  leaf_end_lem : (xs : List ℕ) (seeks null : Bool) → k ≡ end_kind
       → LeafSeen v ws end k p skips (seen_of xs seeks null) (seen_of xs seeks null)
   unfolding leaf_kind seen_of calls_to leaf_null leaf_ends sort_of is_end is_semantic leaf_ids
   leaf_end_lem xs seeks null e = record { is = go }
@@ -239,7 +243,7 @@ module _ (v : View) {ws : List ℕ} {end k p : ℕ} {skips : Bool} where
           same_seen (λ j. refl) (λ j. refl) (sym (or-false (eqb (get_or xs 4 0) 1))) refl refl
           ∙ past_silent v (seen_of xs seeks null) skips end_of_input (λ j. refl) (and-false (not v.past)) refl
 
-  pub leaf_semantic : {xs ys : List ℕ} (seeks null : Bool) → StopSeen xs ys → (k ≡ call_kind → ⊥) → k ≤ call_kind → (k ≡ epsilon_kind → ⊥)
+  leaf_semantic : {xs ys : List ℕ} (seeks null : Bool) → StopSeen xs ys → (k ≡ call_kind → ⊥) → k ≤ call_kind → (k ≡ epsilon_kind → ⊥)
       → LeafSeen v ws end k p skips (seen_of xs seeks null) (seen_of ys seeks null)
   unfolding leaf_kind calls_to leaf_null leaf_ends sort_of is_end is_semantic leaf_ids
   leaf_semantic {xs} {ys} seeks null s a b c = record { is = go }
@@ -260,6 +264,29 @@ module _ (v : View) {ws : List ℕ} {end k p : ℕ} {skips : Bool} where
       go terminal q h u = absurd (omega arith)
       go end_of_input q h u = absurd (omega arith)
 
+module _ (v : View) {ws : List ℕ} {end p : ℕ} {skips : Bool} {k : Kind} where
+  pub at_call : {w : ℕ} {s r : Seen} → k ≡ kind.Call → w ≡ get_or ws p 0 → NameSeen v w skips s r → LeafSeen v ws end (kind_number k) p skips s r
+  at_call e = leaf_call v (ap kind_number e)
+
+  pub at_symbol : (xs : List ℕ) {seeks null seeks' null' : Bool} → k ≡ kind.Token ⊎ (k ≡ kind.Terminal ⊎ k ≡ kind.Block)
+      → SymbolSeen v.past skips seeks null seeks' null'
+      → LeafSeen v ws end (kind_number k) p skips (seen_of xs seeks null) (seen_of xs seeks' null')
+  at_symbol xs (inl e) = let i = ap kind_number e in leaf_symbol v xs (omega arith) (λ z. omega arith)
+  at_symbol xs (inr (inl e)) = let i = ap kind_number e in leaf_symbol v xs (omega arith) (λ z. omega arith)
+  at_symbol xs (inr (inr e)) = let i = ap kind_number e in leaf_symbol v xs (omega arith) (λ z. omega arith)
+
+  pub at_nothing : (xs : List ℕ) (seeks null : Bool) → k ≡ kind.Epsilon ⊎ k ≡ kind.EndOfInput
+      → LeafSeen v ws end (kind_number k) p skips (seen_of xs seeks null) (seen_of xs seeks null)
+  at_nothing xs seeks null (inl e) = leaf_epsilon v xs seeks null (ap kind_number e)
+  at_nothing xs seeks null (inr e) = leaf_end_lem v xs seeks null (ap kind_number e)
+
+  pub at_semantic : {xs ys : List ℕ} (seeks null : Bool) → StopSeen xs ys → k ≡ kind.Action ⊎ k ≡ kind.Predicate
+      → LeafSeen v ws end (kind_number k) p skips (seen_of xs seeks null) (seen_of ys seeks null)
+  at_semantic seeks null s (inl e) =
+      let i = ap kind_number e in leaf_semantic v seeks null s (λ z. omega arith) (omega arith) (λ z. omega arith)
+  at_semantic seeks null s (inr e) =
+      let i = ap kind_number e in leaf_semantic v seeks null s (λ z. omega arith) (omega arith) (λ z. omega arith)
+
 pub ruleset sees = (bit_seen, stop_seen, call_seen, target_low, name_unknown, name_known)
 
-pub ruleset leaves = (leaf_call, leaf_symbol, leaf_epsilon, leaf_end_lem, leaf_semantic)
+pub ruleset leaves = (at_call, at_symbol, at_nothing, at_semantic)

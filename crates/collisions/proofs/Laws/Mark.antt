@@ -77,10 +77,10 @@ module _ {ws : List ℕ} {end at : ℕ} where
           within = room;
         }
 
-    pub reference_apart : (bs : List ℕ) → qualified < k
+    pub reference_apart : (bs : List ℕ) {m : ℕ} → m ≡ qualified → m < k
         → ReferenceMarked name ws end at (marks_of ws bs dangling) (at + 2) (marks_of ws bs (dangling || eqb name w))
     unfolding marks_of mark_reference
-    reference_apart bs l =
+    reference_apart bs em l =
         reference λ t a b.
         same_marks (λ n. refl)
         (λ n.
@@ -89,10 +89,10 @@ module _ {ws : List ℕ} {end at : ℕ} where
         ∙ or-false (has_name ws bs references_bit n)))
         (ap (λ x. dangling || eqb name x) b)
 
-    pub reference_binds : {bs cs : List ℕ} → k ≤ qualified → NamePut ws end bs cs references_bit (get_or ws (at + 1) 0)
+    pub reference_binds : {bs cs : List ℕ} {m : ℕ} → m ≡ qualified → k ≤ m → NamePut ws end bs cs references_bit (get_or ws (at + 1) 0)
         → ReferenceMarked name ws end at (marks_of ws bs dangling) (at + 2) (marks_of ws cs (dangling || eqb name w))
     unfolding marks_of mark_reference
-    reference_binds {bs} {cs} l p =
+    reference_binds {bs} {cs} em l p =
         reference λ t a b.
         same_marks (p.other labels_bit labels_set (λ z. omega arith))
         (λ n.

@@ -6,8 +6,8 @@ pub invariant_of-s : goal.invariant_of-s
 invariant_of-s c = record { room = read_room _ _ c.in-Ok.ensures.read_as }
 
 -- src/lib.rt:83:17
-pub tell-t-requires-clause-room : goal.tell-t-requires-clause-room
-tell-t-requires-clause-room c = search (rules, tellings)
+pub tell-t-requires-clause-bounds : goal.tell-t-requires-clause-bounds
+tell-t-requires-clause-bounds c = search (rules, tellings)
 
 -- src/lib.rt:83:17
 pub tell-t-requires-clause-standing : goal.tell-t-requires-clause-standing

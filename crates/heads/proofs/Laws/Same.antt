@@ -97,13 +97,13 @@ module _ {ws : List ℕ} {at q : ℕ} {made : Bool} {to : ℕ} {b a : List ℕ} 
   pub span_same : made ≡ false → Wrote b a to (take (q - at) (drop at ws)) → SpanCopied ws at q made to b a (to + (q - at))
   span_same z u = record { same = λ _. u; plain = λ t. absurd (false≢true (sym z ∙ t)); ends = refl }
 
-  pub span_plain : made ≡ true → at + 6 ≤ q → {m : List ℕ} {v w : ℕ} → v ≡ get_or ws at 0 → w ≡ get_or ws (at + 1) 0
-      → Wrote b m to (v ∷ w ∷ call_kind ∷ []) → Wrote m a (to + 3) (take (q - at - 3) (drop (at + 3) ws))
+  pub span_plain : made ≡ true → at + 6 ≤ q → {m : List ℕ} {v w k : ℕ} → v ≡ get_or ws at 0 → w ≡ get_or ws (at + 1) 0
+      → k ≡ call_kind → Wrote b m to (v ∷ w ∷ k ∷ []) → Wrote m a (to + 3) (take (q - at - 3) (drop (at + 3) ws))
       → SpanCopied ws at q made to b a (to + (q - at))
-  span_plain z l x y u t =
+  span_plain z l x y k u t =
       record {
         same = λ f. absurd (false≢true (sym f ∙ z));
-        plain = λ _. rw (← x, ← y) (wrote_then (omega arith) u t);
+        plain = λ _. rw (← x, ← y) (wrote_then (omega arith) (rw k at u) t);
         ends = refl;
       }
 

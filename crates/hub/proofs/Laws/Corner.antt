@@ -186,9 +186,9 @@ module _ {names : List ℕ} {c : Cycle} {ws : List ℕ} {end d : ℕ} where
         pub seek_call : {w : ℕ} {r : Bool} → kind ≡ call_kind → w ≡ get_or ws q 0 → NameSettles names c w r → Settles names c ws end d n at r
         seek_call {r = r} l e v = g.rest r (call_settles head left l e v)
 
-        pub seek_more : {there : ℕ} → kind ≤ call_kind → (kind ≡ call_kind → ⊥) → LeafEnd ws end d p q there
+        pub seek_more : {there : ℕ} → kind < call_kind → LeafEnd ws end d p q there
             → Seeking names c ws end d n at (n - (k + 1)) there
-        seek_more {there} m o e =
+        seek_more {there} m e =
             let less : n - k - 1 ≡ n - (k + 1) = omega arith in
             rw (← less)
             (record {

@@ -1,6 +1,6 @@
 -- The ids that a walk collects: the returns of the functions that read and write them.
 use Prim.Native.Nat.{ℕ, ◌+◌, ◌*◌, ◌%◌, ◌≤◌}
-use mathlib.Core.Path.{◌≡◌, sym, ap, ◌∙◌}
+use mathlib.Core.Path.{◌≡◌, refl, sym, ap, ◌∙◌}
 use mathlib.Core.List.{List, [], ◌∷◌, ◌++◌, append-nil}
 use native.Mathlib.Omega.{arith}
 use lib.ListN.{length, get_or, set, take}
@@ -8,9 +8,12 @@ use lib.Seq.{take-suc-set}
 use borrow.Author.Tests.{ne_eqb}
 use Rattle.std.specs.Prelude.{Option, Some, None}
 use native.Mathlib.Numerals.{add-one}
-use Rattle.grammar.specs.Numbers.{alternative_sort, element_sort, label_sort, action_sort, predicate_sort, action_kind, predicate_kind, kind_end}
+use Rattle.grammar.specs.Numbers.{element_sort, label_sort, action_sort, predicate_sort, action_kind, predicate_kind, kind_end}
 use Rattle.grammar.specs.Words.{words}
 use Rattle.grammar.specs.Laws.Words.{length_words}
+use Rattle.words.specs.declared.numbers.Sort.{Sort}
+use Rattle.words.specs.declared.numbers.Sort.TheVariants.{Alternative, Element, Label, Action, Predicate}
+use Rattle.words.specs.Kinds.{sort_number}
 use Rattle.ids.specs.Ids.{own_of, own_ids, alternative_id}
 
 module _ (ws : List ℕ) (sort at payload : ℕ) {w : ℕ} where
@@ -69,15 +72,19 @@ module _ (own : List ℕ) (before after : List ℕ) (out r : ℕ) where
 pub put_nothing : (own before : List ℕ) (out : ℕ) {o : Option ℕ} → o ≡ None → own_of o ≡ own → take out before ≡ take out before ++ own
 put_nothing own before out e f = sym (append-nil (take out before)) ∙ ap (λ l. take out before ++ l) (sym (ap own_of e) ∙ f)
 
-module _ (ws before after : List ℕ) (at sort out : ℕ) where
-  pub put_two : (r : ℕ) {w : ℕ} → sort ≡ alternative_sort → w ≡ get_or ws at 0 → take r after ≡ take out before ++ (w ∷ [])
-      → take r after ≡ take out before ++ alternative_id ws at sort
+module _ (ws before after : List ℕ) (at out : ℕ) where
+  pub put_two : {sort : Sort} (r : ℕ) {w : ℕ} → sort ≡ Alternative → w ≡ get_or ws at 0 → take r after ≡ take out before ++ (w ∷ [])
+      → take r after ≡ take out before ++ alternative_id ws at (sort_number sort)
   unfolding alternative_id
   put_two r e f g = rw (e, ← f) g
 
-pub put_other : (ws before : List ℕ) (at sort out : ℕ) → (sort ≡ alternative_sort → ⊥)
-    → take out before ≡ take out before ++ alternative_id ws at sort
+pub put_other : (ws before : List ℕ) (at out : ℕ) (sort : Sort) → (sort ≡ Alternative → ⊥)
+    → take out before ≡ take out before ++ alternative_id ws at (sort_number sort)
 unfolding alternative_id
-put_other ws before at sort out e = rw (ne_eqb sort alternative_sort e) (sym (append-nil (take out before)))
+put_other ws before at out Alternative e = absurd (e refl)
+put_other ws before at out Element e = sym (append-nil (take out before))
+put_other ws before at out Label e = sym (append-nil (take out before))
+put_other ws before at out Action e = sym (append-nil (take out before))
+put_other ws before at out Predicate e = sym (append-nil (take out before))
 
 pub ruleset puts = (pushed, put_id, put_nothing, put_two, put_other)

@@ -7,8 +7,8 @@ use Rattle.plans.proofs.Laws.Told.{nth_sheet}
 pub invariant_of-s : goal.invariant_of-s
 invariant_of-s c = record { room = facts.read_room _ _ c.in-Ok.ensures.read_as }
 
-pub decide_nth-requires-clause-room : goal.decide_nth-requires-clause-room
-decide_nth-requires-clause-room c =
+pub decide_nth-requires-clause-bounds : goal.decide_nth-requires-clause-bounds
+decide_nth-requires-clause-bounds c =
     let o = c.in-Ok.ensures in
     (read_small _ _ o.read_as, facts.read_work _ _ o.read_as o.work_after, read_kept _ _ o.read_as refl)
 

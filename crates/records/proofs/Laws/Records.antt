@@ -11,7 +11,13 @@ use borrow.Author.Tests.{le-leb, lt-leb, eq-eqb, ne_eqb}
 use Rattle.grammar.specs.Numbers.{most_name, non_local, epsilon_kind, predicate_kind, call_kind, token_kind, terminal_kind, end_kind}
 use Rattle.grammar.specs.Parse.{got, given, many}
 use Rattle.grammar.specs.Read.{is_name, is_label, action_of, predicate_of, option_at, reference_at, body_at, call_at, token_at, leaf_at}
-use Rattle.std.specs.Prelude.{Option, Some, None}
+use Rattle.std.specs.Prelude.{Option, Some, None, Result, is_ok, is_err}
+use Rattle.words.specs.declared.numbers.ReferenceKind.{ReferenceKind}
+use Rattle.words.specs.declared.numbers.Unnamed.{Unnamed}
+use Rattle.words.specs.declared.numbers.Kind.{Kind}
+use Rattle.words.specs.declared.numbers.Kind.TheVariants.{Epsilon, Action, Predicate, Call, Token, Terminal, Block, EndOfInput}
+use Rattle.words.specs.Kinds.{Names, reference_number, kind_number}
+use Rattle.words.specs.Laws.Kinds.{reference_named, no_ok, an_ok}
 use Rattle.records.specs.Step.{named, step_of}
 use Rattle.records.proofs.Laws.Steps.{then_same}
 
@@ -80,18 +86,22 @@ module _ (ws : List ℕ) (end at : ℕ) {r : Option ℕ} where
 pub ruleset names = (named_good, named_bad, option_named, call_named, token_named)
 
 module _ (ws : List ℕ) (end at : ℕ) {l : ℕ} (e : l ≡ end - at) (h : 2 ≤ l) where
-  pub reference_kind : {k : ℕ} → k ≡ get_or ws at 0 → non_local < k → None ≡ step_of (reference_at ws end at)
-  unfolding reference_at
-  reference_kind f k = simp (le-leb 2 (end - at) (omega arith), lt-leb (get_or ws at 0) non_local (omega arith))
+  module _ {k : ℕ} (p : k ≡ get_or ws at 0) (u : Result ReferenceKind Unnamed) (m : Names reference_number k u) where
+    kind_is : leb (get_or ws at 0) non_local ≡ is_ok u
+    kind_is = rw (← p) (sym (reference_named k u m))
 
-  module _ {k w : ℕ} (p : k ≡ get_or ws at 0) (q : k ≤ non_local) (f : w ≡ get_or ws (at + 1) 0) {b : Bool} (g : b ≡ is_name w) where
+    pub reference_kind : is_err u ≡ true → None ≡ step_of (reference_at ws end at)
+    unfolding reference_at
+    reference_kind k = simp (le-leb 2 (end - at) (omega arith), kind_is, no_ok u k)
+
+  module _ {k : ℕ} (p : k ≡ get_or ws at 0) (u : Result ReferenceKind Unnamed) (m : Names reference_number k u) (q : is_err u ≡ false) {w : ℕ} (f : w ≡ get_or ws (at + 1) 0) {b : Bool} (g : b ≡ is_name w) where
     pub reference_good : b ≡ true → Some (at + 2) ≡ step_of (reference_at ws end at)
     unfolding reference_at
-    reference_good t = simp (le-leb 2 (end - at) (omega arith), le-leb (get_or ws at 0) non_local (omega arith), ← f, ← g, t)
+    reference_good t = simp (le-leb 2 (end - at) (omega arith), kind_is p u m, an_ok u q, ← f, ← g, t)
 
     pub reference_bad : b ≡ false → None ≡ step_of (reference_at ws end at)
     unfolding reference_at
-    reference_bad t = simp (le-leb 2 (end - at) (omega arith), le-leb (get_or ws at 0) non_local (omega arith), ← f, ← g, t)
+    reference_bad t = simp (le-leb 2 (end - at) (omega arith), kind_is p u m, an_ok u q, ← f, ← g, t)
 
   pub body_more : {n : ℕ} {r : Option ℕ} → n ≡ get_or ws (at + 1) 0 → r ≡ step_of (many (reference_at ws end) n (at + 2))
       → r ≡ step_of (body_at ws end action_of at)
@@ -115,40 +125,38 @@ body_any ws end at = go (leb 2 (end - at)) refl
           then_same (many (reference_at ws end) (get_or ws (at + 1) 0) (at + 2)) (predicate_of (get_or ws at 0)),
         )
 
-module _ (ws : List ℕ) (end : ℕ) (k : ℕ) (at : ℕ) where
-  pub leaf_plain : k ≡ epsilon_kind ⊎ (k ≡ terminal_kind ⊎ k ≡ end_kind) → Some at ≡ step_of (leaf_at ws end k at)
+module _ (ws : List ℕ) (end at : ℕ) where
+  pub leaf_plain : {k : Kind} → k ≡ Epsilon ⊎ (k ≡ Terminal ⊎ k ≡ EndOfInput) → Some at ≡ step_of (leaf_at ws end (kind_number k) at)
   unfolding leaf_at
   leaf_plain (inl e) = rw e
   leaf_plain (inr (inl e)) = rw e
   leaf_plain (inr (inr e)) = rw e
 
-  pub leaf_call : {r : Option ℕ} → k ≡ call_kind → r ≡ step_of (call_at ws end at) → r ≡ step_of (leaf_at ws end k at)
+  module _ {k : Kind} {r : Option ℕ} where
+    pub leaf_call : k ≡ Call → r ≡ step_of (call_at ws end at) → r ≡ step_of (leaf_at ws end (kind_number k) at)
+    unfolding leaf_at
+    leaf_call e f = rw e f
+
+    pub leaf_token : k ≡ Token → r ≡ step_of (token_at ws end at) → r ≡ step_of (leaf_at ws end (kind_number k) at)
+    unfolding leaf_at
+    leaf_token e f = rw e f
+
+    pub leaf_body : k ≡ Action ⊎ k ≡ Predicate → r ≡ step_of (body_at ws end action_of at)
+        → r ≡ step_of (leaf_at ws end (kind_number k) at)
+    unfolding leaf_at
+    leaf_body (inl e) f = rw e f
+    leaf_body (inr e) f = rw e (f ∙ body_any ws end at)
+
+  pub leaf_other : (k : Kind) → (k ≡ Epsilon ⊎ (k ≡ Terminal ⊎ k ≡ EndOfInput) → ⊥) → (k ≡ Call → ⊥) → (k ≡ Token → ⊥)
+      → (k ≡ Action ⊎ k ≡ Predicate → ⊥) → None ≡ step_of (leaf_at ws end (kind_number k) at)
   unfolding leaf_at
-  leaf_call e f = rw e f
-
-  pub leaf_token : {r : Option ℕ} → k ≡ token_kind → r ≡ step_of (token_at ws end at) → r ≡ step_of (leaf_at ws end k at)
-  unfolding leaf_at
-  leaf_token e f = rw e f
-
-pub leaf_body : (ws : List ℕ) (end k at : ℕ) {r : Option ℕ} → (k ≡ epsilon_kind ⊎ (k ≡ terminal_kind ⊎ k ≡ end_kind) → ⊥)
-    → k ≤ predicate_kind → r ≡ step_of (body_at ws end action_of at) → r ≡ step_of (leaf_at ws end k at)
-unfolding leaf_at
-leaf_body ws end zero at h g f = absurd (h (inl refl))
-leaf_body ws end (suc zero) at h g f = f
-leaf_body ws end (suc (suc zero)) at h g f = f ∙ body_any ws end at
-leaf_body ws end (suc (suc (suc k))) at h g f = absurd (omega arith)
-
-pub leaf_other : (ws : List ℕ) (end k at : ℕ) → (k ≡ epsilon_kind ⊎ (k ≡ terminal_kind ⊎ k ≡ end_kind) → ⊥) → (k ≡ call_kind → ⊥)
-    → (k ≡ token_kind → ⊥) → predicate_kind < k → None ≡ step_of (leaf_at ws end k at)
-unfolding leaf_at
-leaf_other ws end zero at h c d g = absurd (h (inl refl))
-leaf_other ws end (suc zero) at h c d g = absurd (omega arith)
-leaf_other ws end (suc (suc zero)) at h c d g = absurd (omega arith)
-leaf_other ws end (suc (suc (suc zero))) at h c d g = absurd (c refl)
-leaf_other ws end (suc (suc (suc (suc zero)))) at h c d g = absurd (d refl)
-leaf_other ws end (suc (suc (suc (suc (suc zero))))) at h c d g = absurd (h (inr (inl refl)))
-leaf_other ws end (suc (suc (suc (suc (suc (suc zero)))))) at h c d g = refl
-leaf_other ws end (suc (suc (suc (suc (suc (suc (suc zero))))))) at h c d g = absurd (h (inr (inr refl)))
-leaf_other ws end (suc (suc (suc (suc (suc (suc (suc (suc k)))))))) at h c d g = refl
+  leaf_other Epsilon a b c d = absurd (a (inl refl))
+  leaf_other Action a b c d = absurd (d (inl refl))
+  leaf_other Predicate a b c d = absurd (d (inr refl))
+  leaf_other Call a b c d = absurd (b refl)
+  leaf_other Token a b c d = absurd (c refl)
+  leaf_other Terminal a b c d = absurd (a (inr (inl refl)))
+  leaf_other Block a b c d = refl
+  leaf_other EndOfInput a b c d = absurd (a (inr (inr refl)))
 
 pub ruleset leaves = (leaf_plain, leaf_call, leaf_token, leaf_body, leaf_other)

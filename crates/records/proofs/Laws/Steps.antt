@@ -14,6 +14,11 @@ module _ {A B : Type 0} where
   then_bad (got a p) f e = absurd (let z : ◌≡◌ {A = ℕ} 0 1 = cc in omega arith)
   then_bad bad f e = refl
 
+  -- so does what is bad behind whatever is found
+  pub then_none : (g : Got A) (f : A → ℕ → Got B) → ((a : A) (p : ℕ) → step_of (f a p) ≡ None) → step_of (g then f) ≡ None
+  then_none (got a p) f h = h a p
+  then_none bad f h = refl
+
   -- past a part, the rest decides, whatever was found
   pub then_next : (g : Got A) (f : A → ℕ → Got B) (p : ℕ) (r : Option ℕ) → step_of g ≡ Some p → ((a : A) → step_of (f a p) ≡ r)
       → step_of (g then f) ≡ r

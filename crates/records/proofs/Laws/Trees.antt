@@ -12,20 +12,48 @@ use Rattle.grammar.specs.Parse.{Got, many}
 use Rattle.grammar.specs.Numbers.{most_rule_flags, most_alternative_flag, one_or_more_nongreedy, block_kind, kind_end}
 use Rattle.grammar.specs.Read.{is_name, is_label, label_of, is_head, option_at, leaf_at, head_at, payload_at, element_at, alternative_at}
 use Rattle.grammar.specs.Read.{block_at, rule_at}
-use Rattle.std.specs.Prelude.{Option, Some, None}
+use Rattle.std.specs.Prelude.{Option, Some, None, Result, Ok, Err, is_err}
+use Rattle.std.specs.Result.{result_ok}
+use Rattle.words.specs.declared.numbers.Quantifier.{Quantifier}
+use Rattle.words.specs.declared.numbers.Unnamed.{Unnamed}
+use Rattle.words.specs.declared.numbers.Kind.{Kind}
+use Rattle.words.specs.declared.numbers.Kind.TheVariants.{Epsilon, Action, Predicate, Call, Token, Terminal, Block, EndOfInput}
+use Rattle.words.specs.Kinds.{Names, quantifier_number, kind_number}
+use Rattle.words.specs.Laws.Kinds.{quantifier_named, no_ok, an_ok}
 use Rattle.records.specs.Step.{is_fixed, step_of}
-use Rattle.records.proofs.Laws.Steps.{then_bad, then_next, then_same}
+use Rattle.records.proofs.Laws.Steps.{then_bad, then_none, then_next, then_same}
+
+-- the kind that a number names, or none
+some_kind : {n : ℕ} (u : Result Kind Unnamed) → Names kind_number n u → {k : Kind} → Some k ≡ result_ok u → kind_number k ≡ n
+some_kind (Ok x) m {k} o = let z : k ≡ x = cc in rw z m
+some_kind (Err x) m o = absurd (let z : ◌≡◌ {A = ℕ} 0 1 = cc in omega arith)
+
+no_kind : {n : ℕ} (u : Result Kind Unnamed) → Names kind_number n u → None ≡ result_ok u → (a : Kind) → kind_number a ≡ n → ⊥
+no_kind (Ok x) m o = λ a e. let z : ◌≡◌ {A = ℕ} 0 1 = cc in omega arith
+no_kind (Err x) m o = m.1
+
+leaf_none : (ws : List ℕ) (end at k : ℕ) → ((a : Kind) → kind_number a ≡ k → ⊥) → step_of (leaf_at ws end k at) ≡ None
+unfolding leaf_at
+leaf_none ws end at zero none = absurd (none Epsilon refl)
+leaf_none ws end at (suc zero) none = absurd (none Action refl)
+leaf_none ws end at (suc (suc zero)) none = absurd (none Predicate refl)
+leaf_none ws end at (suc (suc (suc zero))) none = absurd (none Call refl)
+leaf_none ws end at (suc (suc (suc (suc zero)))) none = absurd (none Token refl)
+leaf_none ws end at (suc (suc (suc (suc (suc zero))))) none = absurd (none Terminal refl)
+leaf_none ws end at (suc (suc (suc (suc (suc (suc zero)))))) none = absurd (none Block refl)
+leaf_none ws end at (suc (suc (suc (suc (suc (suc (suc zero))))))) none = absurd (none EndOfInput refl)
+leaf_none ws end at (suc (suc (suc (suc (suc (suc (suc (suc k)))))))) none = refl
 
 module _ (ws : List ℕ) (end at : ℕ) where
   -- the fixed words of an element
-  pub quantifier_bad : {w : ℕ} → w ≡ get_or ws (at + 2) 0 → one_or_more_nongreedy < w / kind_end
-      → false ≡ is_fixed ws at
-  quantifier_bad e h = simp (← e, lt-leb _ _ h)
+  module _ {w : ℕ} (e : w ≡ get_or ws (at + 2) 0) (u : Result Quantifier Unnamed) (m : Names quantifier_number (w / kind_end) u) where
+    pub quantifier_bad : is_err u ≡ true → false ≡ is_fixed ws at
+    quantifier_bad h = simp (← e, ← quantifier_named (w / kind_end) u m, no_ok u h)
 
-  pub quantifier_good : {w i n : ℕ} {b : Bool} → w ≡ get_or ws (at + 2) 0 → w / kind_end ≤ one_or_more_nongreedy
-      → i ≡ get_or ws (at + 3) 0 → n ≡ get_or ws (at + 4) 0 → b ≡ is_label i n
-      → b ≡ is_fixed ws at
-  quantifier_good e h f g k = simp (← e, ← f, ← g, le-leb _ _ h) k
+    pub quantifier_good : {i n : ℕ} {b : Bool} → is_err u ≡ false → i ≡ get_or ws (at + 3) 0 → n ≡ get_or ws (at + 4) 0
+        → b ≡ is_label i n
+        → b ≡ is_fixed ws at
+    quantifier_good h f g k = simp (← e, ← f, ← g, ← quantifier_named (w / kind_end) u m, an_ok u h) k
 
   module _ (h : 6 ≤ end - at) {b : Bool} (e : b ≡ is_fixed ws at) where
     pub head_bad : b ≡ false → None ≡ step_of (head_at ws end at)
@@ -59,6 +87,13 @@ module _ (ws : List ℕ) (end at : ℕ) where
     unfolding payload_at
     payload_leaf {k} e f h = rw (ne_eqb k block_kind e, payload_at) (f ∙ sym (then_same {B = Element B} (leaf_at ws end k at) (leaf h)))
 
+    -- of a kind that there is not
+    payload_none : (h : ElementHead) (p k : ℕ) → ((a : Kind) → kind_number a ≡ k → ⊥) → step_of (payload_at ws end blk h k p) ≡ None
+    unfolding payload_at
+    payload_none h p k none =
+        rw (ne_eqb k block_kind (λ e. none Block (sym e)), payload_at)
+        (then_bad {B = Element B} (leaf_at ws end k p) _ (leaf_none ws end p k none))
+
     -- an element with no room for its fixed words, with a bad head, with a good one
     pub element_short : {l : ℕ} → l ≡ end - at → l < 6 → None ≡ step_of (element_at ws end blk at)
     unfolding element_at head_at is_head
@@ -68,10 +103,22 @@ module _ (ws : List ℕ) (end at : ℕ) where
     unfolding element_at
     element_bad f e = f ∙ sym (then_bad (head_at ws end at) _ (sym e))
 
-    pub element_more : {r : Option ℕ} {w p : ℕ} → Some p ≡ step_of (head_at ws end at) → w ≡ get_or ws (at + 2) 0
-        → ((h : ElementHead) → r ≡ step_of (payload_at ws end blk h (w % kind_end) p)) → r ≡ step_of (element_at ws end blk at)
-    unfolding element_at
-    element_more {r = r} {p = p} e k g = sym (then_next (head_at ws end at) _ p r (sym e) λ h. sym (rw k at g h))
+    module _ {w : ℕ} (i : w ≡ get_or ws (at + 2) 0) (u : Result Kind Unnamed) (m : Names kind_number (w % kind_end) u) {r : Option ℕ} where
+      pub element_more : {k : Kind} {p : ℕ} → Some k ≡ result_ok u → Some p ≡ step_of (head_at ws end at)
+          → ((h : ElementHead) → r ≡ step_of (payload_at ws end blk h (kind_number k) p)) → r ≡ step_of (element_at ws end blk at)
+      unfolding element_at
+      element_more {k} {p} o e g =
+          let z : kind_number k ≡ get_or ws (at + 2) 0 % kind_end = rw i at (some_kind u m o) in
+          sym (then_next (head_at ws end at) _ p r (sym e) λ h. sym (rw z at g h))
+
+      -- of no kind
+      pub element_unknown : r ≡ None → None ≡ result_ok u → r ≡ step_of (element_at ws end blk at)
+      unfolding element_at
+      element_unknown f o =
+          f
+          ∙ sym
+          (then_none (head_at ws end at) _
+          λ h p. payload_none h p (get_or ws (at + 2) 0 % kind_end) (rw i at (no_kind u m o)))
 
     -- an alternative with no room, with a bad flag, with bad options, with good ones
     module _ {l : ℕ} (e : l ≡ end - at) where
@@ -161,6 +208,6 @@ pub ruleset alternatives = (alternative_short, alternative_flag, alternative_bad
 
 pub ruleset blocks = (block_none, block_short, block_more)
 
-pub ruleset trees = (payload_block, payload_leaf, element_short, element_bad, element_more, alternatives, blocks)
+pub ruleset trees = (payload_block, payload_leaf, element_short, element_bad, element_more, element_unknown, alternatives, blocks)
 
 pub ruleset rule_laws = (rule_short, rule_flags, rule_name, rule_more)

@@ -20,6 +20,11 @@ use Rattle.grammar.specs.Laws.Opened.{HeadWords, Opened, opened_leaf, opened_blo
 use Rattle.reference.specs.Walks.{sort_of, is_epsilon_only}
 use Rattle.reference.specs.Substitute.{plain}
 use Rattle.planned.specs.Layout.{made_if}
+use Rattle.std.specs.Prelude.{◌⊎◌}
+use Rattle.words.specs.declared.numbers.Kind.{Kind}
+use Rattle.words.specs.declared.numbers.Kind.TheVariants as kind
+use Rattle.words.specs.Kinds.{kind_number}
+use Rattle.words.specs.Laws.Kinds.{silent_kind}
 use Rattle.rewritable.specs.Items.{call_of, is_call_of, gives_arguments, ItemTested}
 
 -- What an element is as a call of a name.
@@ -168,10 +173,10 @@ module _ (d m : ℕ) (made : Bool) where
 pub ruleset calls = (not_call, other_call, call_named, call_gives, no_call_gives)
 
 -- Whether it is epsilon, an action or a predicate.
-pub kind_silent : (d : ℕ) {made : Bool} {ws : List ℕ} {end at k p : ℕ} → HeadAt ws end at k p
+kind_sided : (d : ℕ) {made : Bool} {ws : List ℕ} {end at k p : ℕ} → HeadAt ws end at k p
     → ItemTested ws end d at made is_epsilon_only (ltb k call_kind)
 unfolding is_epsilon_only plain sort_of leaf_kind
-kind_silent d {made} {ws} {end} {at} {k} head = record { is = λ e q s. go made (opened e s) }
+kind_sided d {made} {ws} {end} {at} {k} head = record { is = λ e q s. go made (opened e s) }
   where
     low : {h : ElementHead} {j o : ℕ} → HeadWords ws end at h j o → j < call_kind → ltb k call_kind ≡ true
     low w l = lt-ltb k call_kind (let z = w.packed in let y = head.kind_is in omega arith)
@@ -196,3 +201,20 @@ kind_silent d {made} {ws} {end} {at} {k} head = record { is = λ e q s. go made 
     go made (opened_leaf {h = h} {l = l} o w u) = one h l w ∙ sym (of made h l)
     go true (opened_block o w u) = high w (omega arith) (omega arith)
     go false (opened_block o w u) = high w (omega arith) (omega arith)
+
+module _ (d : ℕ) {made : Bool} {ws : List ℕ} {end at p : ℕ} (k : Kind) (head : HeadAt ws end at (kind_number k) p) where
+  pub kind_silent : k ≡ kind.Epsilon ⊎ (k ≡ kind.Action ⊎ k ≡ kind.Predicate) → ItemTested ws end d at made is_epsilon_only true
+  kind_silent e = rw (lt-ltb (kind_number k) call_kind (silent_kind e)) at (kind_sided d {made = made} head)
+
+  pub kind_loud : (k ≡ kind.Epsilon → ⊥) → (k ≡ kind.Action → ⊥) → (k ≡ kind.Predicate → ⊥) → ItemTested ws end d at made is_epsilon_only false
+  kind_loud a b c = rw (le-ltb (kind_number k) call_kind (loud k a b c)) at (kind_sided d {made = made} head)
+    where
+      loud : (k : Kind) → (k ≡ kind.Epsilon → ⊥) → (k ≡ kind.Action → ⊥) → (k ≡ kind.Predicate → ⊥) → call_kind ≤ kind_number k
+      loud kind.Epsilon a b c = absurd (a refl)
+      loud kind.Action a b c = absurd (b refl)
+      loud kind.Predicate a b c = absurd (c refl)
+      loud kind.Call a b c = omega arith
+      loud kind.Token a b c = omega arith
+      loud kind.Terminal a b c = omega arith
+      loud kind.Block a b c = omega arith
+      loud kind.EndOfInput a b c = omega arith

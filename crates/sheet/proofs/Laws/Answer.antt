@@ -28,7 +28,11 @@ use Rattle.grammar.specs.Laws.Sound.{rules_sound}
 use Rattle.writing.specs.declared.counters.Counters.{Counters}
 use Rattle.writing.specs.Taken as taken
 use Rattle.records.specs.declared.rules.Rules.{Rules}
-use Rattle.std.specs.Prelude.{Option, Some, None, Result, Ok, Err, is_some, ok_or}
+use Rattle.std.specs.Prelude.{Option, Some, None, Result, Ok, Err, is_some, is_ok, is_err, ok_or}
+use Rattle.words.specs.declared.numbers.UnitKind.{UnitKind}
+use Rattle.words.specs.declared.numbers.Unnamed.{Unnamed}
+use Rattle.words.specs.Kinds.{Names, unit_number}
+use Rattle.words.specs.Laws.Kinds.{unit_named, no_ok, an_ok}
 use Rattle.words.specs.declared.numbers.Refusal.{Refusal}
 use Rattle.words.specs.declared.numbers.Refusal.TheVariants.{BadTrailer, BadRecord, SharedNumber, IdPastCounter}
 use Rattle.words.specs.Refusal.{refusal_number}
@@ -46,24 +50,24 @@ module _ (bs : List ℕ) {t : ℕ} (e : t ≡ length bs / 4 - trailer_words) whe
   here = rw length_words (sym e)
 
   module _ {k : ℕ} (f : k ≡ get_or (words bs) t 0) where
-    pub kind_low : k < lexer → false ≡ is_trailer (words bs)
-    unfolding is_trailer
-    kind_low h = simp (here, ← f, lt-leb lexer k h)
+    module _ (u : Result UnitKind Unnamed) (m : Names unit_number k u) where
+      kind_is : is_kind k ≡ is_ok u
+      kind_is = sym (unit_named k u m)
 
-    pub kind_high : lexer ≤ k → combined < k → false ≡ is_trailer (words bs)
-    unfolding is_trailer
-    kind_high g h = simp (here, ← f, le-leb lexer k g, lt-leb k combined h)
-
-    module _ (g : lexer ≤ k) (h : k ≤ combined) {x : ℕ} (i : x ≡ get_or (words bs) (t + 1) 0) where
-      pub first_other : (x ≡ t → ⊥) → false ≡ is_trailer (words bs)
+      pub kind_other : is_err u ≡ true → false ≡ is_trailer (words bs)
       unfolding is_trailer
-      first_other n = simp (here, ← f, le-leb lexer k g, le-leb k combined h, ← i, ne_eqb x t n)
+      kind_other h = simp (here, ← f, kind_is, no_ok u h)
 
-      pub second_decides : {y : ℕ} → x ≡ t → y ≡ get_or (words bs) (t + 2) 0 → leb y x ≡ is_trailer (words bs)
-      unfolding is_trailer
-      second_decides n j = simp (here, ← f, le-leb lexer k g, le-leb k combined h, ← i, ← j, eq-eqb x t n)
+      module _ (h : is_err u ≡ false) {x : ℕ} (i : x ≡ get_or (words bs) (t + 1) 0) where
+        pub first_other : (x ≡ t → ⊥) → false ≡ is_trailer (words bs)
+        unfolding is_trailer
+        first_other n = simp (here, ← f, kind_is, an_ok u h, ← i, ne_eqb x t n)
 
-pub ruleset trailers = (kind_low, kind_high, first_other, second_decides)
+        pub second_decides : {y : ℕ} → x ≡ t → y ≡ get_or (words bs) (t + 2) 0 → leb y x ≡ is_trailer (words bs)
+        unfolding is_trailer
+        second_decides n j = simp (here, ← f, kind_is, an_ok u h, ← i, ← j, eq-eqb x t n)
+
+pub ruleset trailers = (kind_other, first_other, second_decides)
 
 -- refusals, and a sheet with its rules
 pub read_refused : {g : reading.Reading} {n : ℕ} (e : Refusal) → g ≡ refused n → refusal_number e ≡ n → ReadAs g (Err e)

@@ -230,10 +230,10 @@ module _ {names : List ℕ} {c : Cycle} {ws : List ℕ} {end at k p : ℕ} (d : 
           either b (λ t. rw t (silent g cycle ids es _ x m)) (λ t. rw t (silent g cycle ids es h x m))
       go g cycle ids es b (opened_block o w u) = absurd (let a = w.packed in let z = head.kind_is in omega arith)
 
-  pub item_call : {n m : ℕ} {bare : Bool} {r : Met} → k ≤ call_kind → call_kind ≤ k → n ≡ get_or ws p 0 → bare ≡ bare_at ws at p
+  pub item_call : {n m : ℕ} {bare : Bool} {r : Met} → k ≡ call_kind → n ≡ get_or ws p 0 → bare ≡ bare_at ws at p
       → m ≡ quantifier_at ws at made → CallMet names c n bare m r → ItemMet names c ws end d at made r
   unfolding leaf_kind encode_leaf plain bare_reference
-  item_call {n} {r = r} x y e eb em v = record { is = λ g cycle ids b t q s es. go g cycle ids b es (opened t s); member = v.member }
+  item_call {n} {r = r} x e eb em v = record { is = λ g cycle ids b t q s es. go g cycle ids b es (opened t s); member = v.member }
     where
       named : (g : Grammar) (cycle ids : List ℕ) → CycleBy g cycle ids names c → (es : List (Element (Block d))) (h : ElementHead) (a : Call)
           {q kind : ℕ} → HeadWords ws end at h kind p → kind ≡ call_kind → Spans ws end encode_leaf ok_leaf p (call a) q

@@ -6,8 +6,8 @@ use Rattle.analysis.proofs.Laws.Rounds.{record_more, recording}
 pub loop-i-init : goal.loop-i-init
 loop-i-init c = search (rules, recording, standing)
 
-pub survey_rule-v-requires-clause-room : goal.survey_rule-v-requires-clause-room
-survey_rule-v-requires-clause-room c = search (rules, recording, standing)
+pub survey_rule-v-requires-clause-bounds : goal.survey_rule-v-requires-clause-bounds
+survey_rule-v-requires-clause-bounds c = search (rules, recording, standing)
 
 pub survey_rule-v-requires-clause-found_rule : goal.survey_rule-v-requires-clause-found_rule
 survey_rule-v-requires-clause-found_rule c = search (rules, recording, standing)

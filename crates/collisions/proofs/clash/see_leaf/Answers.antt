@@ -1,15 +1,13 @@
 use Rattle.std.proofs.Common.{rules}
 use Rattle.collisions.proofs.clash.see_leaf.Goals as goal
+use Rattle.words.specs.Laws.Kinds.{named_kinds}
 use Rattle.collisions.proofs.Laws.Clash.{clashes}
 
--- src/clash.rt:78:9
-pub returns-then-kind-eq-CALL : goal.returns-then-kind-eq-CALL
-returns-then-kind-eq-CALL c = search (rules, clashes)
+pub returns-in-Call : goal.returns-in-Call
+returns-in-Call c = search (rules, clashes, named_kinds)
 
--- src/clash.rt:81:9
-pub returns-then-kind-eq-TOKEN : goal.returns-then-kind-eq-TOKEN
-returns-then-kind-eq-TOKEN c = search (rules, clashes)
+pub returns-in-Token : goal.returns-in-Token
+returns-in-Token c = search (rules, clashes, named_kinds)
 
--- src/clash.rt:62:1
-pub returns : goal.returns
-returns c = search (rules, clashes)
+pub returns-in_default : goal.returns-in_default
+returns-in_default c = search (rules, clashes, named_kinds)

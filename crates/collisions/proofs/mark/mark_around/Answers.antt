@@ -15,5 +15,5 @@ returns c =
     let behind = c.mark_items-2.ensures in
     let second = rw (← before.same_name) at behind.marked.1 in
     around_left (search rules)
-    (around_done inner_depth (text c.args.s.now) c.args.s.now.end c.args.name c.args.index c.args.work.now _ _ c.args.x _ c.requires.room.1
+    (around_done inner_depth (text c.args.s.now) c.args.s.now.end c.args.name c.args.index c.args.work.now _ _ c.args.x _ c.requires.bounds.1
     c.clear_both.ensures before.marked.0 before.marked.1 behind.marked.0 second)

@@ -14,7 +14,7 @@ loop-i-preserved c =
       before.0 ∙ after.0.0,
       before.1 ∙ after.0.1,
       kept_trans before.2 after.0.2,
-      marking_more inner_depth c.requires.ordered.1 c.requires.room.0 before.2 c.item-e.ensures c.args.marker.now.name before.3
+      marking_more inner_depth c.requires.ordered.1 c.requires.bounds.0 before.2 c.item-e.ensures c.args.marker.now.name before.3
           c.loop-i-test.true walked,
     )
 

@@ -7,8 +7,8 @@ pub returns-then-n-eq0 : goal.returns-then-n-eq0
 returns-then-n-eq0 c = search (rules, leaf_laws, refers_room, refers_found)
 
 -- src/mark.rt:116:5
-pub mark_references-requires-clause-room : goal.mark_references-requires-clause-room
-mark_references-requires-clause-room c = search (rules, leaf_laws, refers_room, refers_found)
+pub mark_references-requires-clause-bounds : goal.mark_references-requires-clause-bounds
+mark_references-requires-clause-bounds c = search (rules, leaf_laws, refers_room, refers_found)
 
 -- src/mark.rt:95:1
 pub returns : goal.returns

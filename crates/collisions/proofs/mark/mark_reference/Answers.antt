@@ -3,8 +3,8 @@ use Rattle.collisions.proofs.mark.mark_reference.Goals as goal
 use Rattle.collisions.proofs.Laws.Mark.{reference_laws}
 
 -- src/mark.rt:61:9
-pub returns-then-kind-gt-QUALIFIED : goal.returns-then-kind-gt-QUALIFIED
-returns-then-kind-gt-QUALIFIED c = search (rules, reference_laws)
+pub returns-then-from-kind : goal.returns-then-from-kind
+returns-then-from-kind c = search (rules, reference_laws)
 
 -- src/mark.rt:43:1
 pub returns : goal.returns

@@ -4,8 +4,8 @@ use Rattle.grammar.specs.Laws.Fold.{folding_found, folding_more}
 use Rattle.collisions.proofs.Laws.Mark.{next_room, references_done, same}
 use Rattle.collisions.proofs.mark.mark_references.Goals as goal
 
-pub mark_reference-refers-requires-clause-room : goal.mark_reference-refers-requires-clause-room
-mark_reference-refers-requires-clause-room c =
+pub mark_reference-refers-requires-clause-bounds : goal.mark_reference-refers-requires-clause-bounds
+mark_reference-refers-requires-clause-bounds c =
     let room = next_room c.args.name c.loop.invariant.2 (λ e. absurd (omega arith)) in search (rules, same)
 
 pub mark_reference-refers-requires-clause-found_reference : goal.mark_reference-refers-requires-clause-found_reference

@@ -1,9 +1,12 @@
 use Rattle.std.proofs.Common.{rules, ⊎_elim}
 use Rattle.collisions.proofs.references.reference_count.Goals as goal
-use Rattle.collisions.proofs.Laws.Walks.{counts, refers_nothing}
+use Rattle.words.specs.Laws.Kinds.{named_kinds}
+use Rattle.collisions.proofs.Laws.Walks.{counts}
 
-pub returns-then-kind-eq-PREDICATE : goal.returns-then-kind-eq-PREDICATE
-returns-then-kind-eq-PREDICATE c = ⊎_elim (λ e. search (rules, counts)) (λ e. search (rules, counts)) c.if-kind-eq-PREDICATE.either
+pub returns-in-Action : goal.returns-in-Action
+returns-in-Action c =
+    ⊎_elim (λ e. search (rules, counts, named_kinds)) (λ e. search (rules, counts, named_kinds)) c.in-Action.is
 
-pub returns-else-kind-eq-PREDICATE : goal.returns-else-kind-eq-PREDICATE
-returns-else-kind-eq-PREDICATE c = let neither = c.if-kind-eq-PREDICATE.false in refers_nothing neither.0 neither.1
+pub returns-in_default : goal.returns-in_default
+returns-in_default c =
+    search (rules, counts, named_kinds)

@@ -8,8 +8,8 @@ pub compose_rules-w-requires-clause-new_rules_fit :
 compose_rules-w-requires-clause-new_rules_fit c = search (rules, composings)
 
 -- src/compose.rt:44:9
-pub write_end-last-requires-clause-room : goal.write_end-last-requires-clause-room
-write_end-last-requires-clause-room c = search (rules, composings)
+pub write_end-last-requires-clause-bounds : goal.write_end-last-requires-clause-bounds
+write_end-last-requires-clause-bounds c = search (rules, composings)
 
 -- src/compose.rt:44:9
 pub write_end-last-requires-clause-end_bound : goal.write_end-last-requires-clause-end_bound

@@ -3,8 +3,8 @@ use Rattle.compose.proofs.rules.add_hub.Goals as goal
 use Rattle.compose.proofs.Laws.Rules.{hubs}
 
 -- src/rules.rt:41:9
-pub write_hub-behind-requires-clause-room : goal.write_hub-behind-requires-clause-room
-write_hub-behind-requires-clause-room c = search (rules, hubs)
+pub write_hub-behind-requires-clause-bounds : goal.write_hub-behind-requires-clause-bounds
+write_hub-behind-requires-clause-bounds c = search (rules, hubs)
 
 -- src/rules.rt:41:9
 pub write_hub-behind-requires-clause-hub_fits : goal.write_hub-behind-requires-clause-hub_fits

@@ -23,7 +23,7 @@ pub copy_rules-requires-clause-fact : goal.copy_rules-requires-clause-fact
 copy_rules-requires-clause-fact c = (
   search (rules, fronts, front_open, last_open),
   search (rules, fronts, front_open, last_open),
-  last_fits c.requires.new_rules_fit c.requires.room.1 c.requires.fact.0 c.requires.laid.0 c.copy_rules-front.ensures c.add_hub-with.ensures,
+  last_fits c.requires.new_rules_fit c.requires.bounds.1 c.requires.fact.0 c.requires.laid.0 c.copy_rules-front.ensures c.add_hub-with.ensures,
 )
 
 -- src/rules.rt:50:1

@@ -1,4 +1,5 @@
 use Rattle.std.proofs.Common.{rules}
+use Rattle.words.specs.Laws.Kinds.{named_kinds}
 use Rattle.copies.proofs.copy.+tree.Goals as goal
 use native.Mathlib.Omega.{arith}
 use Rattle.grammar.specs.Laws.Found.{rooms, inner}
@@ -43,35 +44,35 @@ copy_alternatives-returns t c = search (rules, trees)
 -- src/copy.rt:38:9
 pub copy_element-element_head-head-requires :
     goal.copy_element-element_head-head-requires
-copy_element-element_head-head-requires t c = search (rules, trees)
+copy_element-element_head-head-requires t c = search (rules, trees, named_kinds)
 
 -- src/copy.rt:41:9
 pub copy_element-copy_head-inside-requires : goal.copy_element-copy_head-inside-requires
-copy_element-copy_head-inside-requires t c = search (rules, trees)
+copy_element-copy_head-inside-requires t c = search (rules, trees, named_kinds)
 
 -- src/copy.rt:44:13
 pub copy_element-copy_count-behind-requires : goal.copy_element-copy_count-behind-requires
-copy_element-copy_count-behind-requires t c = search (rules, trees)
+copy_element-copy_count-behind-requires t c = search (rules, trees, named_kinds)
 
 -- src/copy.rt:45:42
 pub copy_element-overflow_sub-depth : goal.copy_element-overflow_sub-depth
-copy_element-overflow_sub-depth t c = search (rules, trees)
+copy_element-overflow_sub-depth t c = search (rules, trees, named_kinds)
 
 -- src/copy.rt:45:9
 pub copy_element-copy_alternatives-requires : goal.copy_element-copy_alternatives-requires
-copy_element-copy_alternatives-requires t c = search (rules, trees)
+copy_element-copy_alternatives-requires t c = search (rules, trees, named_kinds)
 
 -- src/copy.rt:45:9
-pub copy_element-returns-then-kind-eq-BLOCK : goal.copy_element-returns-then-kind-eq-BLOCK
-copy_element-returns-then-kind-eq-BLOCK t c = search (rules, trees)
+pub copy_element-returns-in-Block : goal.copy_element-returns-in-Block
+copy_element-returns-in-Block t c = search (rules, trees, named_kinds)
 
 -- src/copy.rt:48:9
 pub copy_element-copy_leaf-last-requires : goal.copy_element-copy_leaf-last-requires
-copy_element-copy_leaf-last-requires t c = search (rules, trees)
+copy_element-copy_leaf-last-requires t c = search (rules, trees, named_kinds)
 
 -- src/copy.rt:22:1
-pub copy_element-returns : goal.copy_element-returns
-copy_element-returns t c = search (rules, trees)
+pub copy_element-returns-in_default : goal.copy_element-returns-in_default
+copy_element-returns-in_default t c = search (rules, trees, named_kinds)
 
 -- src/copy.rt:76:13
 pub copy_elements-copy_element-c-requires : goal.copy_elements-copy_element-c-requires

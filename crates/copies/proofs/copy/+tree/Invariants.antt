@@ -1,6 +1,5 @@
 use Rattle.words.specs.Sheet.{text}
 use Prim.Native.Nat.{◌+◌, ◌*◌}
-use Rattle.grammar.specs.Words.{words}
 use Rattle.copies.proofs.Laws.Copying.{ElementsCopying, AlternativesCopying}
 use Rattle.copies.proofs.copy.+tree.Given as goal
 

@@ -1,15 +1,13 @@
 use Rattle.std.proofs.Common.{rules}
 use Rattle.copies.proofs.parts.copy_leaf.Goals as goal
+use Rattle.words.specs.Laws.Kinds.{named_kinds}
 use Rattle.copies.proofs.Laws.Leaves.{leaves}
 
--- src/parts.rt:183:9
-pub returns-then-kind-eq-ACTION : goal.returns-then-kind-eq-ACTION
-returns-then-kind-eq-ACTION c = search (rules, leaves)
+pub returns-in-Action : goal.returns-in-Action
+returns-in-Action c = search (rules, leaves, named_kinds)
 
--- src/parts.rt:186:9
-pub returns-then-kind-eq-PREDICATE : goal.returns-then-kind-eq-PREDICATE
-returns-then-kind-eq-PREDICATE c = search (rules, leaves)
+pub returns-in-Predicate : goal.returns-in-Predicate
+returns-in-Predicate c = search (rules, leaves, named_kinds)
 
--- src/parts.rt:168:1
-pub returns : goal.returns
-returns c = search (rules, leaves)
+pub returns-in_default : goal.returns-in_default
+returns-in_default c = search (rules, leaves, named_kinds)

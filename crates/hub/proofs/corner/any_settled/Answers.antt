@@ -3,8 +3,8 @@ use Rattle.hub.proofs.corner.any_settled.Goals as goal
 use Rattle.hub.proofs.Laws.Able.{trying}
 
 -- src/corner.rt:84:13
-pub alternative_head-head-requires-clause-room : goal.alternative_head-head-requires-clause-room
-alternative_head-head-requires-clause-room c = search (rules, trying)
+pub alternative_head-head-requires-clause-bounds : goal.alternative_head-head-requires-clause-bounds
+alternative_head-head-requires-clause-bounds c = search (rules, trying)
 
 -- src/corner.rt:84:13
 pub alternative_head-head-requires-clause-found_alternative :

@@ -2,8 +2,8 @@ use Rattle.std.proofs.Common.{rules}
 use Rattle.listed.proofs.rules.rules.Goals as goal
 use Rattle.listed.proofs.Laws.Rules.{steps, listing_room}
 
-pub rule-p-requires-clause-room : goal.rule-p-requires-clause-room
-rule-p-requires-clause-room c = search (rules, steps, listing_room)
+pub rule-p-requires-clause-bounds : goal.rule-p-requires-clause-bounds
+rule-p-requires-clause-bounds c = search (rules, steps, listing_room)
 
 pub rule-p-requires-clause-found_rule : goal.rule-p-requires-clause-found_rule
 rule-p-requires-clause-found_rule c = search (rules, steps)

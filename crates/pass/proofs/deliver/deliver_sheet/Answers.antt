@@ -1,16 +1,14 @@
-use Rattle.std.proofs.Common.{rules}
+use Rattle.std.proofs.Common.{rules, sym, ◌∙◌, ◌≡◌}
+use Rattle.grammar.specs.Numbers.{parser}
 use Rattle.pass.proofs.deliver.deliver_sheet.Goals as goal
 use Rattle.pass.proofs.Laws.Read.{readings}
 
--- src/deliver.rt:33:9
-pub returns-then-parts-ne-PARSER-clause-answered :
-    goal.returns-then-parts-ne-PARSER-clause-answered
-returns-then-parts-ne-PARSER-clause-answered c = search (rules, readings)
+pub returns-then-parts-from-clause-answered : goal.returns-then-parts-from-clause-answered
+returns-then-parts-from-clause-answered c =
+    let other : c.args.read.parts.kind ≡ parser → ⊥ = λ e. c.if-parts-from.true (e ∙ sym c.from.ensures) in search (rules, readings)
 
--- src/deliver.rt:46:5
 pub run_unit-requires-clause-begun : goal.run_unit-requires-clause-begun
-run_unit-requires-clause-begun c = search (rules, readings)
+run_unit-requires-clause-begun c = let parses = c.if-parts-from.false ∙ c.from.ensures in search (rules, readings)
 
--- src/deliver.rt:16:1
 pub returns-clause-answered : goal.returns-clause-answered
-returns-clause-answered c = search (rules, readings)
+returns-clause-answered c = let parses = c.if-parts-from.false ∙ c.from.ensures in search (rules, readings)

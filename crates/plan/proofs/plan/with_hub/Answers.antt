@@ -4,8 +4,8 @@ use Rattle.analysis.proofs.Laws.Standing.{standing}
 use Rattle.plan.proofs.Laws.With.{hubs}
 
 -- src/plan.rt:157:8
-pub takes_arguments-requires-clause-room : goal.takes_arguments-requires-clause-room
-takes_arguments-requires-clause-room c = search (rules, hubs, standing)
+pub takes_arguments-requires-clause-bounds : goal.takes_arguments-requires-clause-bounds
+takes_arguments-requires-clause-bounds c = search (rules, hubs, standing)
 
 -- src/plan.rt:157:8
 pub takes_arguments-requires-clause-found_rule : goal.takes_arguments-requires-clause-found_rule

@@ -1,7 +1,7 @@
 use Rattle.std.proofs.Common.{rules, arith, ◌∙◌}
 use Rattle.records.proofs.records.+tree.Goals as goal
 use Rattle.records.proofs.Laws.Steps.{left_all, left_more, left_bad, left_done, many_steps}
-use Rattle.records.proofs.Laws.Trees.{trees}
+use Rattle.records.proofs.Laws.Trees.{trees, element_more, element_unknown}
 
 pub alternative_at-returns-then-left-lt5 : goal.alternative_at-returns-then-left-lt5
 alternative_at-returns-then-left-lt5 t c = search (rules, trees)
@@ -25,16 +25,17 @@ pub element_at-returns-then-left-lt6 : goal.element_at-returns-then-left-lt6
 element_at-returns-then-left-lt6 t c = search (rules, trees)
 
 pub element_at-returns : goal.element_at-returns
-element_at-returns t c = let found = c.in_ok-p.ensures in search (rules, trees)
+element_at-returns t c =
+    element_more _ _ _ _ c.word.ensures _ c.try_from.ensures c.in_ok-kind.ensures.value c.in_ok-p.ensures c.payload_at.ensures
 
 pub element_at-returns-in_err-p : goal.element_at-returns-in_err-p
 element_at-returns-in_err-p t c = let found = c.in_err-p.ensures in search (rules, trees)
 
-pub payload_at-returns-then-kind-eq-BLOCK : goal.payload_at-returns-then-kind-eq-BLOCK
-payload_at-returns-then-kind-eq-BLOCK t c = search (rules, trees)
+pub payload_at-returns-in-Block : goal.payload_at-returns-in-Block
+payload_at-returns-in-Block t c = search (rules, trees)
 
-pub payload_at-returns : goal.payload_at-returns
-payload_at-returns t c = search (rules, trees)
+pub payload_at-returns-in_default : goal.payload_at-returns-in_default
+payload_at-returns-in_default t c = search (rules, trees)
 
 pub alternatives_at-loop-init : goal.alternatives_at-loop-init
 alternatives_at-loop-init t c = left_all _ _ _
@@ -61,3 +62,7 @@ elements_at-returns-in_err-p t c =
 
 pub elements_at-returns : goal.elements_at-returns
 elements_at-returns t c = left_done _ c.loop.invariant (omega arith) ∙ many_steps _ _ _
+
+pub element_at-returns-in_err-kind : goal.element_at-returns-in_err-kind
+element_at-returns-in_err-kind t c =
+    element_unknown _ _ _ _ c.word.ensures _ c.try_from.ensures c.from_residual.ensures c.in_err-kind.ensures.value

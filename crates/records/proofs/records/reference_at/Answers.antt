@@ -7,8 +7,8 @@ pub returns-then-left-lt2 : goal.returns-then-left-lt2
 returns-then-left-lt2 c = search (rules, shorts, references)
 
 -- src/records.rt:78:9
-pub returns-then-word-gt-NON_LOCAL : goal.returns-then-word-gt-NON_LOCAL
-returns-then-word-gt-NON_LOCAL c = search (rules, shorts, references)
+pub returns-then-is_err : goal.returns-then-is_err
+returns-then-is_err c = search (rules, shorts, references)
 
 -- src/records.rt:81:9
 pub returns-then-is_name : goal.returns-then-is_name

@@ -7,8 +7,8 @@ pub put_names-requires-clause-told : goal.put_names-requires-clause-told
 put_names-requires-clause-told c = search (rules, standing, told)
 
 -- src/renew.rt:60:9
-pub survey_rule-v-requires-clause-room : goal.survey_rule-v-requires-clause-room
-survey_rule-v-requires-clause-room c = search (rules, standing)
+pub survey_rule-v-requires-clause-bounds : goal.survey_rule-v-requires-clause-bounds
+survey_rule-v-requires-clause-bounds c = search (rules, standing)
 
 -- src/renew.rt:60:9
 pub survey_rule-v-requires-clause-found_rule : goal.survey_rule-v-requires-clause-found_rule

@@ -17,8 +17,8 @@ returns-in_err-a-clause-advanced_of c =
     rw (p.1, p.2) (search (rules, advances, c.in_err-a.ensures.applied_of))
 
 -- src/turn.rt:110:9
-pub bring_up-requires-clause-room : goal.bring_up-requires-clause-room
-bring_up-requires-clause-room c = search (rules, advances, c.in_ok-a.ensures.applied_of)
+pub bring_up-requires-clause-bounds : goal.bring_up-requires-clause-bounds
+bring_up-requires-clause-bounds c = search (rules, advances, c.in_ok-a.ensures.applied_of)
 
 -- src/turn.rt:110:9
 pub bring_up-requires-clause-plans_bound : goal.bring_up-requires-clause-plans_bound

@@ -8,8 +8,8 @@ pub invariant_of-s : goal.invariant_of-s
 invariant_of-s c = record { room = midst_room c.requires.going.midst }
 
 -- src/turn.rt:142:9
-pub find_plan-found-requires-clause-room : goal.find_plan-found-requires-clause-room
-find_plan-found-requires-clause-room c = search (rules, turnings, turn_advancing)
+pub find_plan-found-requires-clause-bounds : goal.find_plan-found-requires-clause-bounds
+find_plan-found-requires-clause-bounds c = search (rules, turnings, turn_advancing)
 
 -- src/turn.rt:142:9
 pub find_plan-found-requires-clause-rules_known : goal.find_plan-found-requires-clause-rules_known

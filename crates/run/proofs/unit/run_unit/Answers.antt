@@ -8,8 +8,8 @@ pub invariant_of-s : goal.invariant_of-s
 invariant_of-s c = record { room = search (rules, loops, begins) }
 
 -- src/unit.rt:42:9
-pub find_out-ground-requires-clause-room : goal.find_out-ground-requires-clause-room
-find_out-ground-requires-clause-room c = search (rules, loops, begins)
+pub find_out-ground-requires-clause-bounds : goal.find_out-ground-requires-clause-bounds
+find_out-ground-requires-clause-bounds c = search (rules, loops, begins)
 
 -- src/unit.rt:42:9
 pub find_out-ground-requires-clause-standing : goal.find_out-ground-requires-clause-standing
@@ -20,7 +20,7 @@ pub loop-next-init : goal.loop-next-init
 loop-next-init c =
     let b = c.requires.buffers in
     let g = c.find_out-ground.ensures in (
-      looping_start b.0 b.1 b.2 b.3 b.4 c.requires.begun g.facts_found g.kept_of g.calls_len_2.0 g.calls_len_2.1 (search rules)
+      looping_start b.0 b.1 b.2 b.3 b.4 c.requires.begun g.facts_found g.kept_of g.lengths_after.0 g.lengths_after.1 (search rules)
           c.begin-st.ensures,
       refl,
       refl,
@@ -41,8 +41,8 @@ pub loop-next-preserved : goal.loop-next-preserved
 loop-next-preserved c =
     let t = rw c.in-Some.is at c.in_ok-next.ensures.turned_of in
     let o = c.in_ok-next.ensures in
-    let n = o.res_len_unchanged in
-    (looping_more c.loop-next.invariant.0 t n.0 n.1 n.2 o.calls_len_2.0 o.calls_len_2.1, omega arith, omega arith, omega arith)
+    let n = o.lengths_stay in
+    (looping_more c.loop-next.invariant.0 t n.0 n.1 n.2 o.lengths_after.0 o.lengths_after.1, omega arith, omega arith, omega arith)
 
 -- src/unit.rt:20:1
 pub returns-clause-run_of : goal.returns-clause-run_of

@@ -4,8 +4,8 @@ use Rattle.grammar.specs.Laws.Found.{rooms}
 use Rattle.splices.proofs.Laws.OptionsPut.{putting}
 
 -- src/options.rt:186:9
-pub option_count-n-requires-clause-room : goal.option_count-n-requires-clause-room
-option_count-n-requires-clause-room c = search (rules, rooms, putting)
+pub option_count-n-requires-clause-bounds : goal.option_count-n-requires-clause-bounds
+option_count-n-requires-clause-bounds c = search (rules, rooms, putting)
 
 -- src/options.rt:189:5
 pub loop-j-init : goal.loop-j-init

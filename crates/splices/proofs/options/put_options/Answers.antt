@@ -3,8 +3,8 @@ use Rattle.splices.proofs.options.put_options.Goals as goal
 use Rattle.splices.proofs.Laws.OptionsPut.{copying_first}
 
 -- src/options.rt:213:5
-pub put_new_options-requires-clause-room : goal.put_new_options-requires-clause-room
-put_new_options-requires-clause-room c = search (rules, copying_first)
+pub put_new_options-requires-clause-bounds : goal.put_new_options-requires-clause-bounds
+put_new_options-requires-clause-bounds c = search (rules, copying_first)
 
 -- src/options.rt:213:5
 pub put_new_options-requires-clause-options_fit : goal.put_new_options-requires-clause-options_fit

@@ -4,8 +4,8 @@ use Rattle.grammar.specs.Laws.Found.{rooms}
 use Rattle.splices.proofs.Laws.Places.{counted}
 
 -- src/places.rt:76:9
-pub alternative_head-head-requires-clause-room : goal.alternative_head-head-requires-clause-room
-alternative_head-head-requires-clause-room c = search (rules, rooms, counted)
+pub alternative_head-head-requires-clause-bounds : goal.alternative_head-head-requires-clause-bounds
+alternative_head-head-requires-clause-bounds c = search (rules, rooms, counted)
 
 -- src/places.rt:71:1
 pub returns : goal.returns

@@ -15,8 +15,8 @@ returns-in_err-more c =
     let w = c.in_err-more.was in
     rw (raised c.in_err-more.field-0.0 c.from_residual.result c.from_residual.ensures.1) (search (rules, bodies, sizing))
 
-pub count_one-z-requires-clause-room : goal.count_one-z-requires-clause-room
-count_one-z-requires-clause-room c = let w = c.in_ok-more.was in search (rules, bodies, sizing)
+pub count_one-z-requires-clause-bounds : goal.count_one-z-requires-clause-bounds
+count_one-z-requires-clause-bounds c = let w = c.in_ok-more.was in search (rules, bodies, sizing)
 
 pub count_one-z-requires-clause-small_size : goal.count_one-z-requires-clause-small_size
 count_one-z-requires-clause-small_size c = search (rules, bodies, sizing)

@@ -3,8 +3,8 @@ use Rattle.substitution.proofs.over.look_hand.Goals as goal
 use Rattle.substitution.proofs.Laws.Over.{looks}
 
 -- src/over.rt:90:11
-pub find_corner-requires-clause-room : goal.find_corner-requires-clause-room
-find_corner-requires-clause-room c = search (rules, looks)
+pub find_corner-requires-clause-bounds : goal.find_corner-requires-clause-bounds
+find_corner-requires-clause-bounds c = search (rules, looks)
 
 -- src/over.rt:74:1
 pub returns-in-Settled : goal.returns-in-Settled

@@ -1,6 +1,5 @@
 use Rattle.words.specs.Sheet.{text}
 use Prim.Native.Nat.{◌+◌, ◌-◌, ◌*◌}
-use Rattle.grammar.specs.Words.{words}
 use Rattle.grammar.specs.Laws.Fold.{ElementsFolding, AlternativesFolding}
 use Rattle.words.proofs.visit.+tree.Given as goal
 

@@ -5,8 +5,8 @@ use Rattle.grammar.specs.Laws.Fold.{folding_found, rules_room}
 use Rattle.words.proofs.Laws.Visit.{visited_more, visited_all}
 use Rattle.words.proofs.visit.walk_rules.Goals as goal
 
-pub walk_rule-p-requires-clause-room : goal.walk_rule-p-requires-clause-room
-walk_rule-p-requires-clause-room g c =
+pub walk_rule-p-requires-clause-bounds : goal.walk_rule-p-requires-clause-bounds
+walk_rule-p-requires-clause-bounds g c =
     let room = rules_room _ c.loop.invariant.2 (λ e. absurd (omega arith)) in search rules
 
 pub walk_rule-p-requires-clause-found_rule : goal.walk_rule-p-requires-clause-found_rule

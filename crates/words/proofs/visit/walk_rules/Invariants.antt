@@ -1,7 +1,6 @@
 use Rattle.words.specs.Sheet.{text}
 use Prim.Native.Nat.{◌-◌}
 use Rattle.grammar.specs.Tree.{inner_depth}
-use Rattle.grammar.specs.Words.{words}
 use Rattle.grammar.specs.Laws.Fold.{RulesFolding}
 use Rattle.words.proofs.visit.walk_rules.Given as goal
 

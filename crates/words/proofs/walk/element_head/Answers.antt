@@ -1,7 +1,10 @@
-use Rattle.std.proofs.Common.{rules}
 use Rattle.words.proofs.walk.element_head.Goals as goal
-use Rattle.grammar.specs.Laws.Found.{heads}
+use Rattle.words.proofs.Laws.Heads.{kind_known, kind_head}
 
--- src/walk.rt:33:1
+pub unwrap-kind-requires : goal.unwrap-kind-requires
+unwrap-kind-requires c = kind_known _ c.requires.found_element c.word-number.ensures _ c.try_from.ensures
+
 pub returns : goal.returns
-returns c = search (rules, heads)
+returns c =
+    kind_head _ c.requires.found_element c.word-number.ensures _ c.try_from.ensures c.unwrap-kind.ensures c.word.ensures
+    c.past_options-payload.ensures

@@ -1,23 +1,19 @@
 use Rattle.std.proofs.Common.{rules}
 use Rattle.words.proofs.walk.leaf_end.Goals as goal
-use Rattle.grammar.specs.Laws.Found.{heads}
+use Rattle.words.proofs.Laws.Heads.{kinds}
 
--- src/walk.rt:61:9
-pub returns-then-kind-eq-CALL : goal.returns-then-kind-eq-CALL
-returns-then-kind-eq-CALL c = search (rules, heads)
+-- src/walk.rt:56:1
+pub returns-in-Call : goal.returns-in-Call
+returns-in-Call c = search (rules, kinds)
 
--- src/walk.rt:64:9
-pub returns-then-kind-eq-TOKEN : goal.returns-then-kind-eq-TOKEN
-returns-then-kind-eq-TOKEN c = search (rules, heads)
+-- src/walk.rt:56:1
+pub returns-in-Token : goal.returns-in-Token
+returns-in-Token c = search (rules, kinds)
 
--- src/walk.rt:67:9
-pub returns-then-kind-eq-ACTION : goal.returns-then-kind-eq-ACTION
-returns-then-kind-eq-ACTION c = search (rules, heads)
+-- src/walk.rt:56:1
+pub returns-in-Action : goal.returns-in-Action
+returns-in-Action c = search (rules, kinds)
 
--- src/walk.rt:70:9
-pub returns-then-kind-eq-PREDICATE : goal.returns-then-kind-eq-PREDICATE
-returns-then-kind-eq-PREDICATE c = search (rules, heads)
-
--- src/walk.rt:54:1
-pub returns : goal.returns
-returns c = search (rules, heads)
+-- src/walk.rt:56:1
+pub returns-in-Epsilon : goal.returns-in-Epsilon
+returns-in-Epsilon c = search (rules, kinds)

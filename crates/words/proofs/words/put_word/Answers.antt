@@ -3,5 +3,5 @@ use Rattle.words.proofs.words.put_word.Goals as goal
 use Rattle.words.proofs.Laws.Words.{put_word_law}
 
 -- src/words.rt:41:1
-pub returns-clause-s_after : goal.returns-clause-s_after
-returns-clause-s_after c = search (rules, put_word_law)
+pub returns-clause-words_after : goal.returns-clause-words_after
+returns-clause-words_after c = search (rules, put_word_law)

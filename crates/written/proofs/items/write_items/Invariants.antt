@@ -1,5 +1,4 @@
 use Rattle.words.specs.Sheet.{text}
-use Rattle.grammar.specs.Words.{words}
 use Rattle.written.proofs.Laws.Items.{Drawing}
 use Rattle.written.proofs.items.write_items.Given as goal
 

@@ -1,5 +1,4 @@
 use Rattle.words.specs.Sheet.{text}
-use Rattle.grammar.specs.Words.{words}
 use Rattle.written.proofs.Laws.Listing.{Listing}
 use Rattle.written.proofs.list.write_list.Given as goal
 
