@@ -35,16 +35,15 @@ impl Rules {
     }
 
     // One rule more.
-    fn with(mut self, id: u32, name: u32, place: u32) -> Rules
-        requires { self.n < rule_limit }
-        ensures { IsWith self id name place result }
+    fn add(&mut self, id: u32, name: u32, place: u32)
+        requires { self.old.n < rule_limit }
+        ensures { IsWith self.old id name place self.new }
     {
         let n = self.n as usize;
         self.ids[n] = id;
         self.names[n] = name;
         self.places[n] = place;
         self.n += 1;
-        self
     }
 }
 
@@ -81,8 +80,7 @@ pub fn read_rules(s: &[u8], end: usize) -> Option<Rules>
             return None;
         }
         let p = rule_at(s, end, at)?;
-        let more = rules.with(word(s, at), word(s, at + 1), at as u32);
-        rules = more;
+        rules.add(word(s, at), word(s, at + 1), at as u32);
         at = p;
     }
     Some(rules)

@@ -11,6 +11,7 @@ use Rattle.writing.specs.declared.counters.Counters.{Counters}
 use Rattle.writing.specs.Taken.{counters_of}
 use Rattle.words.specs.declared.numbers.Refusal.{Refusal}
 use Rattle.words.specs.Refusal.{refusal_number}
+use Rattle.records.specs.declared.rules.Rules.{Rules}
 use Rattle.sheet.specs.declared.answer.Parts.{Parts}
 use Rattle.sheet.specs.declared.answer.Reading.{Reading}
 use Rattle.records.specs.Rules.{RowsOf}
@@ -47,6 +48,11 @@ answer_of (sheet s) = Ok (parts_of s)
 abbrev pub told_of : Result Reading Refusal → Result Parts ℕ
 told_of (Err e) = Err (refusal_number e)
 told_of (Ok r) = Ok r.parts
+
+-- What is read, by its rules and what the judgement of them is.
+abbrev pub reading_of : Rules → Result Parts Refusal → Result Reading Refusal
+reading_of rules (Ok parts) = Ok (record { parts = parts; rules = rules })
+reading_of rules (Err e) = Err e
 
 -- The number for each case of the answer, 0 for a sheet, and the values that the case has (SPECIFICATION 3.8): unit kind,
 -- place and length of the preserved list, and the five counters.

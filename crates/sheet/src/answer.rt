@@ -5,7 +5,7 @@ ghost use Rattle.grammar.specs.Words.{words};
 ghost use Rattle.grammar.specs.Parse.{got};
 ghost use Rattle.grammar.specs.Reading.{is_length, is_trailer, judge, read_words};
 ghost use Rattle.records.specs.Rules.{FoundRows};
-ghost use Rattle.sheet.specs.Answer.{CountersAt, EndAt, Lent, ReadAs, TrailerAt};
+ghost use Rattle.sheet.specs.Answer.{CountersAt, EndAt, Lent, ReadAs, TrailerAt, reading_of};
 
 use crate::judge::judge;
 use ids::lists::is_rising;
@@ -76,23 +76,22 @@ fn counters_at(s: &[u8], t: usize) -> Counters
     }
 }
 
-// Refusals 5 and 6, or the sheet; its records are good.
-fn judged(s: &[u8], t: usize, end: usize, rules: Rules, work: &mut [u8]) -> Result<Reading, Refusal>
+// Refusals 5 and 6, or the parts of the sheet; its records are good. The rules are lent, so that their arrays stand once.
+fn judged(s: &[u8], t: usize, end: usize, rules: &Rules, work: &mut [u8]) -> Result<Parts, Refusal>
     requires lent { Lent s.now work.old × EndAt s.now t end }
-    requires found_rows { FoundRows (words s.now) end rules }
-    ensures { (f : FoundRows (words s.now) end rules)
-        → ReadAs (judge (words s.now) (got f.found.trees end)) result }
+    requires found_rows { FoundRows (words s.now) end rules.now }
+    ensures { (f : FoundRows (words s.now) end rules.now)
+        → ReadAs (judge (words s.now) (got f.found.trees end)) (reading_of rules.now result) }
 {
     let counters = counters_at(s, t);
     let sheet = Sheet { bytes: s, end };
-    judge(&sheet, rules, counters, work)?;
-    let parts = Parts {
+    judge(&sheet, *rules, counters, work)?;
+    Ok(Parts {
         kind: word(s, t),
         preserved: end as u32,
         count: word(s, t + 2),
         counters,
-    };
-    Ok(Reading { parts, rules })
+    })
 }
 
 // The whole reading of a sheet of good length. Of the work area its length stays, and nothing else is known.
@@ -106,9 +105,12 @@ pub fn examine(s: &[u8], work: &mut [u8]) -> Result<Reading, Refusal>
         return Err(Refusal::BadTrailer);
     }
     let end = rules_end(s, t);
-    let rules = read_rules(s, end).ok_or(Refusal::BadRecord)?;
+    let Some(rules) = read_rules(s, end) else {
+        return Err(Refusal::BadRecord);
+    };
     if !is_rising(s, end, t - end) {
         return Err(Refusal::BadRecord);
     }
-    judged(s, t, end, rules, work)
+    let parts = judged(s, t, end, &rules, work)?;
+    Ok(Reading { parts, rules })
 }

@@ -34,9 +34,7 @@ fn rows_are_distinct(rules: Rules, work: &mut [u8]) -> bool
     ensures { result ≡ (distinct (take rules.n rules.ids) && distinct (take rules.n rules.names)) }
 {
     let n = rules.n as usize;
-    let ids = rules.ids;
-    let names = rules.names;
-    row_is_distinct(&ids, n, work) && row_is_distinct(&names, n, work)
+    row_is_distinct(&rules.ids, n, work) && row_is_distinct(&rules.names, n, work)
 }
 
 // Whether no two ids of one sort are equal: those that rise are not, the others are collected and parted.

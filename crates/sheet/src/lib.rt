@@ -65,15 +65,11 @@ pub fn read_sheet(
             *places = [0; 128];
         }
         Ok(r) => {
-            let rules = r.rules;
-            let sizes = counted(sheet, r.parts, rules.n);
-            let a = rules.ids;
-            let b = rules.names;
-            let c = rules.places;
+            let sizes = counted(sheet, r.parts, r.rules.n);
             *numbers = sheet_numbers(r.parts, sizes);
-            *ids = a;
-            *names = b;
-            *places = c;
+            ids.copy_from_slice(&r.rules.ids);
+            names.copy_from_slice(&r.rules.names);
+            places.copy_from_slice(&r.rules.places);
         }
     }
 }

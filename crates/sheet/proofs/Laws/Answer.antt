@@ -28,7 +28,7 @@ use Rattle.grammar.specs.Laws.Sound.{rules_sound}
 use Rattle.writing.specs.declared.counters.Counters.{Counters}
 use Rattle.writing.specs.Taken as taken
 use Rattle.records.specs.declared.rules.Rules.{Rules}
-use Rattle.std.specs.Prelude.{Option, Some, None, Result, Ok, Err, is_some, is_ok, is_err, ok_or}
+use Rattle.std.specs.Prelude.{Option, Some, None, Result, Ok, Err, is_some, is_ok, is_err}
 use Rattle.words.specs.declared.numbers.UnitKind.{UnitKind}
 use Rattle.words.specs.declared.numbers.Unnamed.{Unnamed}
 use Rattle.words.specs.Kinds.{Names, unit_number}
@@ -196,14 +196,6 @@ bad_of : {A : Type 0} (g : Got A) → is_got g ≡ false → g ≡ bad
 bad_of (got a q) e = absurd (let z : ◌≡◌ {A = ℕ} 0 1 = cc in omega arith)
 bad_of bad e = refl
 
-is_given : {A : Type 0} {o : Option A} {a : A} → Ok a ≡ ok_or o BadRecord → o ≡ Some a
-is_given {o = Some b} e = cc
-is_given {o = None} e = absurd (let z : ◌≡◌ {A = ℕ} 0 1 = cc in omega arith)
-
-not_given : {A : Type 0} {o : Option A} {x : Refusal} → Err x ≡ ok_or o BadRecord → (o ≡ None) × (x ≡ BadRecord)
-not_given {o = Some b} e = absurd (let z : ◌≡◌ {A = ℕ} 0 1 = cc in omega arith)
-not_given {o = None} e = (refl, cc)
-
 record GotRules (ws : List ℕ) (end : ℕ) (rules : Rules) : Type 0 where
   rows : FoundRows ws end rules
   is : rules_at ws end rule_limit 0 ≡ got rows.found.trees end
@@ -231,8 +223,8 @@ module _ {ws : List ℕ} {end : ℕ} {r : Option Rules} (f : RulesRead ws end r)
           is = g.2 ∙ ap (got g.0) y.ends;
         }
 
-  pub rows_found : {rules : Rules} → Ok rules ≡ ok_or r BadRecord → FoundRows ws end rules
-  rows_found e = (rules_got (is_given e)).rows
+  pub rows_found : {rules : Rules} → r ≡ Some rules → FoundRows ws end rules
+  rows_found e = (rules_got e).rows
 
 -- the records in front of the trailer
 module _ (bs : List ℕ) {b : Bool} (e : b ≡ is_trailer (words bs)) where
@@ -270,15 +262,11 @@ module _ (bs : List ℕ) {b : Bool} (e : b ≡ is_trailer (words bs)) where
           rw end_is (rw (here bs k.place, n) refl)
 
       module _ {r : Option Rules} (f : RulesRead (words bs) end r) where
-        pub rules_refused : {x : Refusal} → Err x ≡ ok_or r BadRecord → ReadAs (read_words (words bs)) (Err x)
+        pub rules_refused : r ≡ None → ReadAs (read_words (words bs)) (Err BadRecord)
         unfolding judge
-        rules_refused o =
-            let g = not_given o in rw g.1 (read_refused {n = bad_record} BadRecord (opened ∙ rw (rules_bad f g.0) refl) refl)
+        rules_refused o = read_refused {n = bad_record} BadRecord (opened ∙ rw (rules_bad f o) refl) refl
 
-        module _ {rules : Rules} (o : Ok rules ≡ ok_or r BadRecord) {c : Bool} (i : c ≡ rising (take (t - end) (drop end (words bs)))) where
-          g : r ≡ Some rules
-          g = is_given o
-
+        module _ {rules : Rules} (g : r ≡ Some rules) {c : Bool} (i : c ≡ rising (take (t - end) (drop end (words bs)))) where
           pub rising_refused : c ≡ false → ReadAs (read_words (words bs)) (Err BadRecord)
           unfolding judge
           rising_refused j =

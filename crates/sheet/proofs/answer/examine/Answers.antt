@@ -9,21 +9,26 @@ returns-then-not-is_trailer-clause-read_as c = search (rules, examines)
 pub rules_end-end-requires : goal.rules_end-end-requires
 rules_end-end-requires c = search (rules, examines)
 
-pub returns-in_err-rules-clause-read_as : goal.returns-in_err-rules-clause-read_as
-returns-in_err-rules-clause-read_as c =
-    let p = err_from_is_err_and c.from_residual.result c.from_residual.ensures.1 in
-    rw (p.1, p.2)
-    (rules_refused _ c.is_trailer.ensures c.if-not-is_trailer.false c.rules_end-end.ensures c.read_rules.ensures c.in_err-rules.ensures.value)
+pub returns-in_default-clause-read_as : goal.returns-in_default-clause-read_as
+returns-in_default-clause-read_as c =
+    rules_refused _ c.is_trailer.ensures c.if-not-is_trailer.false c.rules_end-end.ensures c.read_rules.ensures c.in_default.is
 
 pub returns-then-not-is_rising-clause-read_as : goal.returns-then-not-is_rising-clause-read_as
 returns-then-not-is_rising-clause-read_as c =
-    rising_refused _ c.is_trailer.ensures c.if-not-is_trailer.false c.rules_end-end.ensures c.read_rules.ensures c.in_ok-rules.ensures.value
+    rising_refused _ c.is_trailer.ensures c.if-not-is_trailer.false c.rules_end-end.ensures c.read_rules.ensures c.in-Some.is
     c.is_rising.ensures c.if-not-is_rising.true
 
 pub judged-requires-clause-found_rows : goal.judged-requires-clause-found_rows
-judged-requires-clause-found_rows c = rows_found c.read_rules.ensures c.in_ok-rules.ensures.value
+judged-requires-clause-found_rows c = rows_found c.read_rules.ensures c.in-Some.is
+
+pub returns-in_err-parts-clause-read_as : goal.returns-in_err-parts-clause-read_as
+returns-in_err-parts-clause-read_as c =
+    let p = err_from_is_err_and c.from_residual.result c.from_residual.ensures.1 in
+    rw (p.1, p.2)
+    (goes_on _ c.is_trailer.ensures c.if-not-is_trailer.false c.rules_end-end.ensures c.read_rules.ensures c.in-Some.is
+    c.is_rising.ensures c.if-not-is_rising.false c.in_err-parts.ensures)
 
 pub returns-clause-read_as : goal.returns-clause-read_as
 returns-clause-read_as c =
-    goes_on _ c.is_trailer.ensures c.if-not-is_trailer.false c.rules_end-end.ensures c.read_rules.ensures c.in_ok-rules.ensures.value
-    c.is_rising.ensures c.if-not-is_rising.false c.judged.ensures
+    goes_on _ c.is_trailer.ensures c.if-not-is_trailer.false c.rules_end-end.ensures c.read_rules.ensures c.in-Some.is
+    c.is_rising.ensures c.if-not-is_rising.false c.in_ok-parts.ensures
