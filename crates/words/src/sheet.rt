@@ -2,7 +2,7 @@
 ghost use Rattle.words.specs.Room.{Room};
 
 // Its bytes, and the word at which its rules end. Behind that word there is room for the trailer.
-#[derive(Clone, Copy)]
+#[derive(Clone, Copy, Debug, PartialEq, Eq)]
 pub struct Sheet<'a> {
     pub bytes: &'a [u8],
     pub end: usize,
