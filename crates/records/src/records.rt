@@ -11,13 +11,6 @@ ghost use Rattle.records.specs.Step.{is_fixed, named, repeated, step_of};
 use words::numbers::{AlternativeFlag, Kind, Name, Quantifier, ReferenceKind};
 use words::words::word;
 
-// The words from `at` to the end, none where `at` is past it.
-pub fn left(at: usize, end: usize) -> usize
-    ensures { result ≡ end - at }
-{
-    end.saturating_sub(at)
-}
-
 pub fn is_name(w: u32) -> bool
     ensures { result ≡ is_name w }
 {
@@ -35,7 +28,7 @@ fn named_at(s: &[u8], end: usize, n: usize, at: usize) -> Option<usize>
     requires { (4 * end ≤ length s.now) × (1 ≤ n) }
     ensures { result ≡ step_of (named (words s.now) end n at) }
 {
-    if left(at, end) < n {
+    if end.saturating_sub(at) < n {
         return None;
     }
     if is_name(word(s, at)) {
@@ -75,7 +68,7 @@ fn reference_at(s: &[u8], end: usize, at: usize) -> Option<usize>
     requires { 4 * end ≤ length s.now }
     ensures { result ≡ step_of (reference_at (words s.now) end at) }
 {
-    if left(at, end) < 2 {
+    if end.saturating_sub(at) < 2 {
         return None;
     }
     if ReferenceKind::try_from(word(s, at)).is_err() {
@@ -99,7 +92,7 @@ fn body_at(s: &[u8], end: usize, at: usize) -> Option<usize>
     requires { 4 * end ≤ length s.now }
     ensures { result ≡ step_of (body_at (words s.now) end action_of at) }
 {
-    if left(at, end) < 2 {
+    if end.saturating_sub(at) < 2 {
         return None;
     }
     references_at(s, end, word(s, at + 1), at + 2)
@@ -173,7 +166,7 @@ fn element_at(s: &[u8], end: usize, depth: u32, at: usize) -> Option<usize>
     requires { 4 * end ≤ length s.now }
     ensures { result ≡ step_of (element_at (words s.now) end (block_at (words s.now) end depth) at) }
 {
-    if left(at, end) < 6 {
+    if end.saturating_sub(at) < 6 {
         return None;
     }
     let kind = Kind::try_from(word(s, at + 2) % Kind::END).ok()?;
@@ -200,7 +193,7 @@ fn alternative_at(s: &[u8], end: usize, depth: u32, at: usize) -> Option<usize>
     requires { 4 * end ≤ length s.now }
     ensures { result ≡ step_of (alternative_at (words s.now) end (block_at (words s.now) end depth) at) }
 {
-    if left(at, end) < 5 {
+    if end.saturating_sub(at) < 5 {
         return None;
     }
     if AlternativeFlag::MOST < word(s, at + 2) {
@@ -232,7 +225,7 @@ pub fn block_at(s: &[u8], end: usize, depth: u32, at: usize) -> Option<usize>
     if depth == 0 {
         return None;
     }
-    if left(at, end) < 1 {
+    if end.saturating_sub(at) < 1 {
         return None;
     }
     alternatives_at(s, end, depth - 1, word(s, at), at + 1)

@@ -7,12 +7,12 @@ ghost use Rattle.grammar.specs.Read.{block_at, rule_at};
 ghost use Rattle.records.specs.Step.{step_of};
 ghost use Rattle.records.specs.Rules.{IsEmpty, IsWith, RulesRead};
 
-use crate::records::{block_at, is_name, left};
+use crate::records::{block_at, is_name};
 use words::numbers::{Block, RuleFlags};
 use words::words::word;
 
 // One row of each array for each rule, zeros behind; a place is counted in words.
-#[derive(Clone, Copy)]
+#[derive(Clone, Copy, Debug, PartialEq, Eq)]
 pub struct Rules {
     pub ids: [u32; 128],
     pub names: [u32; 128],
@@ -52,7 +52,7 @@ fn rule_at(s: &[u8], end: usize, at: usize) -> Option<usize>
     requires { 4 * end ≤ length s.now }
     ensures { result ≡ step_of (rule_at (words s.now) end (block_at (words s.now) end body_depth) at) }
 {
-    if left(at, end) < 3 {
+    if end.saturating_sub(at) < 3 {
         return None;
     }
     if RuleFlags::MOST < word(s, at + 2) {
@@ -76,7 +76,7 @@ pub fn read_rules(s: &[u8], end: usize) -> Option<Rules>
         if n == Rules::LIMIT {
             return None;
         }
-        if left(at, end) < 3 {
+        if end.saturating_sub(at) < 3 {
             return None;
         }
         let p = rule_at(s, end, at)?;

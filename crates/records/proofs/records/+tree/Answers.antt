@@ -3,8 +3,8 @@ use Rattle.records.proofs.records.+tree.Goals as goal
 use Rattle.records.proofs.Laws.Steps.{left_all, left_more, left_bad, left_done, many_steps}
 use Rattle.records.proofs.Laws.Trees.{trees, element_more, element_unknown}
 
-pub alternative_at-returns-then-left-lt5 : goal.alternative_at-returns-then-left-lt5
-alternative_at-returns-then-left-lt5 t c = search (rules, trees)
+pub alternative_at-returns-then-saturating_sub-lt5 : goal.alternative_at-returns-then-saturating_sub-lt5
+alternative_at-returns-then-saturating_sub-lt5 t c = search (rules, trees)
 
 pub alternative_at-returns-then-word-gt-MOST : goal.alternative_at-returns-then-word-gt-MOST
 alternative_at-returns-then-word-gt-MOST t c = search (rules, trees)
@@ -15,14 +15,14 @@ alternative_at-returns t c = let found = c.in_ok-p.ensures in search (rules, tre
 pub alternative_at-returns-in_err-p : goal.alternative_at-returns-in_err-p
 alternative_at-returns-in_err-p t c = let found = c.in_err-p.ensures in search (rules, trees)
 
-pub block_at-returns-then-left-lt1 : goal.block_at-returns-then-left-lt1
-block_at-returns-then-left-lt1 t c = search (rules, trees)
+pub block_at-returns-then-saturating_sub-lt1 : goal.block_at-returns-then-saturating_sub-lt1
+block_at-returns-then-saturating_sub-lt1 t c = search (rules, trees)
 
 pub block_at-returns : goal.block_at-returns
 block_at-returns t c = search (rules, trees)
 
-pub element_at-returns-then-left-lt6 : goal.element_at-returns-then-left-lt6
-element_at-returns-then-left-lt6 t c = search (rules, trees)
+pub element_at-returns-then-saturating_sub-lt6 : goal.element_at-returns-then-saturating_sub-lt6
+element_at-returns-then-saturating_sub-lt6 t c = search (rules, trees)
 
 pub element_at-returns : goal.element_at-returns
 element_at-returns t c =

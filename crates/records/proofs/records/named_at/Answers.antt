@@ -2,8 +2,8 @@ use Rattle.std.proofs.Common.{rules}
 use Rattle.records.proofs.records.named_at.Goals as goal
 use Rattle.records.proofs.Laws.Records.{shorts, names}
 
-pub returns-then-left-n : goal.returns-then-left-n
-returns-then-left-n c = search (rules, shorts, names)
+pub returns-then-saturating_sub-n : goal.returns-then-saturating_sub-n
+returns-then-saturating_sub-n c = search (rules, shorts, names)
 
 pub returns-then-is_name : goal.returns-then-is_name
 returns-then-is_name c = search (rules, shorts, names)

@@ -3,8 +3,8 @@ use Rattle.records.proofs.records.reference_at.Goals as goal
 use Rattle.records.proofs.Laws.Records.{shorts, references}
 
 -- src/records.rt:75:9
-pub returns-then-left-lt2 : goal.returns-then-left-lt2
-returns-then-left-lt2 c = search (rules, shorts, references)
+pub returns-then-saturating_sub-lt2 : goal.returns-then-saturating_sub-lt2
+returns-then-saturating_sub-lt2 c = search (rules, shorts, references)
 
 -- src/records.rt:78:9
 pub returns-then-is_err : goal.returns-then-is_err

@@ -11,8 +11,8 @@ pub returns-then-n-eq-LIMIT : goal.returns-then-n-eq-LIMIT
 returns-then-n-eq-LIMIT c = search (rules, reads)
 
 -- src/rules.rt:95:13
-pub returns-then-left-lt3 : goal.returns-then-left-lt3
-returns-then-left-lt3 c = search (rules, reads)
+pub returns-then-saturating_sub-lt3 : goal.returns-then-saturating_sub-lt3
+returns-then-saturating_sub-lt3 c = search (rules, reads)
 
 -- src/rules.rt:98:26
 pub returns-in_err-p : goal.returns-in_err-p

@@ -3,8 +3,8 @@ use Rattle.records.proofs.rules.rule_at.Goals as goal
 use Rattle.records.proofs.Laws.Trees.{rule_laws}
 
 -- src/rules.rt:57:9
-pub returns-then-left-lt3 : goal.returns-then-left-lt3
-returns-then-left-lt3 c = search (rules, rule_laws)
+pub returns-then-saturating_sub-lt3 : goal.returns-then-saturating_sub-lt3
+returns-then-saturating_sub-lt3 c = search (rules, rule_laws)
 
 -- src/rules.rt:60:9
 pub returns-then-word-gt-MOST : goal.returns-then-word-gt-MOST
