@@ -7,3 +7,4 @@ pub mod Kept
 pub mod Same
 pub mod Counts
 pub mod Room
+pub mod Ahead

@@ -16,7 +16,7 @@ use Rattle.planned.specs.List.{Laid, Located, ListedIn, AllIn}
 use Rattle.planned.specs.Reading.{settled_from, OnTrack, AtFront, ReadNext}
 use Rattle.planned.specs.Laws.Counts.{elements_all, options_all, count_elements, count_options, alternatives_in_lem, elements_in_lem, options_in_lem}
 use Rattle.planned.specs.Laws.Items.{unmarked, is_marked_lem}
-use Rattle.planned.specs.Laws.Runs.{run_count}
+use Rattle.planned.specs.Laws.Ahead.{all_ahead, one_ahead}
 use Rattle.planned.specs.declared.list.Sizes.{Sizes}
 use Rattle.planned.specs.declared.list.Listed.{Listed}
 use Rattle.planned.specs.declared.read.Cursor.{Cursor}
@@ -124,24 +124,6 @@ pub ruleset listing = (listed_new, listed_kept, listed_under)
 -- As much as several may take.
 abbrev most_of_all : (d : ℕ) → List (Planned d) → ℕ
 most_of_all d ps = most_words * elements_all ps + 2 * options_all ps + 5 * length ps
-
--- Of the settled ones all are ahead from the front, and reading one leaves one less.
-all_ahead : (bs : List ℕ) (l : Sizes) {c : Cursor} → AtFront c → l.outa - c.a ≡ l.outa - 0
-unfolding settled_from settled
-all_ahead bs l {c} k =
-    let e = ap length (k.all [] 0 0 bs l) in
-    let a = run_count bs [] 0 0 (l.outa - c.a) c.a c.e c.o in
-    let b = run_count bs [] 0 0 l.outa 0 0 0 in
-    omega arith
-
-one_ahead : {bs : List ℕ} {l : Sizes} {c : Cursor} {x : Listed} {next : Cursor} → ReadNext bs l c x next
-    → l.outa - c.a ≡ l.outa - next.a + 1
-unfolding settled_from
-one_ahead {bs} {l} {c} {x} {next} n =
-    let e = ap length (n.first [] 0 0) in
-    let a = run_count bs [] 0 0 (l.outa - c.a) c.a c.e c.o in
-    let b = run_count bs [] 0 0 (l.outa - next.a) next.a next.e next.o in
-    omega arith
 
 -- The loop over the settled ones.
 module _ (ws : List ℕ) (end d : ℕ) (bs : List ℕ) (l : Sizes) where

@@ -9,10 +9,10 @@ use Rattle.grammar.specs.Encode.{encode_alternative, encode_block}
 use Rattle.grammar.specs.Lists.{each}
 use Rattle.reference.specs.Substitute.{Planned}
 use Rattle.reference.specs.Apply.{fresh_each, apply_alternative}
-use Rattle.planned.specs.Layout.{meaning, records_from, settled}
+use Rattle.planned.specs.Layout.{meaning, records_from}
 use Rattle.planned.specs.List.{Laid, AllIn}
 use Rattle.planned.specs.Reading.{settled_from, OnTrack, AtFront}
-use Rattle.planned.specs.Laws.Runs.{run_count}
+use Rattle.planned.specs.Laws.Ahead.{all_ahead, one_ahead}
 use Rattle.planned.specs.declared.list.Sizes.{Sizes}
 use Rattle.planned.specs.declared.list.Listed.{Listed}
 use Rattle.planned.specs.declared.read.Cursor.{Cursor}
@@ -25,24 +25,6 @@ use Rattle.heads.specs.Laws.Front.{front_wrote, front_laid, front_all_in, front_
 use Rattle.written.specs.Items.{Readable}
 use Rattle.written.specs.Planned.{AlternativeFits, AlternativeDrawn, ListFits, ListDrawn, drawn_list}
 use Rattle.written.specs.Laws.Apply.{grows_apply}
-
--- Of the settled ones all are ahead from the front, and reading one leaves one less.
-all_ahead : (bs : List ℕ) (l : Sizes) {c : Cursor} → AtFront c → l.outa - c.a ≡ l.outa - 0
-unfolding settled_from settled
-all_ahead bs l {c} k =
-    let e = ap length (k.all [] 0 0 bs l) in
-    let a = run_count bs [] 0 0 (l.outa - c.a) c.a c.e c.o in
-    let b = run_count bs [] 0 0 l.outa 0 0 0 in
-    omega arith
-
-one_ahead : {bs : List ℕ} {l : Sizes} {c : Cursor} {x : Listed} {next : Cursor} → ReadHere bs l c x next
-    → l.outa - c.a ≡ l.outa - next.a + 1
-unfolding settled_from
-one_ahead {bs} {l} {c} {x} {next} r =
-    let e = ap length (r.read.first [] 0 0) in
-    let a = run_count bs [] 0 0 (l.outa - c.a) c.a c.e c.o in
-    let b = run_count bs [] 0 0 (l.outa - next.a) next.a next.e next.o in
-    omega arith
 
 module _ (ws : List ℕ) (end d : ℕ) (l : Sizes) (b₀ t₀ : List ℕ) (p₀ : Pen) where
   abbrev enc : AlternativeOf (Block d) → List ℕ
@@ -142,7 +124,7 @@ module _ (ws : List ℕ) (end d : ℕ) (l : Sizes) (b₀ t₀ : List ℕ) (p₀ 
             laid = front_laid front g.laid;
             all_in = front_all_in front g.laid g.all_in;
             on = front_track front g.laid r.read.on;
-            place = let z = g.place in let y = one_ahead r in omega arith;
+            place = let z = g.place in let y = one_ahead r.read in omega arith;
             fits =
                 subst (λ ps. Fits (each enc) (fresh_each (apply_alternative d) ps (counters_of p'.counters)) b' t' p') (sym same)
                 (fits_rest enc (apply_alternative d) (meaning ws end d b x) (left b next) e k opened);

@@ -1,5 +1,4 @@
 use Rattle.words.specs.Sheet.{text}
-use Rattle.grammar.specs.Words.{words}
 use Rattle.sizes.proofs.Laws.Elements.{Adding}
 use Rattle.sizes.proofs.measure.measure_elements.Given as goal
 

@@ -1,5 +1,4 @@
 use Rattle.words.specs.Sheet.{text}
-use Rattle.grammar.specs.Words.{words}
 use Rattle.sizes.proofs.Laws.Settled.{Measuring}
 use Rattle.sizes.proofs.measure.measure_list.Given as goal
 

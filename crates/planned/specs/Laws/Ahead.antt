@@ -1,0 +1,30 @@
+-- How many settled alternatives are ahead of a position.
+use Prim.Native.Nat.{ℕ, ◌+◌, ◌-◌}
+use mathlib.Core.Path.{◌≡◌, ap}
+use mathlib.Core.List.{List, []}
+use native.Mathlib.Omega.{arith}
+use lib.ListN.{length}
+use Rattle.planned.specs.Layout.{settled}
+use Rattle.planned.specs.Reading.{settled_from, AtFront, ReadNext}
+use Rattle.planned.specs.Laws.Runs.{run_count}
+use Rattle.planned.specs.declared.list.Sizes.{Sizes}
+use Rattle.planned.specs.declared.list.Listed.{Listed}
+use Rattle.planned.specs.declared.read.Cursor.{Cursor}
+
+-- From the front all of them are, and reading one leaves one less.
+pub all_ahead : (bs : List ℕ) (l : Sizes) {c : Cursor} → AtFront c → l.outa - c.a ≡ l.outa - 0
+unfolding settled_from settled
+all_ahead bs l {c} k =
+    let e = ap length (k.all [] 0 0 bs l) in
+    let a = run_count bs [] 0 0 (l.outa - c.a) c.a c.e c.o in
+    let b = run_count bs [] 0 0 l.outa 0 0 0 in
+    omega arith
+
+pub one_ahead : {bs : List ℕ} {l : Sizes} {c : Cursor} {x : Listed} {next : Cursor} → ReadNext bs l c x next
+    → l.outa - c.a ≡ l.outa - next.a + 1
+unfolding settled_from
+one_ahead {bs} {l} {c} {x} {next} n =
+    let e = ap length (n.first [] 0 0) in
+    let a = run_count bs [] 0 0 (l.outa - c.a) c.a c.e c.o in
+    let b = run_count bs [] 0 0 (l.outa - next.a) next.a next.e next.o in
+    omega arith
