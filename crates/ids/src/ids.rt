@@ -1,11 +1,12 @@
 // The ids of one sort, collected from a tree that stands in a sheet.
-ghost use Rattle.std.specs.Prelude.{◌≡◌, ℕ, List, [], ◌∷◌, ◌++◌, ◌+◌, ◌*◌, ◌≤◌, length, take};
+ghost use Rattle.std.specs.Prelude.{◌≡◌, ℕ, List, [], ◌∷◌, ◌++◌, ◌+◌, ◌*◌, ◌%◌, ◌≤◌, length, get_or, take};
+ghost use Rattle.grammar.specs.Numbers.{kind_end};
 ghost use Rattle.grammar.specs.Words.{words};
 ghost use Rattle.grammar.specs.Found.{FoundRules};
 ghost use Rattle.std.proofs.Common.{rules};
 ghost use Rattle.ids.specs.Ids.{seeing_past_block, seeing_past_alternative};
 ghost use Rattle.ids.specs.Ids.{own_of, own_ids, alternative_id, seeing, behind, CollectedSort};
-ghost use Rattle.words.specs.Kinds.{sort_number};
+ghost use Rattle.words.specs.Kinds.{kind_number, sort_number};
 ghost use Rattle.words.specs.Sheet.{text};
 
 use words::numbers::{Kind, Sort};
@@ -16,16 +17,16 @@ use words::words::{put_word, word};
 
 // The id of one sort that an element has itself.
 #[inline]
-pub(crate) fn own_id(s: &[u8], sort: Sort, at: usize, payload: usize) -> Option<u32>
-    requires { (4 * (at + 6) ≤ length s.now) × (4 * payload + 4 ≤ length s.now) }
-    ensures { own_of result ≡ own_ids (words s.now) at payload (sort_number sort) }
+pub(crate) fn own_id(s: &[u8], sort: Sort, at: usize, head: Head) -> Option<u32>
+    requires bounds { (4 * (at + 6) ≤ length s.now) × (4 * head.payload + 4 ≤ length s.now) }
+    requires kind_is { kind_number head.kind ≡ get_or (words s.now) (at + 2) 0 % kind_end }
+    ensures { own_of result ≡ own_ids (words s.now) at head.payload (sort_number sort) }
 {
-    let kind = word(s, at + 2) % Kind::END;
     match sort {
         Sort::Element => Some(word(s, at)),
         Sort::Label if word(s, at + 4) != 0 => Some(word(s, at + 3)),
-        Sort::Action if kind == u32::from(Kind::Action) => Some(word(s, payload)),
-        Sort::Predicate if kind == u32::from(Kind::Predicate) => Some(word(s, payload)),
+        Sort::Action if head.kind == Kind::Action => Some(word(s, head.payload)),
+        Sort::Predicate if head.kind == Kind::Predicate => Some(word(s, head.payload)),
         _ => None,
     }
 }
@@ -40,12 +41,13 @@ fn push(work: &mut [u8], out: usize, id: u32) -> usize
 }
 
 // Writes an element's own id, where it has one of the sort.
-fn put_own(s: &[u8], sort: Sort, at: usize, payload: usize, work: &mut [u8], out: usize) -> usize
-    requires { (4 * (at + 6) ≤ length s.now) × (4 * payload + 4 ≤ length s.now) × (4 * out + 4 ≤ length work.old) }
+fn put_own(s: &[u8], sort: Sort, at: usize, head: Head, work: &mut [u8], out: usize) -> usize
+    requires bounds { (4 * (at + 6) ≤ length s.now) × (4 * head.payload + 4 ≤ length s.now) × (4 * out + 4 ≤ length work.old) }
+    requires kind_is { kind_number head.kind ≡ get_or (words s.now) (at + 2) 0 % kind_end }
     ensures { (result ≤ out + 1) × (take result (words work.new)
-        ≡ take out (words work.old) ++ own_ids (words s.now) at payload (sort_number sort)) }
+        ≡ take out (words work.old) ++ own_ids (words s.now) at head.payload (sort_number sort)) }
 {
-    match own_id(s, sort, at, payload) {
+    match own_id(s, sort, at, head) {
         Some(id) => push(work, out, id),
         None => out,
     }
@@ -84,11 +86,11 @@ impl Visitor for Collector<'_> {
     ghost Kept = { λ ws end a b. (a.work.ghost_name ≡ b.work.ghost_name) × (a.sort ≡ b.sort) };
 
     fn leaf(&mut self, s: &Sheet, _depth: u32, at: usize, head: Head) {
-        self.out = put_own(s.bytes, self.sort, at, head.payload, self.work, self.out);
+        self.out = put_own(s.bytes, self.sort, at, head, self.work, self.out);
     }
 
     fn enter_block(&mut self, s: &Sheet, _depth: u32, at: usize, head: Head) {
-        self.out = put_own(s.bytes, self.sort, at, head.payload, self.work, self.out);
+        self.out = put_own(s.bytes, self.sort, at, head, self.work, self.out);
     }
 
     fn enter_alternative(&mut self, s: &Sheet, _depth: u32, at: usize) {

@@ -27,7 +27,7 @@ fn past_all(s: &[u8], n: usize) -> u64
 {
     let mut past: u64 = 0;
     for i in 0..n {
-        past = past.max(word(s, i) as u64 + 1);
+        past = past.max(u64::from(word(s, i)) + 1);
     }
     past
 }

@@ -1,12 +1,14 @@
 // One walk over all bodies: how many alternatives and elements they have, and of the ids of each sort how far they
 // reach and whether they rise.
-ghost use Rattle.std.specs.Prelude.{◌≡◌, ◌+◌, ◌*◌, ◌<◌, ◌≤◌, ◌^◌, length};
+ghost use Rattle.std.specs.Prelude.{◌≡◌, ◌+◌, ◌*◌, ◌%◌, ◌<◌, ◌≤◌, ◌^◌, length, get_or};
 ghost use Rattle.std.proofs.Common.{rules};
+ghost use Rattle.grammar.specs.Numbers.{kind_end};
 ghost use Rattle.grammar.specs.Words.{words};
 ghost use Rattle.grammar.specs.Found.{FoundRules};
 ghost use Rattle.ids.specs.Ids.{own_of, seeing, seeing_past_block, seeing_past_alternative};
 ghost use Rattle.ids.specs.Survey.{seen, tracked, OwnSeen, AlternativeSeen, surveyed, Surveyed};
 ghost use Rattle.ids.specs.declared.survey.Survey.{Survey};
+ghost use Rattle.words.specs.Kinds.{kind_number};
 ghost use Rattle.words.specs.Sheet.{text};
 
 use crate::ids::own_id;
@@ -28,8 +30,9 @@ impl Track {
     fn see(&mut self, id: u32)
         ensures { self.new ≡ seen self.old id }
     {
-        if self.top <= id as u64 {
-            self.top = id as u64 + 1;
+        let id = u64::from(id);
+        if self.top <= id {
+            self.top = id + 1;
         } else {
             self.falls = 1;
         }
@@ -58,17 +61,17 @@ pub struct Survey {
 
 impl Survey {
     // An element's own ids.
-    fn see_own(&mut self, s: &[u8], at: usize, payload: usize)
-        requires at_in_bounds { (4 * (at + 6) ≤ length s.now) × (4 * payload + 4 ≤ length s.now) }
+    fn see_own(&mut self, s: &[u8], at: usize, head: Head)
+        requires at_in_bounds { (4 * (at + 6) ≤ length s.now) × (4 * head.payload + 4 ≤ length s.now) }
+        requires kind_is { kind_number head.kind ≡ get_or (words s.now) (at + 2) 0 % kind_end }
         requires few { self.old.elements < 2 ^ 31 }
-        ensures { OwnSeen (words s.now) at payload self.old self.new }
+        ensures { OwnSeen (words s.now) at head.payload self.old self.new }
     {
         self.elements += 1;
-        self.element.see_own(own_id(s, Sort::Element, at, payload));
-        self.label.see_own(own_id(s, Sort::Label, at, payload));
-        self.action.see_own(own_id(s, Sort::Action, at, payload));
-        self.predicate
-            .see_own(own_id(s, Sort::Predicate, at, payload));
+        self.element.see_own(own_id(s, Sort::Element, at, head));
+        self.label.see_own(own_id(s, Sort::Label, at, head));
+        self.action.see_own(own_id(s, Sort::Action, at, head));
+        self.predicate.see_own(own_id(s, Sort::Predicate, at, head));
     }
 
     // An alternative's id.
@@ -94,11 +97,11 @@ impl Visitor for Survey {
     ghost Kept = { λ ws end a b. Unit {0} };
 
     fn leaf(&mut self, s: &Sheet, _depth: u32, at: usize, head: Head) {
-        self.see_own(s.bytes, at, head.payload);
+        self.see_own(s.bytes, at, head);
     }
 
     fn enter_block(&mut self, s: &Sheet, _depth: u32, at: usize, head: Head) {
-        self.see_own(s.bytes, at, head.payload);
+        self.see_own(s.bytes, at, head);
     }
 
     fn enter_alternative(&mut self, s: &Sheet, _depth: u32, at: usize) {

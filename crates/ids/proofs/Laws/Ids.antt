@@ -11,9 +11,12 @@ use native.Mathlib.Numerals.{add-one}
 use Rattle.grammar.specs.Numbers.{element_sort, label_sort, action_sort, predicate_sort, action_kind, predicate_kind, kind_end}
 use Rattle.grammar.specs.Words.{words}
 use Rattle.grammar.specs.Laws.Words.{length_words}
+use Rattle.words.specs.declared.numbers.Kind.{Kind}
+use Rattle.words.specs.declared.numbers.Kind.TheVariants as kind
 use Rattle.words.specs.declared.numbers.Sort.{Sort}
 use Rattle.words.specs.declared.numbers.Sort.TheVariants.{Alternative, Element, Label, Action, Predicate}
-use Rattle.words.specs.Kinds.{sort_number}
+use Rattle.words.specs.Kinds.{kind_number, sort_number}
+use Rattle.words.specs.Laws.Kinds.{is_action, is_predicate, no_action, no_predicate}
 use Rattle.ids.specs.Ids.{own_of, own_ids, alternative_id}
 
 module _ (ws : List ℕ) (sort at payload : ℕ) {w : ℕ} where
@@ -30,26 +33,26 @@ module _ (ws : List ℕ) (sort at payload : ℕ) {w : ℕ} where
   unfolding own_ids
   own_label e f g h = simp (e, ← f, ne_eqb w 0 g, h)
 
-  module _ (f : w ≡ get_or ws (at + 2) 0) where
-    pub own_action : {i : ℕ} → sort ≡ action_sort → w % kind_end ≡ action_kind → i ≡ get_or ws payload 0
-        → own_of (Some i) ≡ own_ids ws at payload sort
-    unfolding own_ids
-    own_action e g h = simp (e, ← f, g, h)
-
-    pub own_no_action : sort ≡ action_sort → (w % kind_end ≡ action_kind → ⊥) → own_of None ≡ own_ids ws at payload sort
-    unfolding own_ids
-    own_no_action e g = simp (e, ← f, ne_eqb (w % kind_end) action_kind g)
-
-    pub own_predicate : {i : ℕ} → sort ≡ predicate_sort → w % kind_end ≡ predicate_kind → i ≡ get_or ws payload 0
-        → own_of (Some i) ≡ own_ids ws at payload sort
-    unfolding own_ids
-    own_predicate e g h = simp (e, ← f, g, h)
-
-    pub own_no_predicate : sort ≡ predicate_sort → (w % kind_end ≡ predicate_kind → ⊥) → own_of None ≡ own_ids ws at payload sort
-    unfolding own_ids
-    own_no_predicate e g = simp (e, ← f, ne_eqb (w % kind_end) predicate_kind g)
-
 module _ (ws : List ℕ) (sort at payload : ℕ) where
+  module _ {k : Kind} (f : kind_number k ≡ get_or ws (at + 2) 0 % kind_end) where
+    pub own_action : {i : ℕ} → sort ≡ action_sort → k ≡ kind.Action → i ≡ get_or ws payload 0
+        → own_of (Some i) ≡ own_ids ws at payload sort
+    unfolding own_ids
+    own_action e g h = let i = is_action g in simp (e, ← f, i, h)
+
+    pub own_no_action : sort ≡ action_sort → (k ≡ kind.Action → ⊥) → own_of None ≡ own_ids ws at payload sort
+    unfolding own_ids
+    own_no_action e g = simp (e, ← f, ne_eqb (kind_number k) action_kind (no_action g))
+
+    pub own_predicate : {i : ℕ} → sort ≡ predicate_sort → k ≡ kind.Predicate → i ≡ get_or ws payload 0
+        → own_of (Some i) ≡ own_ids ws at payload sort
+    unfolding own_ids
+    own_predicate e g h = let i = is_predicate g in simp (e, ← f, i, h)
+
+    pub own_no_predicate : sort ≡ predicate_sort → (k ≡ kind.Predicate → ⊥) → own_of None ≡ own_ids ws at payload sort
+    unfolding own_ids
+    own_no_predicate e g = simp (e, ← f, ne_eqb (kind_number k) predicate_kind (no_predicate g))
+
   pub own_nothing : (sort ≡ element_sort → ⊥) → (sort ≡ label_sort → ⊥) → (sort ≡ action_sort → ⊥) → (sort ≡ predicate_sort → ⊥)
       → own_of None ≡ own_ids ws at payload sort
   unfolding own_ids
