@@ -19,7 +19,7 @@ use words::sheet::Sheet;
 use words::words::clear;
 
 // The marks of all rules, and the number of cycles.
-#[derive(Clone, Copy)]
+#[derive(Clone, Copy, Debug, PartialEq, Eq)]
 struct Told {
     marks: Marks,
     cycles: u32,
@@ -75,7 +75,7 @@ pub fn find_facts(
         }
         Ok(r) => {
             let rules = r.rules;
-            let end = r.parts.preserved as usize;
+            let end = r.parts.rules_end();
             let s = Sheet { bytes: sheet, end };
             let t = tell(&s, rules, textbook != 0, calls, corners, cycles, work);
             let nullable = t.marks.nullable;

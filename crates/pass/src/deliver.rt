@@ -30,16 +30,16 @@ fn deliver_sheet(
     let parts = read.parts;
     let n = sheet.len() / 4;
     copy_words(sheet, 0, res, 0, n);
-    if parts.kind != u32::from(UnitKind::Parser) {
+    let UnitKind::Parser = parts.kind else {
         return Ok(Ended {
             plans: 0,
             steps: 0,
             words: n,
             entries: 0,
         });
-    }
-    let end = parts.preserved as usize;
-    let to = end + parts.count as usize;
+    };
+    let end = parts.rules_end();
+    let to = parts.preserved_end();
     let counters = parts.counters;
     let limits = Limits::standard();
     let recorded = Trail::empty();

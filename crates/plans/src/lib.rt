@@ -35,8 +35,8 @@ pub fn plan_nth(
             *removable = [0; 2];
         }
         Ok(r) => {
-            let end = r.parts.preserved as usize;
-            let to = end + r.parts.count as usize;
+            let end = r.parts.rules_end();
+            let to = r.parts.preserved_end();
             let s = Sheet { bytes: sheet, end };
             let t = tell_nth(decide_nth(&s, to, r.rules, textbook != 0, nth, work));
             let told = t.numbers;
@@ -72,8 +72,8 @@ pub fn first_plan(
             *clauses = [0; 128];
         }
         Ok(r) => {
-            let end = r.parts.preserved as usize;
-            let to = end + r.parts.count as usize;
+            let end = r.parts.rules_end();
+            let to = r.parts.preserved_end();
             let s = Sheet { bytes: sheet, end };
             let found = decide_first(&s, to, r.rules, textbook != 0, work);
             let declines = found.clauses;

@@ -1,15 +1,18 @@
 -- The reader's answer (SPECIFICATION 3.9): the refusal's number, or the sheet's parts and its rules.
-use Rattle.std.specs.Prelude.{ℕ, ◌+◌, ◌-◌, ◌/◌, ◌≤◌, ◌≡◌, List, [], ◌∷◌, true, false, length, get_or, replicate, leb, Result, Ok, Err}
+use Rattle.std.specs.Prelude.{ℕ, ◌+◌, ◌-◌, ◌/◌, ◌≤◌, ◌≡◌, List, [], ◌∷◌, true, false, length, get_or, replicate, leb}
+use Rattle.std.specs.Prelude.{Option, Some, is_some, Result, Ok, Err}
 use Rattle.grammar.specs.Numbers.{least_bytes, most_bytes, trailer_words, work_bytes}
 use Rattle.grammar.specs.Numbers.{bad_length, short_buffer}
 use Rattle.grammar.specs.Tree as tree
 use Rattle.grammar.specs.Words.{words}
 use Rattle.grammar.specs.Encode.{encode_rules, encode_counters}
 use Rattle.grammar.specs.Reading as reading
-use Rattle.grammar.specs.Reading.{refused, sheet, is_length, read}
+use Rattle.grammar.specs.Reading.{refused, sheet, is_length, is_trailer, read}
 use Rattle.writing.specs.declared.counters.Counters.{Counters}
 use Rattle.writing.specs.Taken.{counters_of}
 use Rattle.words.specs.declared.numbers.Refusal.{Refusal}
+use Rattle.words.specs.declared.numbers.UnitKind.{UnitKind}
+use Rattle.words.specs.Kinds.{unit_number}
 use Rattle.words.specs.Refusal.{refusal_number}
 use Rattle.records.specs.declared.rules.Rules.{Rules}
 use Rattle.sheet.specs.declared.answer.Parts.{Parts}
@@ -23,8 +26,18 @@ pub record CountersAt (ws : List ℕ) (t : ℕ) (c : Counters) : Type 0 where
   pub action : c.action ≡ get_or ws (t + 6) 0
   pub predicate : c.predicate ≡ get_or ws (t + 7) 0
 
+-- The parts as numbers.
+pub record Numbers : Type 0 where
+  pub kind : ℕ
+  pub preserved : ℕ
+  pub count : ℕ
+  pub counters : Counters
+
+abbrev pub numbers_in : Parts → Numbers
+numbers_in p = record { kind = unit_number p.kind; preserved = p.preserved; count = p.count; counters = p.counters }
+
 -- The parts of a sheet: the preserved list begins where the rules end.
-abbrev pub parts_of : tree.Sheet → Parts
+abbrev pub parts_of : tree.Sheet → Numbers
 parts_of s =
     record {
       kind = s.kind;
@@ -40,14 +53,14 @@ parts_of s =
           };
     }
 
-abbrev pub answer_of : reading.Reading → Result Parts ℕ
+abbrev pub answer_of : reading.Reading → Result Numbers ℕ
 answer_of (refused n) = Err n
 answer_of (sheet s) = Ok (parts_of s)
 
 -- The same of what the code answers.
-abbrev pub told_of : Result Reading Refusal → Result Parts ℕ
+abbrev pub told_of : Result Reading Refusal → Result Numbers ℕ
 told_of (Err e) = Err (refusal_number e)
-told_of (Ok r) = Ok r.parts
+told_of (Ok r) = Ok (numbers_in r.parts)
 
 -- What is read, by its rules and what the judgement of them is.
 abbrev pub reading_of : Rules → Result Parts Refusal → Result Reading Refusal
@@ -62,7 +75,7 @@ number_of (Ok r) = 0
 
 abbrev pub values_of : Result Reading Refusal → List ℕ
 values_of (Err e) = []
-values_of (Ok r) = r.parts.kind ∷ r.parts.preserved ∷ r.parts.count ∷ encode_counters (counters_of r.parts.counters)
+values_of (Ok r) = unit_number r.parts.kind ∷ r.parts.preserved ∷ r.parts.count ∷ encode_counters (counters_of r.parts.counters)
 
 -- The same of what the definition finds.
 abbrev pub number_in : reading.Reading → ℕ
@@ -86,13 +99,12 @@ pub record Lent (bs work : List ℕ) : Type 0 where
   pub most : length bs ≤ most_bytes
   pub room : work_bytes ≤ length work
 
--- The trailer of a sheet of good length begins at t, and its second distance leads back to a word of the sheet.
-pub record TrailerAt (bs : List ℕ) (t : ℕ) : Type 0 where
-  pub place : t ≡ length bs / 4 - trailer_words
-  pub least : least_bytes ≤ length bs
-  pub second : get_or (words bs) (t + 2) 0 ≤ t
+-- Whether the words at t are a good trailer, and the kind of unit that it names.
+pub record TrailerRead (ws : List ℕ) (t : ℕ) (r : Option UnitKind) : Type 0 where
+  pub good : is_some r ≡ is_trailer ws
+  pub kind : (k : UnitKind) → r ≡ Some k → unit_number k ≡ get_or ws t 0
 
--- The rules end there, and the preserved list stands between their end and the trailer.
+-- The trailer of a sheet of good length begins at t, the rules end there, and the preserved list stands between their end and the trailer.
 pub record EndAt (bs : List ℕ) (t end : ℕ) : Type 0 where
   pub place : t ≡ length bs / 4 - trailer_words
   pub least : least_bytes ≤ length bs

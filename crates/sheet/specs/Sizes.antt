@@ -6,12 +6,11 @@ use Rattle.grammar.specs.Words.{words}
 use Rattle.grammar.specs.Ids.{body_ids, rule_ids, rule_names}
 use Rattle.grammar.specs.Reading as reading
 use Rattle.grammar.specs.Reading.{refused, sheet}
-use Rattle.sheet.specs.declared.answer.Parts.{Parts}
 use Rattle.sheet.specs.declared.counts.Sizes.{Sizes}
 use Rattle.grammar.specs.Found.{FoundRules}
 use Rattle.words.specs.Room.{Room}
 use Rattle.records.specs.Rules.{row, places_from}
-use Rattle.sheet.specs.Answer.{parts_of, number_in}
+use Rattle.sheet.specs.Answer.{Numbers, parts_of, number_in}
 use Rattle.words.specs.declared.numbers.Refusal.{Refusal}
 use Rattle.words.specs.Refusal.{refusal_number}
 
@@ -66,7 +65,7 @@ pub record Counted (rs : List tree.Rule) (n preserved : ℕ) (r : Sizes) : Type 
 
 -- The reader's answer as numbers (SPECIFICATION 3.9): a refusal and zeros; or 0, unit kind, the preserved list's place and size, the five
 -- counters, and the numbers of rules, alternatives and elements.
-abbrev pub numbers_from : Parts → Sizes → List ℕ
+abbrev pub numbers_from : Numbers → Sizes → List ℕ
 numbers_from p z =
     0
     ∷ p.kind

@@ -1,11 +1,12 @@
 // The reader's answer, and the trailer it comes from.
-ghost use Rattle.std.specs.Prelude.{◌≡◌, ◌+◌, ◌-◌, ◌*◌, ◌/◌, ◌≤◌, length};
+ghost use Rattle.std.specs.Prelude.{◌≡◌, ◌+◌, ◌-◌, ◌*◌, ◌/◌, ◌≤◌, length, get_or};
 ghost use Rattle.grammar.specs.Numbers.{least_bytes, trailer_words};
 ghost use Rattle.grammar.specs.Words.{words};
 ghost use Rattle.grammar.specs.Parse.{got};
-ghost use Rattle.grammar.specs.Reading.{is_length, is_trailer, judge, read_words};
+ghost use Rattle.grammar.specs.Reading.{is_length, judge, read_words};
 ghost use Rattle.records.specs.Rules.{FoundRows};
-ghost use Rattle.sheet.specs.Answer.{CountersAt, EndAt, Lent, ReadAs, TrailerAt, reading_of};
+ghost use Rattle.words.specs.Kinds.{unit_number};
+ghost use Rattle.sheet.specs.Answer.{CountersAt, EndAt, Lent, ReadAs, TrailerRead, reading_of};
 
 use crate::judge::judge;
 use ids::lists::is_rising;
@@ -16,17 +17,32 @@ use words::words::word;
 use writing::counters::Counters;
 
 // The sheet's parts: unit kind; the preserved list's place, in words, and how many ids it has; counters.
-// Stays: the kind by its number. The definition's sheet has a number there, whatever it is, and is handed on as it stands.
 #[derive(Clone, Copy, Debug, PartialEq, Eq)]
 pub struct Parts {
-    pub kind: u32,
+    pub kind: UnitKind,
     pub preserved: u32,
     pub count: u32,
     pub counters: Counters,
 }
 
+impl Parts {
+    // Where the rules end and the preserved list begins, in words.
+    pub fn rules_end(self) -> usize
+        ensures { result ≡ self.preserved }
+    {
+        self.preserved as usize
+    }
+
+    // Where the preserved list ends, in words.
+    pub fn preserved_end(self) -> usize
+        ensures { result ≡ self.preserved + self.count }
+    {
+        self.preserved as usize + self.count as usize
+    }
+}
+
 // What is read of a sheet.
-#[derive(Clone, Copy)]
+#[derive(Clone, Copy, Debug, PartialEq, Eq)]
 pub struct Reading {
     pub parts: Parts,
     pub rules: Rules,
@@ -39,26 +55,26 @@ pub fn is_length(n: usize) -> bool
     Sheet::LEAST_BYTES <= n && n <= Sheet::MOST_BYTES && n % 4 == 0
 }
 
-// Refusal 3 is given where this is false; `t` is where the trailer begins.
-fn is_trailer(s: &[u8], t: usize) -> bool
+// The kind of unit that a good trailer names. Refusal 3 is given where there is none; `t` is where the trailer begins.
+fn trailer_kind(s: &[u8], t: usize) -> Option<UnitKind>
     requires { (t ≡ length s.now / 4 - trailer_words) × (least_bytes ≤ length s.now) }
-    ensures { result ≡ is_trailer (words s.now) }
+    ensures { TrailerRead (words s.now) t result }
 {
-    let kind = word(s, t);
-    if UnitKind::try_from(kind).is_err() {
-        return false;
-    }
+    let kind = UnitKind::try_from(word(s, t)).ok()?;
     let first = word(s, t + 1);
     if first as usize != t {
-        return false;
+        return None;
     }
-    word(s, t + 2) <= first
+    if first < word(s, t + 2) {
+        return None;
+    }
+    Some(kind)
 }
 
-// Where the rules end and the preserved list begins.
-fn rules_end(s: &[u8], t: usize) -> usize
-    requires { TrailerAt s.now t }
-    ensures { EndAt s.now t result }
+// Where the rules end of a sheet whose trailer begins at the word `t`: in front of the preserved ids, whose number the trailer has.
+pub fn rules_end(s: &[u8], t: usize) -> usize
+    requires { (4 * (t + 2) + 4 ≤ length s.now) × (get_or (words s.now) (t + 2) 0 ≤ t) }
+    ensures { result + get_or (words s.now) (t + 2) 0 ≡ t }
 {
     t - word(s, t + 2) as usize
 }
@@ -77,8 +93,16 @@ fn counters_at(s: &[u8], t: usize) -> Counters
 }
 
 // Refusals 5 and 6, or the parts of the sheet; its records are good. The rules are lent, so that their arrays stand once.
-fn judged(s: &[u8], t: usize, end: usize, rules: &Rules, work: &mut [u8]) -> Result<Parts, Refusal>
+fn judged(
+    s: &[u8],
+    t: usize,
+    end: usize,
+    kind: UnitKind,
+    rules: &Rules,
+    work: &mut [u8],
+) -> Result<Parts, Refusal>
     requires lent { Lent s.now work.old × EndAt s.now t end }
+    requires kind_is { unit_number kind ≡ get_or (words s.now) t 0 }
     requires found_rows { FoundRows (words s.now) end rules.now }
     ensures { (f : FoundRows (words s.now) end rules.now)
         → ReadAs (judge (words s.now) (got f.found.trees end)) (reading_of rules.now result) }
@@ -87,7 +111,7 @@ fn judged(s: &[u8], t: usize, end: usize, rules: &Rules, work: &mut [u8]) -> Res
     let sheet = Sheet { bytes: s, end };
     judge(&sheet, *rules, counters, work)?;
     Ok(Parts {
-        kind: word(s, t),
+        kind,
         preserved: end as u32,
         count: word(s, t + 2),
         counters,
@@ -101,9 +125,9 @@ pub fn examine(s: &[u8], work: &mut [u8]) -> Result<Reading, Refusal>
     ensures length_stays { length work.new ≡ length work.old }
 {
     let t = s.len() / 4 - Sheet::TRAILER_WORDS;
-    if !is_trailer(s, t) {
+    let Some(kind) = trailer_kind(s, t) else {
         return Err(Refusal::BadTrailer);
-    }
+    };
     let end = rules_end(s, t);
     let Some(rules) = read_rules(s, end) else {
         return Err(Refusal::BadRecord);
@@ -111,6 +135,6 @@ pub fn examine(s: &[u8], work: &mut [u8]) -> Result<Reading, Refusal>
     if !is_rising(s, end, t - end) {
         return Err(Refusal::BadRecord);
     }
-    let parts = judged(s, t, end, &rules, work)?;
+    let parts = judged(s, t, end, kind, &rules, work)?;
     Ok(Reading { parts, rules })
 }

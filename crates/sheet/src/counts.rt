@@ -2,6 +2,7 @@
 ghost use Rattle.std.specs.Prelude.{◌≡◌, ◌∷◌, replicate};
 ghost use Rattle.grammar.specs.Words.{words};
 ghost use Rattle.grammar.specs.Found.{FoundRules};
+ghost use Rattle.sheet.specs.Answer.{numbers_in};
 ghost use Rattle.sheet.specs.Sizes.{Counted, Standing, numbers_from};
 
 use crate::answer::Parts;
@@ -23,7 +24,7 @@ pub fn counted(s: &[u8], parts: Parts, n: u32) -> Sizes
     ensures { (f : FoundRules (words s.now) parts.preserved n 0)
         → Counted f.trees n parts.count result }
 {
-    let end = parts.preserved as usize;
+    let end = parts.rules_end();
     let sheet = Sheet { bytes: s, end };
     let v = survey_all(&sheet, n);
     Sizes {
@@ -43,11 +44,11 @@ pub fn refusal_numbers(number: u32) -> [u32; 12]
 
 // 0, and the parts and sizes of a sheet.
 pub fn sheet_numbers(parts: Parts, sizes: Sizes) -> [u32; 12]
-    ensures { result ≡ numbers_from parts sizes }
+    ensures { result ≡ numbers_from (numbers_in parts) sizes }
 {
     [
         0,
-        parts.kind,
+        u32::from(parts.kind),
         parts.preserved,
         parts.count,
         parts.counters.alternative,

@@ -1,5 +1,5 @@
 // Refusals 5 and 6: ids and names that two share, and ids that are not below their counter.
-ghost use Rattle.std.specs.Prelude.{◌≡◌, ◌&&◌, ◌+◌, ◌*◌, ◌<◌, ◌≤◌, length, take, leb};
+ghost use Rattle.std.specs.Prelude.{◌≡◌, ◌&&◌, ◌+◌, ◌*◌, ◌<◌, ◌≤◌, length, take};
 ghost use Rattle.grammar.specs.Numbers.{rule_limit};
 ghost use Rattle.grammar.specs.Ids.{is_distinct, is_below};
 ghost use Rattle.grammar.specs.Lists.{distinct};
@@ -71,20 +71,14 @@ fn bodies_are_distinct(s: &Sheet, n: u32, v: Survey, work: &mut [u8]) -> bool
         && parts_are_distinct(s, n, v, work)
 }
 
-fn is_under(top: u64, counter: u32) -> bool
-    ensures { result ≡ leb top counter }
-{
-    top <= counter as u64
-}
-
 fn bodies_are_below(v: Survey, counters: Counters) -> bool
     ensures { result ≡ all_under v (counters_of counters) }
 {
-    is_under(v.alternative.top, counters.alternative)
-        && is_under(v.element.top, counters.element)
-        && is_under(v.label.top, counters.label)
-        && is_under(v.action.top, counters.action)
-        && is_under(v.predicate.top, counters.predicate)
+    v.alternative.top <= u64::from(counters.alternative)
+        && v.element.top <= u64::from(counters.element)
+        && v.label.top <= u64::from(counters.label)
+        && v.action.top <= u64::from(counters.action)
+        && v.predicate.top <= u64::from(counters.predicate)
 }
 
 // Refusals 5 and 6, of good rules, whose rows are given; the work area is left in any state.

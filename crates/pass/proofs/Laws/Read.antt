@@ -30,9 +30,12 @@ use Rattle.writing.specs.declared.counters.Counters.{Counters}
 use Rattle.records.specs.Rules.{RowsOf}
 use Rattle.analysis.specs.Survey as survey
 use Rattle.sheet.specs.Answer as reader
-use Rattle.sheet.specs.Answer.{answer_of, parts_of, ReadAs}
+use Rattle.sheet.specs.Answer.{numbers_in, answer_of, parts_of, ReadAs}
 use Rattle.sheet.specs.declared.answer.Reading.{Reading}
+use Rattle.words.specs.Kinds.{unit_number}
 use Rattle.words.specs.Refusal.{refusal_number}
+use Rattle.words.specs.declared.numbers.UnitKind.{UnitKind}
+use Rattle.words.specs.declared.numbers.UnitKind.TheVariants.{Lexer, Parser, Combined}
 use Rattle.words.specs.declared.numbers.Refusal.{Refusal}
 use Rattle.sheet.proofs.Laws.Lent.{lent_all}
 use Rattle.apply.specs.Applied.{Buffers}
@@ -45,8 +48,14 @@ use Rattle.turns.specs.Midway.{limits_of, IsStandard}
 use Rattle.turns.specs.declared.state.Limits.{Limits}
 use Rattle.pass.specs.Handed.{Answered, Lent, WasSheet}
 
+-- The parser's kind alone has its number.
+is_parser : (k : UnitKind) → unit_number k ≡ parser → k ≡ Parser
+is_parser Lexer e = absurd (omega arith)
+is_parser Parser e = refl
+is_parser Combined e = absurd (omega arith)
+
 was_sheet : (g : reading.Reading) {r : Reading} → ReadAs g (Ok r)
-    → (t : tree.Sheet) × (g ≡ sheet t) × (r.parts ≡ parts_of t) × RowsOf t.rules r.rules
+    → (t : tree.Sheet) × (g ≡ sheet t) × (numbers_in r.parts ≡ parts_of t) × RowsOf t.rules r.rules
 was_sheet (refused n) a = absurd (let x = a.answer in let z : ◌≡◌ {A = ℕ} 0 1 = cc in omega arith)
 was_sheet (sheet s) {r} a = let x = a.answer in (s, refl, cc, a.rows s r refl refl)
 
@@ -81,7 +90,7 @@ module _ (past : Bool) (bs : List ℕ) (long : is_length (length bs) ≡ true) w
     reads : read bs ≡ sheet tree_read
     reads = read_is bs long ∙ (was_sheet (read_words (words bs)) a).1
 
-    parts : r.parts ≡ parts_of tree_read
+    parts : numbers_in r.parts ≡ parts_of tree_read
     parts = (was_sheet (read_words (words bs)) a).2
 
     rows : RowsOf tree_read.rules r.rules
@@ -118,11 +127,11 @@ module _ (past : Bool) (bs : List ℕ) (long : is_length (length bs) ≡ true) w
       sheet_room = let l = copied.long in let m = most in omega arith
 
       -- A unit of another kind.
-      pub answered_other : (trail : List ℕ) → (r.parts.kind ≡ parser → ⊥)
+      pub answered_other : (trail : List ℕ) → (r.parts.kind ≡ Parser → ⊥)
           → Answered past bs result' trail (Ok (record { plans = 0; steps = 0; words = n; entries = 0 }))
       answered_other trail other =
-          let k : r.parts.kind ≡ tree_read.kind = ap (λ q. q.kind) parts in
-          let z = other_answer standard (survey.reading past) bs tree_read reads (λ f. other (k ∙ f)) in
+          let k : unit_number r.parts.kind ≡ tree_read.kind = ap (λ q. q.kind) parts in
+          let z = other_answer standard (survey.reading past) bs tree_read reads (λ f. other (is_parser r.parts.kind (k ∙ f))) in
           record {
             is =
                 record {
@@ -144,7 +153,7 @@ module _ (past : Bool) (bs : List ℕ) (long : is_length (length bs) ≡ true) w
           never : {m : ℕ} {ws ts : List ℕ} → answer 0 0 ws ts ≡ refusal m → ⊥
           never e = let u : ◌≡◌ {A = ℕ} 0 1 = cc in omega arith
 
-      module _ (are : AreBytes bs) (kind : r.parts.kind ≡ parser) {end to : ℕ} {counters : Counters} (ends : end ≡ r.parts.preserved)
+      module _ (are : AreBytes bs) (kind : r.parts.kind ≡ Parser) {end to : ℕ} {counters : Counters} (ends : end ≡ r.parts.preserved)
           (up_to : to ≡ end + r.parts.count) (same : counters ≡ r.parts.counters) where
         -- A parser's unit stands in the result.
         pub begun : Begun result' end to r.rules counters
@@ -160,7 +169,7 @@ module _ (past : Bool) (bs : List ℕ) (long : is_length (length bs) ≡ true) w
               sheet = tree_read;
               is_valid = good.0;
               is_fitting = good.1;
-              is_parser = ap (λ q. q.kind) (sym parts) ∙ kind;
+              is_parser = ap (λ q. q.kind) (sym parts) ∙ ap unit_number kind;
               held =
                   record {
                     stands =
@@ -193,11 +202,11 @@ module _ {bs : List ℕ} {r : Reading} (s : WasSheet bs r) {result trail work : 
   abbrev room : result_bytes ≤ length result
   room = l.buffers.for_result
 
-  pub sheet_other : (past : Bool) (trail' : List ℕ) → (r.parts.kind ≡ parser → ⊥)
+  pub sheet_other : (past : Bool) (trail' : List ℕ) → (r.parts.kind ≡ Parser → ⊥)
       → Answered past bs result' trail' (Ok (record { plans = 0; steps = 0; words = n; entries = 0 }))
   sheet_other past = answered_other past bs long s.found count room w
 
-  module _ (are : AreBytes bs) (kind : r.parts.kind ≡ parser) {end to : ℕ} {counters : Counters} (ends : end ≡ r.parts.preserved)
+  module _ (are : AreBytes bs) (kind : r.parts.kind ≡ Parser) {end to : ℕ} {counters : Counters} (ends : end ≡ r.parts.preserved)
       (up_to : to ≡ end + r.parts.count) (same : counters ≡ r.parts.counters) where
     pub sheet_begun : Begun result' end to r.rules counters
     sheet_begun = begun true bs long s.found count room w are kind ends up_to same

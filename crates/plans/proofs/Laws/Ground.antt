@@ -21,7 +21,7 @@ use Rattle.grammar.specs.Laws.Words.{length_words}
 use Rattle.grammar.specs.Laws.Whole.{words_sound, reads_sheet, valid_parts}
 use Rattle.records.specs.declared.rules.Rules.{Rules}
 use Rattle.hub.specs.Preserved.{between}
-use Rattle.sheet.specs.Answer.{read_lent, answer_of, parts_of, ReadAs, Lent}
+use Rattle.sheet.specs.Answer.{read_lent, numbers_in, answer_of, parts_of, ReadAs, Lent}
 use Rattle.sheet.specs.declared.answer.Reading.{Reading}
 use Rattle.std.specs.Prelude.{Ok}
 use Rattle.sheet.specs.Read.{WasRead}
@@ -86,8 +86,8 @@ module _ (bs work : List ℕ) {r : Reading} (a : ReadAs (read_lent bs work) (Ok 
   abbrev was : WasRead bs work r.parts.preserved r.rules
   was = was_read bs work a
 
-  parts_are : r.parts ≡ parts_of was.tree
-  parts_are = let e : answer_of (sheet was.tree) ≡ Ok r.parts = ap answer_of (sym was.is) ∙ sym a.answer in cc
+  parts_are : numbers_in r.parts ≡ parts_of was.tree
+  parts_are = let e : answer_of (sheet was.tree) ≡ Ok (numbers_in r.parts) = ap answer_of (sym was.is) ∙ sym a.answer in cc
 
   pub read_end : r.parts.preserved ≡ length (encode_rules was.tree.rules)
   read_end = ap (λ q. q.preserved) parts_are

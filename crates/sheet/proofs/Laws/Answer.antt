@@ -1,17 +1,17 @@
--- The returns of the functions that read the trailer and give the answer.
-use Prim.Native.Nat.{ℕ, ◌+◌, ◌-◌, ◌/◌, ◌<◌, ◌≤◌}
+-- The returns of the functions that give the answer.
+use Prim.Native.Nat.{ℕ, ◌+◌, ◌-◌, ◌*◌, ◌/◌, ◌≤◌}
 use mathlib.Core.Path.{◌≡◌, refl, sym, ap, subst, ◌∙◌}
-use mathlib.Core.List.{List}
+use mathlib.Core.List.{List, ◌∷◌}
 use mathlib.Core.Bool.{Bool, true, false}
 use native.Mathlib.Omega.{arith}
 use lib.ListN.{length, get_or, take, drop, length-drop}
 use lib.Seq.{length-take-le}
-use lib.Dec.{leb, eqb}
-use borrow.Author.Tests.{le-leb, lt-leb, eq-eqb, ne_eqb, leb-true, eqb-true}
-use Rattle.grammar.specs.Numbers.{least_bytes, trailer_words, rule_limit, lexer, combined}
+use lib.Dec.{eqb}
+use borrow.Author.Tests.{leb-true, eqb-true}
+use Rattle.grammar.specs.Numbers.{least_bytes, trailer_words, rule_limit}
 use Rattle.grammar.specs.Numbers.{bad_record}
 use Rattle.grammar.specs.Parse.{Got, got, bad, ◌then◌, given}
-use Rattle.grammar.specs.Encode.{encode_rules}
+use Rattle.grammar.specs.Encode.{encode_rules, encode_counters}
 use Rattle.grammar.specs.Words.{words}
 use Rattle.grammar.specs.Read.{rules_at}
 use Rattle.grammar.specs.Valid.{is_kind}
@@ -28,11 +28,9 @@ use Rattle.grammar.specs.Laws.Sound.{rules_sound}
 use Rattle.writing.specs.declared.counters.Counters.{Counters}
 use Rattle.writing.specs.Taken as taken
 use Rattle.records.specs.declared.rules.Rules.{Rules}
-use Rattle.std.specs.Prelude.{Option, Some, None, Result, Ok, Err, is_some, is_ok, is_err}
+use Rattle.std.specs.Prelude.{Option, Some, None, Result, Ok, Err, is_some}
 use Rattle.words.specs.declared.numbers.UnitKind.{UnitKind}
-use Rattle.words.specs.declared.numbers.Unnamed.{Unnamed}
-use Rattle.words.specs.Kinds.{Names, unit_number}
-use Rattle.words.specs.Laws.Kinds.{unit_named, no_ok, an_ok}
+use Rattle.words.specs.Kinds.{unit_number}
 use Rattle.words.specs.declared.numbers.Refusal.{Refusal}
 use Rattle.words.specs.declared.numbers.Refusal.TheVariants.{BadTrailer, BadRecord, SharedNumber, IdPastCounter}
 use Rattle.words.specs.Refusal.{refusal_number}
@@ -40,34 +38,10 @@ use Rattle.sheet.specs.declared.answer.Parts.{Parts}
 use Rattle.sheet.specs.declared.answer.Reading.{Reading}
 use Rattle.records.specs.Rules.{RowsOf, RulesRead, FoundRows, is_got}
 use Rattle.sheet.specs.Answer as answer
-use Rattle.sheet.specs.Answer.{CountersAt, ReadAs, values_of}
+use Rattle.sheet.specs.Answer.{Numbers, numbers_in, CountersAt, ReadAs}
 use Rattle.sheet.specs.Verdict.{verdict}
-use Rattle.sheet.specs.Answer.{TrailerAt, EndAt}
-
--- the trailer
-module _ (bs : List ℕ) {t : ℕ} (e : t ≡ length bs / 4 - trailer_words) where
-  pub here : length (words bs) - trailer_words ≡ t
-  here = rw length_words (sym e)
-
-  module _ {k : ℕ} (f : k ≡ get_or (words bs) t 0) where
-    module _ (u : Result UnitKind Unnamed) (m : Names unit_number k u) where
-      kind_is : is_kind k ≡ is_ok u
-      kind_is = sym (unit_named k u m)
-
-      pub kind_other : is_err u ≡ true → false ≡ is_trailer (words bs)
-      unfolding is_trailer
-      kind_other h = simp (here, ← f, kind_is, no_ok u h)
-
-      module _ (h : is_err u ≡ false) {x : ℕ} (i : x ≡ get_or (words bs) (t + 1) 0) where
-        pub first_other : (x ≡ t → ⊥) → false ≡ is_trailer (words bs)
-        unfolding is_trailer
-        first_other n = simp (here, ← f, kind_is, an_ok u h, ← i, ne_eqb x t n)
-
-        pub second_decides : {y : ℕ} → x ≡ t → y ≡ get_or (words bs) (t + 2) 0 → leb y x ≡ is_trailer (words bs)
-        unfolding is_trailer
-        second_decides n j = simp (here, ← f, kind_is, an_ok u h, ← i, ← j, eq-eqb x t n)
-
-pub ruleset trailers = (kind_other, first_other, second_decides)
+use Rattle.sheet.specs.Answer.{EndAt}
+use Rattle.sheet.proofs.Laws.Trailer.{here}
 
 -- refusals, and a sheet with its rules
 pub read_refused : {g : reading.Reading} {n : ℕ} (e : Refusal) → g ≡ refused n → refusal_number e ≡ n → ReadAs g (Err e)
@@ -80,14 +54,14 @@ read_refused e g f =
       rows = λ s x z w. absurd (let u : ◌≡◌ {A = ℕ} 0 1 = cc in omega arith);
     })
 
-read_sheet : {g : reading.Reading} {s : tree.Sheet} {p : Parts} {rules : Rules} → g ≡ sheet s → p ≡ answer.parts_of s → RowsOf s.rules rules
+read_sheet : {g : reading.Reading} {s : tree.Sheet} {p : Parts} {rules : Rules} → g ≡ sheet s → numbers_in p ≡ answer.parts_of s → RowsOf s.rules rules
     → ReadAs g (Ok (record { parts = p; rules = rules }))
 read_sheet {s = s} {p} {rules} g e o =
     rw g
     (record {
       answer = ap Ok e;
       number = refl;
-      values = ap (λ q. values_of (Ok (record { parts = q; rules = rules }))) e;
+      values = ap (λ q. q.kind ∷ q.preserved ∷ q.count ∷ encode_counters (taken.counters_of q.counters)) e;
       rows = λ t x z w.
           let same : s ≡ t = cc in
           let are : rules ≡ x.rules = ap (λ y. y.rules) (let k : ◌≡◌ {A = Reading} (record { parts = p; rules = rules }) x = cc in k) in
@@ -122,11 +96,11 @@ module _ (bs : List ℕ) {t end : ℕ} {rules : Rules} (k : EndAt bs t end) (f :
   back : (i : ℕ) → get_or (words bs) (t + i) 0 ≡ get_or (words bs) (length (words bs) - trailer_words + i) 0
   back i = ap (λ x. get_or (words bs) (x + i) 0) (sym (here bs k.place))
 
-  parts_same : {w c : ℕ} {a : Counters} → w ≡ get_or (words bs) t 0 → c ≡ get_or (words bs) (t + 2) 0 → CountersAt (words bs) t a
-      → ◌≡◌ {A = Parts} (record { kind = w; preserved = end; count = c; counters = a })
+  parts_same : (w : UnitKind) {c : ℕ} {a : Counters} → unit_number w ≡ get_or (words bs) t 0 → c ≡ get_or (words bs) (t + 2) 0 → CountersAt (words bs) t a
+      → ◌≡◌ {A = Numbers} (record { kind = unit_number w; preserved = end; count = c; counters = a })
       (answer.parts_of (sheet_of (words bs) f.found.trees))
   unfolding sheet_of counters_of
-  parts_same p q n i =
+  parts_same w p q n i =
       record {
         kind = (p ∙ ap (λ x. get_or (words bs) x 0) (sym (here bs k.place))) i;
         preserved = sym rules_long i;
@@ -166,9 +140,9 @@ module _ (bs : List ℕ) {t end : ℕ} {rules : Rules} (k : EndAt bs t end) {a :
           rw w (read_refused IdPastCounter (rw (y, z, judge) refl) refl)
       go true y true z = absurd (let u = rw (y, z) at said in let o : ◌≡◌ {A = ℕ} 0 1 = cc in omega arith)
 
-  pub sheet_read : {u : Unit {0}} {w m : ℕ}
+  pub sheet_read : {u : Unit {0}} {w : UnitKind} {m : ℕ}
       → ((f : FoundRows (words bs) end rules) → Ok u ≡ verdict (is_distinct f.found.trees) (is_below (taken.counters_of a) f.found.trees))
-      → w ≡ get_or (words bs) t 0 → m ≡ get_or (words bs) (t + 2) 0 → (f : FoundRows (words bs) end rules)
+      → unit_number w ≡ get_or (words bs) t 0 → m ≡ get_or (words bs) (t + 2) 0 → (f : FoundRows (words bs) end rules)
       → ReadAs (judge (words bs) (got f.found.trees end))
       (Ok (record { parts = record { kind = w; preserved = end; count = m; counters = a }; rules = rules }))
   unfolding judge sheet_of
@@ -183,7 +157,7 @@ module _ (bs : List ℕ) {t end : ℕ} {rules : Rules} (k : EndAt bs t end) {a :
       go false y c z = absurd (let u = rw y at said in let o : ◌≡◌ {A = ℕ} 0 1 = cc in omega arith)
       go true y false z = absurd (let u = rw (y, z) at said in let o : ◌≡◌ {A = ℕ} 0 1 = cc in omega arith)
       go true y true z =
-          read_sheet {s = sheet_of (words bs) f.found.trees} (rw (y, z, judge) refl) (parts_same bs k f p q n) f.rows
+          read_sheet {s = sheet_of (words bs) f.found.trees} (rw (y, z, judge) refl) (parts_same bs k f w p q n) f.rows
 
 pub ruleset judges = (ids_refused, sheet_read)
 
@@ -226,6 +200,11 @@ module _ {ws : List ℕ} {end : ℕ} {r : Option Rules} (f : RulesRead ws end r)
   pub rows_found : {rules : Rules} → r ≡ Some rules → FoundRows ws end rules
   rows_found e = (rules_got e).rows
 
+pub end_at : {bs : List ℕ} {t end : ℕ} → t ≡ length bs / 4 - trailer_words → least_bytes ≤ length bs
+    → end + get_or (words bs) (t + 2) 0 ≡ t
+    → EndAt bs t end
+end_at p l s = record { place = p; least = l; split = s }
+
 -- the records in front of the trailer
 module _ (bs : List ℕ) {b : Bool} (e : b ≡ is_trailer (words bs)) where
   pub trailer_refused : b ≡ false → ReadAs (read_words (words bs)) (Err BadTrailer)
@@ -236,14 +215,16 @@ module _ (bs : List ℕ) {b : Bool} (e : b ≡ is_trailer (words bs)) where
     trailer_true : is_trailer (words bs) ≡ true
     trailer_true = sym e ∙ h
 
-    pub trailer_good : least_bytes ≤ length bs → TrailerAt bs (length bs / 4 - trailer_words)
+    pub trailer_good : least_bytes ≤ length bs
+        → (4 * (length bs / 4 - trailer_words + 2) + 4 ≤ length bs)
+        × (get_or (words bs) (length bs / 4 - trailer_words + 2) 0 ≤ length bs / 4 - trailer_words)
     unfolding is_trailer
     trailer_good m =
         let u = right_true (is_kind (unit_kind (words bs))) _ trailer_true in
         let first = first_distance (words bs) in
         let f = eqb-true first (trailer (words bs)) (left_true (eqb first (trailer (words bs))) _ u) in
         let g = leb-true (second_distance (words bs)) first (right_true (eqb first (trailer (words bs))) _ u) in
-        record { place = refl; least = m; second = rw (here bs refl) at (rw f at g) }
+        (omega arith, rw (here bs refl) at (rw f at g))
 
     module _ {t end : ℕ} (k : EndAt bs t end) where
       end_is : rules_end (words bs) ≡ end
@@ -280,4 +261,4 @@ module _ (bs : List ℕ) {b : Bool} (e : b ≡ is_trailer (words bs)) where
               opened ∙ rw ((rules_got f g).is, ids_are, sym i ∙ j) refl in
               rw z (p (rules_got f g).rows)
 
-pub ruleset examines = (trailer_refused, trailer_good, rules_refused, rows_found, rising_refused, goes_on)
+pub ruleset examines = (trailer_refused, rules_refused, rows_found, rising_refused, goes_on)

@@ -28,7 +28,7 @@ use Rattle.ids.specs.Survey.{Surveyed}
 use Rattle.sheet.specs.declared.answer.Reading.{Reading}
 use Rattle.sheet.specs.declared.counts.Sizes.{Sizes}
 use Rattle.records.specs.Rules.{RowsOf}
-use Rattle.sheet.specs.Answer.{answer_of, parts_of, read_lent, work_after, ReadAs, Lent}
+use Rattle.sheet.specs.Answer.{numbers_in, answer_of, parts_of, read_lent, work_after, ReadAs, Lent}
 use Rattle.sheet.specs.Sizes.{Standing, Counted, sizes_of, numbers_from, numbers_of, ids_of, names_of, places_of}
 use Rattle.sheet.specs.Sizes.{values_of, SummedAs}
 use Rattle.sheet.specs.Read.{WasRead}
@@ -111,9 +111,9 @@ good bs work s e =
 record WasSheet (g : reading.Reading) (p : Parts) : Type 0 where
   tree : tree.Sheet
   is : g ≡ sheet tree
-  parts : p ≡ parts_of tree
+  parts : numbers_in p ≡ parts_of tree
 
-was_sheet : (g : reading.Reading) (p : Parts) → answer_of g ≡ Ok p → WasSheet g p
+was_sheet : (g : reading.Reading) (p : Parts) → answer_of g ≡ Ok (numbers_in p) → WasSheet g p
 was_sheet (refused n) p e = absurd (let z : ◌≡◌ {A = ℕ} 0 1 = cc in omega arith)
 was_sheet (sheet s) p e = record { tree = s; is = refl; parts = cc }
 
@@ -203,7 +203,7 @@ module _ (bs work : List ℕ) {x : Reading} (a : ReadAs (read_lent bs work) (Ok 
     summary_sheet =
         rw was.is (record { summary = ap Ok sizes_are; number = refl; values = ap (λ y. values_of (Ok y)) sizes_are })
 
-    pub numbers_sheet : {ns : List ℕ} → ns ≡ numbers_from x.parts z → ns ≡ numbers_of (read_lent bs work)
+    pub numbers_sheet : {ns : List ℕ} → ns ≡ numbers_from (numbers_in x.parts) z → ns ≡ numbers_of (read_lent bs work)
     numbers_sheet f = f ∙ ap₂ numbers_from was.parts sizes_are ∙ sym (ap numbers_of was.is)
 
   pub ids_sheet : x.rules.ids ≡ ids_of (read_lent bs work)

@@ -1,34 +1,41 @@
-use Rattle.std.proofs.Common.{rules}
+use Rattle.std.proofs.Common.{ap, refl, is_some}
 use Rattle.std.proofs.lemmas.Result.{err_from_is_err_and}
 use Rattle.sheet.proofs.answer.examine.Goals as goal
-use Rattle.sheet.proofs.Laws.Answer.{examines, rules_refused, rising_refused, rows_found, goes_on}
-
-pub returns-then-not-is_trailer-clause-read_as : goal.returns-then-not-is_trailer-clause-read_as
-returns-then-not-is_trailer-clause-read_as c = search (rules, examines)
-
-pub rules_end-end-requires : goal.rules_end-end-requires
-rules_end-end-requires c = search (rules, examines)
+use Rattle.sheet.proofs.Laws.Answer.{trailer_refused, trailer_good, end_at, rules_refused, rising_refused, rows_found, goes_on}
 
 pub returns-in_default-clause-read_as : goal.returns-in_default-clause-read_as
-returns-in_default-clause-read_as c =
-    rules_refused _ c.is_trailer.ensures c.if-not-is_trailer.false c.rules_end-end.ensures c.read_rules.ensures c.in_default.is
+returns-in_default-clause-read_as c = trailer_refused _ c.trailer_kind.ensures.good (ap is_some c.in_default.is)
+
+pub rules_end-end-requires : goal.rules_end-end-requires
+rules_end-end-requires c = trailer_good _ c.trailer_kind.ensures.good (ap is_some c.in-Some.is) c.requires.least
+
+pub returns-in_default-read_rules-clause-read_as : goal.returns-in_default-read_rules-clause-read_as
+returns-in_default-read_rules-clause-read_as c =
+    rules_refused _ c.trailer_kind.ensures.good (ap is_some c.in-Some.is) (end_at refl c.requires.least c.rules_end-end.ensures)
+    c.read_rules.ensures c.in_default-read_rules.is
 
 pub returns-then-not-is_rising-clause-read_as : goal.returns-then-not-is_rising-clause-read_as
 returns-then-not-is_rising-clause-read_as c =
-    rising_refused _ c.is_trailer.ensures c.if-not-is_trailer.false c.rules_end-end.ensures c.read_rules.ensures c.in-Some.is
-    c.is_rising.ensures c.if-not-is_rising.true
+    rising_refused _ c.trailer_kind.ensures.good (ap is_some c.in-Some.is) (end_at refl c.requires.least c.rules_end-end.ensures)
+    c.read_rules.ensures c.in-Some-read_rules.is c.is_rising.ensures c.if-not-is_rising.true
+
+pub judged-requires-clause-lent : goal.judged-requires-clause-lent
+judged-requires-clause-lent c = (c.requires, end_at refl c.requires.least c.rules_end-end.ensures)
+
+pub judged-requires-clause-kind_is : goal.judged-requires-clause-kind_is
+judged-requires-clause-kind_is c = c.trailer_kind.ensures.kind _ c.in-Some.is
 
 pub judged-requires-clause-found_rows : goal.judged-requires-clause-found_rows
-judged-requires-clause-found_rows c = rows_found c.read_rules.ensures c.in-Some.is
+judged-requires-clause-found_rows c = rows_found c.read_rules.ensures c.in-Some-read_rules.is
 
 pub returns-in_err-parts-clause-read_as : goal.returns-in_err-parts-clause-read_as
 returns-in_err-parts-clause-read_as c =
     let p = err_from_is_err_and c.from_residual.result c.from_residual.ensures.1 in
     rw (p.1, p.2)
-    (goes_on _ c.is_trailer.ensures c.if-not-is_trailer.false c.rules_end-end.ensures c.read_rules.ensures c.in-Some.is
-    c.is_rising.ensures c.if-not-is_rising.false c.in_err-parts.ensures)
+    (goes_on _ c.trailer_kind.ensures.good (ap is_some c.in-Some.is) (end_at refl c.requires.least c.rules_end-end.ensures)
+    c.read_rules.ensures c.in-Some-read_rules.is c.is_rising.ensures c.if-not-is_rising.false c.in_err-parts.ensures)
 
 pub returns-clause-read_as : goal.returns-clause-read_as
 returns-clause-read_as c =
-    goes_on _ c.is_trailer.ensures c.if-not-is_trailer.false c.rules_end-end.ensures c.read_rules.ensures c.in-Some.is
-    c.is_rising.ensures c.if-not-is_rising.false c.in_ok-parts.ensures
+    goes_on _ c.trailer_kind.ensures.good (ap is_some c.in-Some.is) (end_at refl c.requires.least c.rules_end-end.ensures)
+    c.read_rules.ensures c.in-Some-read_rules.is c.is_rising.ensures c.if-not-is_rising.false c.in_ok-parts.ensures

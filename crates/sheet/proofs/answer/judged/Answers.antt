@@ -8,4 +8,4 @@ returns-in_err-judge c =
     rw (p.1, p.2) (ids_refused _ c.requires.lent.1 c.counters_at-counters.ensures c.in_err-judge.ensures)
 
 pub returns : goal.returns
-returns c = sheet_read _ c.requires.lent.1 c.counters_at-counters.ensures c.in_ok-judge.ensures c.word.ensures c.word-2.ensures
+returns c = sheet_read _ c.requires.lent.1 c.counters_at-counters.ensures c.in_ok-judge.ensures c.requires.kind_is c.word.ensures
