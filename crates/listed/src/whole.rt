@@ -2,13 +2,13 @@
 ghost use Rattle.std.specs.Prelude.{◌≤◌, length};
 ghost use Rattle.listed.specs.Listed.{listed_refusal};
 ghost use Rattle.listed.specs.Put.{Filled};
-ghost use Rattle.listed.specs.Ready.{Held, Recorded, RulesEnd, JoinedPut, most_text};
+ghost use Rattle.listed.specs.Ready.{Held, Recorded, JoinedPut, most_text};
 
 use crate::entries::list_entries;
 use crate::rules::list_rules;
 use crate::text::Text;
+use sheet::answer::rules_end;
 use words::sheet::Sheet;
-use words::words::word;
 
 // The line of a refusal.
 // Stays: the refusal is told by its number, since the line is promised for every number and not for the nine refusals alone.
@@ -18,17 +18,6 @@ pub fn list_refused(number: u32, text: &mut [u8]) -> usize
     let mut out = Text { bytes: text, n: 0 };
     out.line(b"refused", &[number]);
     out.n
-}
-
-// Where the rules of a sheet of n words end: in front of the preserved ids, whose number its trailer has.
-#[tactic(auto, using(crate::proofs::Laws::Whole::listings))]
-fn rules_end(res: &[u8], n: usize) -> usize
-    requires { Held res.now n }
-    ensures { RulesEnd res.now n result }
-{
-    let trailer = n - Sheet::TRAILER_WORDS;
-    let preserved = word(res, trailer + 2) as usize;
-    trailer - preserved
 }
 
 // The sheet and the trail that the pass hands back, with its plans and steps. The sheet has so many words, the trail so many
@@ -47,7 +36,7 @@ pub fn list_joined(
     ensures { JoinedPut res.now trail.now n entries plans steps
         text.old text.new result }
 {
-    let end = rules_end(res, n);
+    let end = rules_end(res, n - Sheet::TRAILER_WORDS);
     let mut out = Text { bytes: text, n: 0 };
     out.line(b"ok", &[plans, steps]);
     let s = Sheet { bytes: res, end };

@@ -58,16 +58,15 @@ module _ {result : List ℕ} {n : ℕ} (h : Held result n) where
   pub held_word : 4 * (n - trailer_words + 2) + 4 ≤ length result
   held_word = let p = (parts h).long in let r = h.room in omega arith
 
-  module _ {w : ℕ} (e : w ≡ get_or (words result) (n - trailer_words + 2) 0) where
-    pub held_preserved : w ≤ n - trailer_words
-    held_preserved = let p = parts h in let c = p.counted in let l = p.long in omega arith
+  pub held_preserved : get_or (words result) (n - trailer_words + 2) 0 ≤ n - trailer_words
+  held_preserved = let p = parts h in let c = p.counted in let l = p.long in omega arith
 
-    pub rules_end : RulesEnd result n (n - trailer_words - w)
-    rules_end =
-        record {
-          is = λ o. let p = parts o in let c = p.counted in let l = p.long in omega arith;
-          low = let t = held_trailer in let v = held_preserved in omega arith;
-        }
+  pub rules_end : {end : ℕ} → end + get_or (words result) (n - trailer_words + 2) 0 ≡ n - trailer_words → RulesEnd result n end
+  rules_end e =
+      record {
+        is = λ o. let p = parts o in let c = p.counted in let l = p.long in omega arith;
+        low = let t = held_trailer in let v = held_preserved in omega arith;
+      }
 
   module _ {end : ℕ} (o : RulesEnd result n end) where
     end_is : end ≡ length (encode_rules h.sheet.rules)
@@ -111,4 +110,4 @@ pub refused_put : {b a left : List ℕ} {r : ℕ} (n : ℕ) → PutFew b a 0 r (
 unfolding listed_refusal
 refused_put n p e = rw e (put_filled p.put (let f = p.few in omega arith))
 
-pub ruleset listings = (held_trailer, held_word, held_preserved, rules_end, held_ruled)
+pub ruleset listings = (held_trailer, held_ruled)
