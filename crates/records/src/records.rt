@@ -40,6 +40,7 @@ fn named_at(s: &Input, n: usize, at: usize) -> Option<usize>
 }
 
 // n records, one after the other.
+#[tactic(auto, using(crate::proofs::Laws::Steps::lefts))]
 fn many<F: Fn(usize) -> Option<usize>>(one: F, n: u32, at: usize) -> Option<usize>
     requires { F.IsAlwaysCallable one }
     ensures { (step : ℕ → Option ℕ) → ((x : ℕ) (r : Option ℕ) → x < 2 ^ 64 → F.post one x r → r ≡ step x)

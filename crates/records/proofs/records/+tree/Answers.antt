@@ -1,7 +1,7 @@
 use Rattle.std.proofs.Common.{arith, ◌∙◌}
 use Rattle.records.proofs.records.+tree.Goals as goal
 use Rattle.records.proofs.Laws.Steps.{left_more, left_bad, left_done, many_steps}
-use Rattle.records.proofs.Laws.Trees.{element_more, element_unknown}
+use Rattle.records.proofs.Laws.Trees.{element_more}
 
 pub element_at-returns : goal.element_at-returns
 element_at-returns t c =
@@ -26,7 +26,3 @@ elements_at-returns-in_err-p t c =
 
 pub elements_at-returns : goal.elements_at-returns
 elements_at-returns t c = left_done _ c.loop.invariant (omega arith) ∙ many_steps _ _ _
-
-pub element_at-returns-in_err-kind : goal.element_at-returns-in_err-kind
-element_at-returns-in_err-kind t c =
-    element_unknown _ _ _ _ c.word.ensures _ c.try_from.ensures c.from_residual.ensures c.in_err-kind.ensures.value
