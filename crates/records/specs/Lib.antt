@@ -1,2 +1,3 @@
+pub mod Input
 pub mod Step
 pub mod Rules

@@ -6,8 +6,10 @@ ghost use Rattle.grammar.specs.Read.{is_name, is_label, action_of, option_at, re
 ghost use Rattle.grammar.specs.Read.{head_at, payload_at, element_at, alternative_at, block_at};
 ghost use Rattle.grammar.specs.Parse.{many};
 ghost use Rattle.words.specs.Kinds.{kind_number};
+ghost use Rattle.records.specs.Input.{text};
 ghost use Rattle.records.specs.Step.{is_fixed, named, repeated, step_of};
 
+use crate::input::Input;
 use words::numbers::{AlternativeFlag, Kind, Name, Quantifier, ReferenceKind};
 use words::words::word;
 
@@ -24,20 +26,21 @@ fn is_label(id: u32, name: u32) -> bool
 }
 
 // A name in the first of n words.
-fn named_at(s: &[u8], end: usize, n: usize, at: usize) -> Option<usize>
-    requires { (4 * end ≤ length s.now) × (1 ≤ n) }
-    ensures { result ≡ step_of (named (words s.now) end n at) }
+fn named_at(s: &Input, n: usize, at: usize) -> Option<usize>
+    requires { 1 ≤ n }
+    ensures { result ≡ step_of (named (text s.now) s.now.end n at) }
 {
-    if end.saturating_sub(at) < n {
+    if s.end.saturating_sub(at) < n {
         return None;
     }
-    if is_name(word(s, at)) {
+    if is_name(word(s.bytes, at)) {
         return Some(at + n);
     }
     None
 }
 
 // n records, one after the other.
+#[tactic(auto, using(crate::proofs::Laws::Steps::lefts))]
 fn many<F: Fn(usize) -> Option<usize>>(one: F, n: u32, at: usize) -> Option<usize>
     requires { F.IsAlwaysCallable one }
     ensures { (step : ℕ → Option ℕ) → ((x : ℕ) (r : Option ℕ) → x < 2 ^ 64 → F.post one x r → r ≡ step x)
@@ -50,78 +53,75 @@ fn many<F: Fn(usize) -> Option<usize>>(one: F, n: u32, at: usize) -> Option<usiz
     Some(p)
 }
 
-fn option_at(s: &[u8], end: usize, at: usize) -> Option<usize>
-    requires { 4 * end ≤ length s.now }
-    ensures { result ≡ step_of (option_at (words s.now) end at) }
+#[tactic(auto, using(crate::proofs::Laws::Records::names))]
+fn option_at(s: &Input, at: usize) -> Option<usize>
+    ensures { result ≡ step_of (option_at (text s.now) s.now.end at) }
 {
-    named_at(s, end, 2, at)
+    named_at(s, 2, at)
 }
 
-fn options_at(s: &[u8], end: usize, n: u32, at: usize) -> Option<usize>
-    requires { 4 * end ≤ length s.now }
-    ensures { result ≡ step_of (many (option_at (words s.now) end) n at) }
+fn options_at(s: &Input, n: u32, at: usize) -> Option<usize>
+    ensures { result ≡ step_of (many (option_at (text s.now) s.now.end) n at) }
 {
-    many(|p| option_at(s, end, p), n, at)
+    many(|p| option_at(s, p), n, at)
 }
 
-fn reference_at(s: &[u8], end: usize, at: usize) -> Option<usize>
-    requires { 4 * end ≤ length s.now }
-    ensures { result ≡ step_of (reference_at (words s.now) end at) }
+#[tactic(auto, using(crate::proofs::Laws::Records::shorts, crate::proofs::Laws::Records::references))]
+fn reference_at(s: &Input, at: usize) -> Option<usize>
+    ensures { result ≡ step_of (reference_at (text s.now) s.now.end at) }
 {
-    if end.saturating_sub(at) < 2 {
+    if s.end.saturating_sub(at) < 2 {
         return None;
     }
-    if ReferenceKind::try_from(word(s, at)).is_err() {
+    if ReferenceKind::try_from(word(s.bytes, at)).is_err() {
         return None;
     }
-    if is_name(word(s, at + 1)) {
+    if is_name(word(s.bytes, at + 1)) {
         return Some(at + 2);
     }
     None
 }
 
-fn references_at(s: &[u8], end: usize, n: u32, at: usize) -> Option<usize>
-    requires { 4 * end ≤ length s.now }
-    ensures { result ≡ step_of (many (reference_at (words s.now) end) n at) }
+fn references_at(s: &Input, n: u32, at: usize) -> Option<usize>
+    ensures { result ≡ step_of (many (reference_at (text s.now) s.now.end) n at) }
 {
-    many(|p| reference_at(s, end, p), n, at)
+    many(|p| reference_at(s, p), n, at)
 }
 
 // The payload of an action; a predicate's is the same.
-fn body_at(s: &[u8], end: usize, at: usize) -> Option<usize>
-    requires { 4 * end ≤ length s.now }
-    ensures { result ≡ step_of (body_at (words s.now) end action_of at) }
+#[tactic(auto, using(crate::proofs::Laws::Records::shorts, crate::proofs::Laws::Records::references))]
+fn body_at(s: &Input, at: usize) -> Option<usize>
+    ensures { result ≡ step_of (body_at (text s.now) s.now.end action_of at) }
 {
-    if end.saturating_sub(at) < 2 {
+    if s.end.saturating_sub(at) < 2 {
         return None;
     }
-    references_at(s, end, word(s, at + 1), at + 2)
+    references_at(s, word(s.bytes, at + 1), at + 2)
 }
 
-fn call_at(s: &[u8], end: usize, at: usize) -> Option<usize>
-    requires { 4 * end ≤ length s.now }
-    ensures { result ≡ step_of (call_at (words s.now) end at) }
+#[tactic(auto, using(crate::proofs::Laws::Records::names))]
+fn call_at(s: &Input, at: usize) -> Option<usize>
+    ensures { result ≡ step_of (call_at (text s.now) s.now.end at) }
 {
-    named_at(s, end, 2, at)
+    named_at(s, 2, at)
 }
 
-fn token_at(s: &[u8], end: usize, at: usize) -> Option<usize>
-    requires { 4 * end ≤ length s.now }
-    ensures { result ≡ step_of (token_at (words s.now) end at) }
+#[tactic(auto, using(crate::proofs::Laws::Records::names))]
+fn token_at(s: &Input, at: usize) -> Option<usize>
+    ensures { result ≡ step_of (token_at (text s.now) s.now.end at) }
 {
-    named_at(s, end, 1, at)
+    named_at(s, 1, at)
 }
 
 #[tactic(auto, using(crate::proofs::Laws::Records::leaves))]
-fn leaf_at(s: &[u8], end: usize, kind: Kind, at: usize) -> Option<usize>
-    requires { 4 * end ≤ length s.now }
-    ensures { result ≡ step_of (leaf_at (words s.now) end (kind_number kind) at) }
+fn leaf_at(s: &Input, kind: Kind, at: usize) -> Option<usize>
+    ensures { result ≡ step_of (leaf_at (text s.now) s.now.end (kind_number kind) at) }
 {
     match kind {
         Kind::Epsilon | Kind::Terminal | Kind::EndOfInput => Some(at),
-        Kind::Call => call_at(s, end, at),
-        Kind::Token => token_at(s, end, at),
-        Kind::Action | Kind::Predicate => body_at(s, end, at),
+        Kind::Call => call_at(s, at),
+        Kind::Token => token_at(s, at),
+        Kind::Action | Kind::Predicate => body_at(s, at),
         _ => None,
     }
 }
@@ -139,94 +139,93 @@ fn is_head(s: &[u8], at: usize) -> bool
 }
 
 // An element's fixed words and options, where the fixed words have room.
-fn head_at(s: &[u8], end: usize, at: usize) -> Option<usize>
-    requires { (4 * end ≤ length s.now) × (6 ≤ end - at) }
-    ensures { result ≡ step_of (head_at (words s.now) end at) }
+#[tactic(auto, using(crate::proofs::Laws::Trees::heads))]
+fn head_at(s: &Input, at: usize) -> Option<usize>
+    requires { 6 ≤ s.now.end - at }
+    ensures { result ≡ step_of (head_at (text s.now) s.now.end at) }
 {
-    if is_head(s, at) {
-        return options_at(s, end, word(s, at + 5), at + 6);
+    if is_head(s.bytes, at) {
+        return options_at(s, word(s.bytes, at + 5), at + 6);
     }
     None
 }
 
+#[tactic(auto, using(crate::proofs::Laws::Trees::trees))]
 #[cycle(tree)]
-fn payload_at(s: &[u8], end: usize, depth: u32, kind: Kind, at: usize) -> Option<usize>
-    requires { 4 * end ≤ length s.now }
+fn payload_at(s: &Input, depth: u32, kind: Kind, at: usize) -> Option<usize>
     ensures { (h : ElementHead)
-        → result ≡ step_of (payload_at (words s.now) end (block_at (words s.now) end depth) h (kind_number kind) at) }
+        → result ≡ step_of (payload_at (text s.now) s.now.end (block_at (text s.now) s.now.end depth) h (kind_number kind) at) }
 {
     match kind {
-        Kind::Block => block_at(s, end, depth, at),
-        _ => leaf_at(s, end, kind, at),
+        Kind::Block => block_at(s, depth, at),
+        _ => leaf_at(s, kind, at),
     }
 }
 
+#[tactic(auto, using(crate::proofs::Laws::Trees::trees))]
 #[cycle(tree)]
-fn element_at(s: &[u8], end: usize, depth: u32, at: usize) -> Option<usize>
-    requires { 4 * end ≤ length s.now }
-    ensures { result ≡ step_of (element_at (words s.now) end (block_at (words s.now) end depth) at) }
+fn element_at(s: &Input, depth: u32, at: usize) -> Option<usize>
+    ensures { result ≡ step_of (element_at (text s.now) s.now.end (block_at (text s.now) s.now.end depth) at) }
 {
-    if end.saturating_sub(at) < 6 {
+    if s.end.saturating_sub(at) < 6 {
         return None;
     }
-    let kind = Kind::try_from(word(s, at + 2) % Kind::END).ok()?;
-    let p = head_at(s, end, at)?;
-    payload_at(s, end, depth, kind, p)
+    let kind = Kind::try_from(word(s.bytes, at + 2) % Kind::END).ok()?;
+    let p = head_at(s, at)?;
+    payload_at(s, depth, kind, p)
 }
 
 // Stays: a loop of its own, as that of alternatives is: a closure for `many` would state the contract of what it calls once more,
 // and put two more frames on the stack at each depth.
 #[cycle(tree)]
-fn elements_at(s: &[u8], end: usize, depth: u32, n: u32, at: usize) -> Option<usize>
-    requires { 4 * end ≤ length s.now }
-    ensures { result ≡ step_of (many (element_at (words s.now) end (block_at (words s.now) end depth)) n at) }
+fn elements_at(s: &Input, depth: u32, n: u32, at: usize) -> Option<usize>
+    ensures { result ≡ step_of (many (element_at (text s.now) s.now.end (block_at (text s.now) s.now.end depth)) n at) }
 {
     let mut p = at;
     for _ in 0..n {
-        p = element_at(s, end, depth, p)?;
+        p = element_at(s, depth, p)?;
     }
     Some(p)
 }
 
+#[tactic(auto, using(crate::proofs::Laws::Trees::trees))]
 #[cycle(tree)]
-fn alternative_at(s: &[u8], end: usize, depth: u32, at: usize) -> Option<usize>
-    requires { 4 * end ≤ length s.now }
-    ensures { result ≡ step_of (alternative_at (words s.now) end (block_at (words s.now) end depth) at) }
+fn alternative_at(s: &Input, depth: u32, at: usize) -> Option<usize>
+    ensures { result ≡ step_of (alternative_at (text s.now) s.now.end (block_at (text s.now) s.now.end depth) at) }
 {
-    if end.saturating_sub(at) < 5 {
+    if s.end.saturating_sub(at) < 5 {
         return None;
     }
-    if AlternativeFlag::MOST < word(s, at + 2) {
+    if AlternativeFlag::MOST < word(s.bytes, at + 2) {
         return None;
     }
-    let n = word(s, at + 4);
-    let p = options_at(s, end, word(s, at + 3), at + 5)?;
-    elements_at(s, end, depth, n, p)
+    let n = word(s.bytes, at + 4);
+    let p = options_at(s, word(s.bytes, at + 3), at + 5)?;
+    elements_at(s, depth, n, p)
 }
 
 #[cycle(tree)]
-fn alternatives_at(s: &[u8], end: usize, depth: u32, n: u32, at: usize) -> Option<usize>
-    requires { 4 * end ≤ length s.now }
-    ensures { result ≡ step_of (many (alternative_at (words s.now) end (block_at (words s.now) end depth)) n at) }
+fn alternatives_at(s: &Input, depth: u32, n: u32, at: usize) -> Option<usize>
+    ensures { result ≡ step_of (many (alternative_at (text s.now) s.now.end (block_at (text s.now) s.now.end depth)) n at) }
 {
     let mut p = at;
     for _ in 0..n {
-        p = alternative_at(s, end, depth, p)?;
+        p = alternative_at(s, depth, p)?;
     }
     Some(p)
 }
 
 // The count and the alternatives of a block that may nest blocks less than `depth` deep.
+#[tactic(auto, using(crate::proofs::Laws::Trees::trees))]
 #[cycle(tree)]
-pub fn block_at(s: &[u8], end: usize, depth: u32, at: usize) -> Option<usize>
-    requires { 4 * end ≤ length s.now }
-    ensures { result ≡ step_of (block_at (words s.now) end depth at) }
+pub fn block_at(s: &Input, depth: u32, at: usize) -> Option<usize>
+    ensures { result ≡ step_of (block_at (text s.now) s.now.end depth at) }
 {
     if depth == 0 {
         return None;
     }
-    if end.saturating_sub(at) < 1 {
+    if s.end.saturating_sub(at) < 1 {
         return None;
     }
-    alternatives_at(s, end, depth - 1, word(s, at), at + 1)
+    alternatives_at(s, depth - 1, word(s.bytes, at), at + 1)
 }

@@ -4,9 +4,11 @@ ghost use Rattle.grammar.specs.Numbers.{rule_limit};
 ghost use Rattle.grammar.specs.Tree.{body_depth};
 ghost use Rattle.grammar.specs.Words.{words};
 ghost use Rattle.grammar.specs.Read.{block_at, rule_at};
+ghost use Rattle.records.specs.Input.{text};
 ghost use Rattle.records.specs.Step.{step_of};
 ghost use Rattle.records.specs.Rules.{IsEmpty, IsWith, RulesRead};
 
+use crate::input::Input;
 use crate::records::{block_at, is_name};
 use words::numbers::{Block, RuleFlags};
 use words::words::word;
@@ -48,18 +50,18 @@ impl Rules {
 }
 
 // One rule between a place and the end of the rules.
-fn rule_at(s: &[u8], end: usize, at: usize) -> Option<usize>
-    requires { 4 * end ≤ length s.now }
-    ensures { result ≡ step_of (rule_at (words s.now) end (block_at (words s.now) end body_depth) at) }
+#[tactic(auto, using(crate::proofs::Laws::Trees::rule_laws))]
+fn rule_at(s: &Input, at: usize) -> Option<usize>
+    ensures { result ≡ step_of (rule_at (text s.now) s.now.end (block_at (text s.now) s.now.end body_depth) at) }
 {
-    if end.saturating_sub(at) < 3 {
+    if s.end.saturating_sub(at) < 3 {
         return None;
     }
-    if RuleFlags::MOST < word(s, at + 2) {
+    if RuleFlags::MOST < word(s.bytes, at + 2) {
         return None;
     }
-    if is_name(word(s, at + 1)) {
-        return block_at(s, end, Block::BODY_DEPTH, at + 3);
+    if is_name(word(s.bytes, at + 1)) {
+        return block_at(s, Block::BODY_DEPTH, at + 3);
     }
     None
 }
@@ -69,6 +71,7 @@ pub fn read_rules(s: &[u8], end: usize) -> Option<Rules>
     requires { (4 * end ≤ length s.now) × (end < 2 ^ 31) }
     ensures { RulesRead (words s.now) end result }
 {
+    let input = Input { bytes: s, end };
     let mut rules = Rules::empty();
     let mut at: usize = 0;
     while at != end {
@@ -79,7 +82,7 @@ pub fn read_rules(s: &[u8], end: usize) -> Option<Rules>
         if end.saturating_sub(at) < 3 {
             return None;
         }
-        let p = rule_at(s, end, at)?;
+        let p = rule_at(&input, at)?;
         rules.add(word(s, at), word(s, at + 1), at as u32);
         at = p;
     }

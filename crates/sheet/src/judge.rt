@@ -19,13 +19,14 @@ use words::numbers::{Refusal, Sort};
 use words::sheet::Sheet;
 use writing::counters::Counters;
 
-// Whether no two of the first n numbers of a row are equal.
-fn row_is_distinct(row: &[u32], n: usize, work: &mut [u8]) -> bool
-    requires { (n ≤ length row.now) × (4 * n ≤ length work.old) }
-    ensures { result ≡ distinct (take n row.now) }
+// Whether no two numbers of a row are equal.
+#[tactic(auto, using(ids::proofs::Laws::Lists::words_take))]
+fn row_is_distinct(row: &[u32], work: &mut [u8]) -> bool
+    requires { 4 * length row.now ≤ length work.old }
+    ensures { result ≡ distinct row.now }
 {
-    put_row(row, n, work);
-    is_distinct(work, n)
+    put_row(row, work);
+    is_distinct(&mut work[..4 * row.len()])
 }
 
 // Whether no two rules share an id, and no two a name.
@@ -34,10 +35,11 @@ fn rows_are_distinct(rules: Rules, work: &mut [u8]) -> bool
     ensures { result ≡ (distinct (take rules.n rules.ids) && distinct (take rules.n rules.names)) }
 {
     let n = rules.n as usize;
-    row_is_distinct(&rules.ids, n, work) && row_is_distinct(&rules.names, n, work)
+    row_is_distinct(&rules.ids[..n], work) && row_is_distinct(&rules.names[..n], work)
 }
 
 // Whether no two ids of one sort are equal: those that rise are not, the others are collected and parted.
+#[tactic(auto, using(ids::proofs::Laws::Lists::words_take))]
 fn sort_is_distinct(s: &Sheet, n: u32, sort: Sort, falls: u64, work: &mut [u8]) -> bool
     requires bounds { 4 * s.now.end + 4 ≤ length work.old }
     requires found_rules { FoundRules (text s.now) s.now.end n 0 × RisesApart (text s.now) s.now.end n (sort_number sort) falls }
@@ -47,7 +49,7 @@ fn sort_is_distinct(s: &Sheet, n: u32, sort: Sort, falls: u64, work: &mut [u8]) 
         return true;
     }
     let k = collect(s, n, sort, work);
-    is_distinct(work, k)
+    is_distinct(&mut work[..4 * k])
 }
 
 // Labels, actions and predicates.

@@ -1,5 +1,5 @@
 -- Tests of a run of words, one word at a time; and no two equal, by places and by the definition.
-use Prim.Native.Nat.{ℕ, zero, suc, ◌+◌, ◌-◌, ◌*◌, ◌<◌, ◌≤◌}
+use Prim.Native.Nat.{ℕ, zero, suc, ◌+◌, ◌-◌, ◌*◌, ◌/◌, ◌<◌, ◌≤◌}
 use mathlib.Core.Path.{◌≡◌, refl, sym, ap, ◌∙◌}
 use mathlib.Core.Logic.{◌≢◌}
 use mathlib.Core.List.{List, [], ◌∷◌}
@@ -7,15 +7,14 @@ use mathlib.Core.Bool.{Bool, true, false, ◌&&◌, ◌||◌}
 use native.Mathlib.Omega.{arith}
 use native.Mathlib.Numerals.{add-one}
 use lib.ListN.{length, get_or, set, take, drop, length-take}
-use lib.Seq.{drop-cons, take-suc, take-suc-set, get_or-take, length-take-le}
+use lib.Seq.{drop-cons, take-suc, take-suc-set, take-length, take_all}
 use lib.Dec.{ltb, eqb}
 use borrow.Author.Tests.{lt-ltb, le-ltb, ltb-true, eq-eqb, eqb-true, eqb-false}
-use Rattle.grammar.specs.Words.{words}
+use Rattle.grammar.specs.Words.{words, word_of}
 use Rattle.grammar.specs.Lists.{rising, member, distinct}
 use Rattle.grammar.specs.Laws.Words.{length_words}
 use Rattle.grammar.specs.Laws.Parse.{left_true, right_true}
 use Rattle.ids.specs.Distinct.{Injective, InRange, Judged}
-use Rattle.ids.proofs.Laws.Distinct.{untouched}
 
 -- strictly rising
 two_rise : (ws : List ℕ) (at m : ℕ) → at + m + 2 ≤ length ws
@@ -88,26 +87,23 @@ range_all xs n i h g so = let e : i ≡ n = omega arith in rw e at so
 pub ruleset ranges = (range_none, range_more, range_all)
 
 -- a row copied: the first `i` words are its first `i` numbers
-pub record Copying (row before s : List ℕ) (n i : ℕ) : Type 0 where
-  pub within : i ≤ n
-  pub few : n ≤ length row
-  pub room : 4 * n ≤ length before
+pub record Copying (row before s : List ℕ) (i : ℕ) : Type 0 where
+  pub within : i ≤ length row
+  pub room : 4 * length row ≤ length before
   pub long : length s ≡ length before
   pub is : take i (words s) ≡ take i row
 
-pub none_copied : (row s : List ℕ) (n : ℕ) → n ≤ length row → 4 * n ≤ length s → Copying row s s n 0
-none_copied row s n h g = record { within = omega arith; few = h; room = g; long = refl; is = refl }
+pub none_copied : (row s : List ℕ) → 4 * length row ≤ length s → Copying row s s 0
+none_copied row s g = record { within = omega arith; room = g; long = refl; is = refl }
 
-module _ {row before s : List ℕ} {n i : ℕ} (c : Copying row before s n i) where
-  pub more_copied : {after : List ℕ} → i < n → words after ≡ set (words s) i (get_or row i 0) → length after ≡ length s
-      → Copying row before after n (i + 1)
+module _ {row before s : List ℕ} {i : ℕ} (c : Copying row before s i) where
+  pub more_copied : {after : List ℕ} → i < length row → words after ≡ set (words s) i (get_or row i 0) → length after ≡ length s
+      → Copying row before after (i + 1)
   more_copied h e l =
-      let f = c.few in
       let g = c.room in
       let k = c.long in
       record {
         within = omega arith;
-        few = f;
         room = g;
         long = omega arith;
         is =
@@ -116,8 +112,11 @@ module _ {row before s : List ℕ} {n i : ℕ} (c : Copying row before s n i) wh
             ∙ rw c.is (sym (take-suc row i 0 (omega arith))));
       }
 
-  pub all_copied : n ≤ i → take n (words s) ≡ take n row
-  all_copied h = let z = c.within in let e : i ≡ n = omega arith in rw e at c.is
+  pub all_copied : length row ≤ i → take (length row) (words s) ≡ row
+  all_copied h =
+      let z = c.within in
+      let e : i ≡ length row = omega arith in
+      rw e at c.is ∙ take-length row
 
 pub ruleset copies = (none_copied, more_copied, all_copied)
 
@@ -189,30 +188,19 @@ distinct_apart (y ∷ ys) d (suc i) zero ai ib aj jb e =
 distinct_apart (y ∷ ys) d (suc i) (suc j) ai ib aj jb e =
     ap suc (distinct_apart ys (distinct_head y ys d).1 i j (omega arith) (omega arith) (omega arith) (omega arith) e)
 
-pub judged_distinct : (bs : List ℕ) (n : ℕ) {r : Bool} → 4 * n ≤ length bs → Judged (words bs) 0 n r → r ≡ distinct (take n (words bs))
+pub judged_distinct : (bs : List ℕ) {r : Bool} → Judged (words bs) 0 (length bs / 4) r → r ≡ distinct (words bs)
 unfolding Apart
-judged_distinct bs n {r} h j = go r refl (distinct ys) refl
+judged_distinct bs {r} j = go r refl (distinct (words bs)) refl
   where
-    ys : List ℕ
-    ys = take n (words bs)
+    here : Injective (words bs) 0 (length bs / 4) → Apart (words bs)
+    here f i k ai ib ak kb e = let l = length_words bs in f i k ai (omega arith) ak (omega arith) e
 
-    long : length ys ≡ n
-    long = length-take-le n (words bs) (rw length_words (omega arith))
+    there : Apart (words bs) → Injective (words bs) 0 (length bs / 4)
+    there f i k ai ib ak kb e = let l = length_words bs in f i k ai (omega arith) ak (omega arith) e
 
-    here : Injective (words bs) 0 n → Apart ys
-    here f i k ai ib ak kb e =
-        let l = long in
-        f i k ai (omega arith) ak (omega arith)
-        (sym (get_or-take n (words bs) i 0 (omega arith)) ∙ e ∙ get_or-take n (words bs) k 0 (omega arith))
-
-    there : Apart ys → Injective (words bs) 0 n
-    there f i k ai ib ak kb e =
-        let l = long in
-        f i k ai (omega arith) ak (omega arith) (get_or-take n (words bs) i 0 ib ∙ e ∙ sym (get_or-take n (words bs) k 0 kb))
-
-    go : (b : Bool) → r ≡ b → (d : Bool) → distinct ys ≡ d → r ≡ distinct ys
-    go true e d f = e ∙ sym (apart_distinct ys (here (j.good e)))
-    go false e true f = absurd (j.bad e (there (distinct_apart ys f)))
+    go : (b : Bool) → r ≡ b → (d : Bool) → distinct (words bs) ≡ d → r ≡ distinct (words bs)
+    go true e d f = e ∙ sym (apart_distinct (words bs) (here (j.good e)))
+    go false e true f = absurd (j.bad e (there (distinct_apart (words bs) f)))
     go false e false f = e ∙ sym f
 
 -- what rises is distinct
@@ -247,12 +235,24 @@ unfolding distinct
 rising_apart [] e = refl
 rising_apart (x ∷ xs) e = let a = rising_above x xs e in rw (above_none x xs a) a.apart
 
-pub rising_distinct : (bs : List ℕ) (n : ℕ) {b : Bool} → b ≡ rising (take n (drop 0 (words bs))) → b ≡ true
-    → true ≡ distinct (take n (words bs))
-rising_distinct bs n e f = sym (rising_apart (take n (words bs)) (sym e ∙ f))
+pub rising_distinct : (bs : List ℕ) {b : Bool} → b ≡ rising (take (length bs / 4) (drop 0 (words bs))) → b ≡ true
+    → true ≡ distinct (words bs)
+rising_distinct bs e f =
+    let l = length_words bs in
+    let z : take (length bs / 4) (words bs) ≡ words bs = take_all (length bs / 4) (words bs) (omega arith) in
+    sym (rising_apart (words bs) (sym (rw z at e) ∙ f))
 
-pub ruleset distincts = (judged_distinct, rising_distinct, untouched)
+pub ruleset distincts = (judged_distinct, rising_distinct)
 
--- a row copied into words is as distinct as they are
-pub row_distinct : (xs row : List ℕ) (n : ℕ) {r : Bool} → r ≡ distinct (take n xs) → take n xs ≡ take n row → r ≡ distinct (take n row)
-row_distinct xs row n e f = e ∙ ap distinct f
+-- the words of the first bytes are the first words
+four : (n : ℕ) → 4 * suc n ≡ suc (suc (suc (suc (4 * n))))
+four n = omega arith
+
+pub words_take : (bs : List ℕ) (n : ℕ) → 4 * n ≤ length bs → words (take (4 * n) bs) ≡ take n (words bs)
+unfolding words
+words_take bs zero h = refl
+words_take [] (suc n) h = absurd (omega arith)
+words_take (a ∷ []) (suc n) h = absurd (omega arith)
+words_take (a ∷ b ∷ []) (suc n) h = absurd (omega arith)
+words_take (a ∷ b ∷ c ∷ []) (suc n) h = absurd (omega arith)
+words_take (a ∷ b ∷ c ∷ d ∷ bs) (suc n) h = rw (four n) (ap {B = List ℕ} (λ l. word_of a b c d ∷ l) (words_take bs n (omega arith)))

@@ -1,29 +1,17 @@
 -- What stands in a buffer at exit: words from the front, zeros behind them.
-use Prim.Native.Nat.{ℕ, zero, suc, ◌-◌, ◌*◌, ◌≤◌}
-use mathlib.Core.Path.{◌≡◌, refl, sym, ap, ap₂, ◌∙◌}
+use Prim.Native.Nat.{ℕ, zero, suc, ◌-◌, ◌*◌}
+use mathlib.Core.Path.{◌≡◌, sym, ap, ap₂, ◌∙◌}
 use mathlib.Core.List.{List, [], ◌∷◌, ◌++◌}
 use native.Mathlib.Omega.{arith}
 use lib.ListN.{length, take, replicate}
 use lib.Seq.{length-take-le}
-use Rattle.grammar.specs.Words.{words, word_of, bytes}
+use Rattle.grammar.specs.Words.{words, bytes}
 use Rattle.grammar.specs.Laws.Words.{AreBytes, length_words, length_bytes, bytes_words}
 use Rattle.grammar.specs.Laws.Stands.{stands_slice, stands_length}
+use Rattle.ids.proofs.Laws.Lists.{words_take}
 use Rattle.reference.specs.Run.{filled}
 use Rattle.run.specs.Ended.{Front}
 use Rattle.pass.specs.Handed.{ClearedFrom}
-
-four : (n : ℕ) → 4 * suc n ≡ suc (suc (suc (suc (4 * n))))
-four n = omega arith
-
--- The words of the first bytes are the first words.
-words_take : (bs : List ℕ) (n : ℕ) → 4 * n ≤ length bs → words (take (4 * n) bs) ≡ take n (words bs)
-unfolding words
-words_take bs zero h = refl
-words_take [] (suc n) h = absurd (omega arith)
-words_take (a ∷ []) (suc n) h = absurd (omega arith)
-words_take (a ∷ b ∷ []) (suc n) h = absurd (omega arith)
-words_take (a ∷ b ∷ c ∷ []) (suc n) h = absurd (omega arith)
-words_take (a ∷ b ∷ c ∷ d ∷ bs) (suc n) h = rw (four n) (ap {B = List ℕ} (λ l. word_of a b c d ∷ l) (words_take bs n (omega arith)))
 
 take_bytes : (bs : List ℕ) (n : ℕ) → AreBytes bs → AreBytes (take n bs)
 take_bytes bs zero h i = omega arith

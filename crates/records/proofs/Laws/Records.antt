@@ -1,5 +1,5 @@
 -- The returns of the functions that test records.
-use Prim.Native.Nat.{ℕ, zero, suc, ◌+◌, ◌-◌, ◌<◌, ◌≤◌}
+use Prim.Native.Nat.{ℕ, ◌+◌, ◌-◌, ◌<◌, ◌≤◌}
 use mathlib.Core.Path.{◌≡◌, refl, sym, ◌∙◌}
 use mathlib.Core.Logic.{◌⊎◌, inl, inr}
 use mathlib.Core.List.{List}
@@ -8,7 +8,7 @@ use native.Mathlib.Omega.{arith}
 use lib.ListN.{get_or}
 use lib.Dec.{leb, eqb}
 use borrow.Author.Tests.{le-leb, lt-leb, eq-eqb, ne_eqb}
-use Rattle.grammar.specs.Numbers.{most_name, non_local, epsilon_kind, predicate_kind, call_kind, token_kind, terminal_kind, end_kind}
+use Rattle.grammar.specs.Numbers.{most_name, non_local}
 use Rattle.grammar.specs.Parse.{got, given, many}
 use Rattle.grammar.specs.Read.{is_name, is_label, action_of, predicate_of, option_at, reference_at, body_at, call_at, token_at, leaf_at}
 use Rattle.std.specs.Prelude.{Option, Some, None, Result, is_ok, is_err}

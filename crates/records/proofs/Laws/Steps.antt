@@ -64,6 +64,8 @@ module _ (step : ℕ → Option ℕ) where
       pub left_bad : None ≡ step p → None ≡ repeated step n at
       left_bad e = sym (opened ∙ rw (sym e) refl)
 
+pub ruleset lefts = (left_all, left_more, left_bad, left_done)
+
 -- repeating what a definition finds
 module _ {A : Type 0} where
   many_step : (g : Got A) (rest : ℕ → Option ℕ) (all : ℕ → Got (List A)) → ((p : ℕ) → rest p ≡ step_of (all p))

@@ -9,7 +9,7 @@ use lib.ListN.{get_or}
 use borrow.Author.Tests.{le-leb, lt-leb, ne_eqb}
 use Rattle.grammar.specs.Tree.{Element, ElementHead, leaf, block, AlternativeOf, RuleOf}
 use Rattle.grammar.specs.Parse.{Got, many}
-use Rattle.grammar.specs.Numbers.{most_rule_flags, most_alternative_flag, one_or_more_nongreedy, block_kind, kind_end}
+use Rattle.grammar.specs.Numbers.{most_rule_flags, most_alternative_flag, block_kind, kind_end}
 use Rattle.grammar.specs.Read.{is_name, is_label, label_of, is_head, option_at, leaf_at, head_at, payload_at, element_at, alternative_at}
 use Rattle.grammar.specs.Read.{block_at, rule_at}
 use Rattle.std.specs.Prelude.{Option, Some, None, Result, Ok, Err, is_err}

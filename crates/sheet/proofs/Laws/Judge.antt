@@ -1,9 +1,8 @@
 -- Tests of all the ids of one sort, and of one sort after the other.
-use Prim.Native.Nat.{ℕ, ◌≤◌}
+use Prim.Native.Nat.{ℕ}
 use mathlib.Core.Path.{◌≡◌, refl, sym, ap, ◌∙◌}
 use mathlib.Core.List.{List}
 use mathlib.Core.Bool.{Bool, true, false, ◌&&◌}
-use native.Mathlib.Omega.{arith}
 use lib.ListN.{length, take, length-map}
 use lib.Seq.{take-append_seam}
 use Rattle.grammar.specs.Tree as tree
@@ -16,22 +15,10 @@ use Rattle.ids.specs.declared.survey.Survey.{Survey}
 use Rattle.std.specs.Prelude.{Ok, Err}
 use Rattle.words.specs.declared.numbers.Refusal.TheVariants.{SharedNumber, IdPastCounter}
 use Rattle.sheet.specs.Verdict.{verdict}
-use Rattle.ids.specs.Survey.{RisesApart, Surveyed, SortDistinct, BodiesDistinct, all_under}
+use Rattle.ids.specs.Survey.{Surveyed, BodiesDistinct, all_under}
 use Rattle.grammar.specs.Found.{FoundRules}
-use Rattle.ids.specs.Ids.{CollectedSort}
 use Rattle.records.specs.Rules.{row, FoundRows}
-use Rattle.records.proofs.Laws.Rules.{row_long}
 use Rattle.ids.proofs.Laws.Track.{and_assoc}
-
-module _ {ws : List ℕ} {end n sort : ℕ} where
-  pub sort_rising : {falls : ℕ} → RisesApart ws end n sort falls → falls ≡ 0 → SortDistinct ws end n sort true
-  sort_rising s e = record { is = λ f. sym (s.apart f e) }
-
-  pub sort_parted : {after : List ℕ} {k : ℕ} {r : Bool} → CollectedSort ws end n sort after k → r ≡ distinct (take k after)
-      → SortDistinct ws end n sort r
-  sort_parted c e = record { is = λ f. e ∙ ap distinct (c.wrote f.trees f.next f.spans f.count) }
-
-pub ruleset sorts = (sort_rising, sort_parted)
 
 all_below : {ws : List ℕ} {end n : ℕ} (c : tree.Counters) {v : Survey} {r : Bool} → Surveyed ws end n v → r ≡ all_under v c
     → (f : FoundRules ws end n 0) → r ≡ is_below c f.trees
@@ -68,20 +55,6 @@ bodies f =
     && (distinct (body_ids action_sort f.found.trees) && distinct (body_ids predicate_sort f.found.trees))))
 
 module _ {ws : List ℕ} {end : ℕ} {rules : Rules} (f : FoundRows ws end rules) where
-  pub ids_long : rules.n ≤ length rules.ids
-  ids_long =
-      let e = f.rows.count in
-      let m = length-map f.found.trees (λ r. r.id) in
-      let h = f.few in
-      rw f.rows.ids (let l = row_long (rule_ids f.found.trees) (omega arith) in omega arith)
-
-  pub names_long : rules.n ≤ length rules.names
-  names_long =
-      let e = f.rows.count in
-      let m = length-map f.found.trees (λ r. r.name) in
-      let h = f.few in
-      rw f.rows.names (let l = row_long (rule_names f.found.trees) (omega arith) in omega arith)
-
   module _ {a : Bool} (x : a ≡ (distinct (take rules.n rules.ids) && distinct (take rules.n rules.names))) where
     rows_are : a ≡ (distinct (rule_ids f.found.trees) && distinct (rule_names f.found.trees))
     rows_are =
@@ -119,7 +92,5 @@ module _ {ws : List ℕ} {end : ℕ} {rules : Rules} (c : tree.Counters) {a : Bo
       pub all_good : d ≡ true → (f : FoundRows ws end rules)
           → Ok tt ≡ verdict (is_distinct f.found.trees) (is_below c f.found.trees)
       all_good l f = rw (sym (all_distinct f x h y) ∙ k, sym (all_below c s z f.found) ∙ l) refl
-
-pub ruleset rows = (ids_long, names_long)
 
 pub ruleset verdicts = (rows_refused, bodies_refused, below_refused, all_good)

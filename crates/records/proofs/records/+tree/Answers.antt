@@ -1,44 +1,11 @@
-use Rattle.std.proofs.Common.{rules, arith, ◌∙◌}
+use Rattle.std.proofs.Common.{arith, ◌∙◌}
 use Rattle.records.proofs.records.+tree.Goals as goal
-use Rattle.records.proofs.Laws.Steps.{left_all, left_more, left_bad, left_done, many_steps}
-use Rattle.records.proofs.Laws.Trees.{trees, element_more, element_unknown}
-
-pub alternative_at-returns-then-saturating_sub-lt5 : goal.alternative_at-returns-then-saturating_sub-lt5
-alternative_at-returns-then-saturating_sub-lt5 t c = search (rules, trees)
-
-pub alternative_at-returns-then-word-gt-MOST : goal.alternative_at-returns-then-word-gt-MOST
-alternative_at-returns-then-word-gt-MOST t c = search (rules, trees)
-
-pub alternative_at-returns : goal.alternative_at-returns
-alternative_at-returns t c = let found = c.in_ok-p.ensures in search (rules, trees)
-
-pub alternative_at-returns-in_err-p : goal.alternative_at-returns-in_err-p
-alternative_at-returns-in_err-p t c = let found = c.in_err-p.ensures in search (rules, trees)
-
-pub block_at-returns-then-saturating_sub-lt1 : goal.block_at-returns-then-saturating_sub-lt1
-block_at-returns-then-saturating_sub-lt1 t c = search (rules, trees)
-
-pub block_at-returns : goal.block_at-returns
-block_at-returns t c = search (rules, trees)
-
-pub element_at-returns-then-saturating_sub-lt6 : goal.element_at-returns-then-saturating_sub-lt6
-element_at-returns-then-saturating_sub-lt6 t c = search (rules, trees)
+use Rattle.records.proofs.Laws.Steps.{left_more, left_bad, left_done, many_steps}
+use Rattle.records.proofs.Laws.Trees.{element_more}
 
 pub element_at-returns : goal.element_at-returns
 element_at-returns t c =
     element_more _ _ _ _ c.word.ensures _ c.try_from.ensures c.in_ok-kind.ensures.value c.in_ok-p.ensures c.payload_at.ensures
-
-pub element_at-returns-in_err-p : goal.element_at-returns-in_err-p
-element_at-returns-in_err-p t c = let found = c.in_err-p.ensures in search (rules, trees)
-
-pub payload_at-returns-in-Block : goal.payload_at-returns-in-Block
-payload_at-returns-in-Block t c = search (rules, trees)
-
-pub payload_at-returns-in_default : goal.payload_at-returns-in_default
-payload_at-returns-in_default t c = search (rules, trees)
-
-pub alternatives_at-loop-init : goal.alternatives_at-loop-init
-alternatives_at-loop-init t c = left_all _ _ _
 
 pub alternatives_at-loop-preserved : goal.alternatives_at-loop-preserved
 alternatives_at-loop-preserved t c = left_more _ c.loop.invariant (omega arith) c.in_ok-p.ensures
@@ -50,9 +17,6 @@ alternatives_at-returns-in_err-p t c =
 pub alternatives_at-returns : goal.alternatives_at-returns
 alternatives_at-returns t c = left_done _ c.loop.invariant (omega arith) ∙ many_steps _ _ _
 
-pub elements_at-loop-init : goal.elements_at-loop-init
-elements_at-loop-init t c = left_all _ _ _
-
 pub elements_at-loop-preserved : goal.elements_at-loop-preserved
 elements_at-loop-preserved t c = left_more _ c.loop.invariant (omega arith) c.in_ok-p.ensures
 
@@ -62,7 +26,3 @@ elements_at-returns-in_err-p t c =
 
 pub elements_at-returns : goal.elements_at-returns
 elements_at-returns t c = left_done _ c.loop.invariant (omega arith) ∙ many_steps _ _ _
-
-pub element_at-returns-in_err-kind : goal.element_at-returns-in_err-kind
-element_at-returns-in_err-kind t c =
-    element_unknown _ _ _ _ c.word.ensures _ c.try_from.ensures c.from_residual.ensures c.in_err-kind.ensures.value

@@ -1,7 +1,7 @@
 use Prim.Native.Nat.{◌+◌, ◌*◌}
+use Rattle.records.specs.Input.{text}
 use Rattle.records.specs.Step.{step_of}
 use Rattle.records.proofs.Laws.Steps.{Left}
-use Rattle.grammar.specs.Words.{words}
 use Rattle.grammar.specs.Read.{element_at, alternative_at, block_at}
 use Rattle.records.proofs.records.+tree.Given as goal
 
@@ -25,8 +25,8 @@ decreases-payload_at l = l.depth * 8 + 1
 
 abbrev pub invariant-alternatives_at-loop : goal.invariant-alternatives_at-loop
 invariant-alternatives_at-loop l =
-    Left (λ x. step_of (alternative_at (words l.s) l.end (block_at (words l.s) l.end l.depth) x)) l.n l.at l.counter l.p
+    Left (λ x. step_of (alternative_at (text l.s) l.s.end (block_at (text l.s) l.s.end l.depth) x)) l.n l.at l.counter l.p
 
 abbrev pub invariant-elements_at-loop : goal.invariant-elements_at-loop
 invariant-elements_at-loop l =
-    Left (λ x. step_of (element_at (words l.s) l.end (block_at (words l.s) l.end l.depth) x)) l.n l.at l.counter l.p
+    Left (λ x. step_of (element_at (text l.s) l.s.end (block_at (text l.s) l.s.end l.depth) x)) l.n l.at l.counter l.p

@@ -1,11 +1,11 @@
 use Rattle.std.proofs.Common.{rules, ◌∙◌}
-use Rattle.grammar.specs.Words.{words}
 use Rattle.grammar.specs.Read.{option_at}
+use Rattle.records.specs.Input.{text}
 use Rattle.records.specs.Step.{step_of}
 use Rattle.records.proofs.records.options_at.Goals as goal
 use Rattle.records.proofs.Laws.Steps.{many_steps}
 
 pub returns : goal.returns
 returns c =
-    c.many.ensures (λ x. step_of (option_at (words c.args.s.now) c.args.end x)) (λ x r h p. search rules)
-    ∙ many_steps (option_at (words c.args.s.now) c.args.end) c.args.n c.args.at
+    c.many.ensures (λ x. step_of (option_at (text c.args.s.now) c.args.s.now.end x)) (λ x r h p. search rules)
+    ∙ many_steps (option_at (text c.args.s.now) c.args.s.now.end) c.args.n c.args.at

@@ -2,26 +2,20 @@ use Rattle.std.proofs.Common.{rules}
 use Rattle.records.proofs.rules.read_rules.Goals as goal
 use Rattle.records.proofs.Laws.Rules.{reads}
 
--- src/rules.rt:89:5
 pub loop-at-init : goal.loop-at-init
 loop-at-init c = search (rules, reads)
 
--- src/rules.rt:92:13
 pub returns-then-n-eq-LIMIT : goal.returns-then-n-eq-LIMIT
 returns-then-n-eq-LIMIT c = search (rules, reads)
 
--- src/rules.rt:95:13
 pub returns-then-saturating_sub-lt3 : goal.returns-then-saturating_sub-lt3
 returns-then-saturating_sub-lt3 c = search (rules, reads)
 
--- src/rules.rt:98:26
 pub returns-in_err-p : goal.returns-in_err-p
 returns-in_err-p c = let found = c.in_err-p.ensures in rw c.from_residual.ensures (search (rules, reads))
 
--- src/rules.rt:89:5
 pub loop-at-preserved : goal.loop-at-preserved
 loop-at-preserved c = search (rules, reads)
 
--- src/rules.rt:83:1
 pub returns : goal.returns
 returns c = search (rules, reads)

@@ -1,0 +1,7 @@
+-- The words of what is read.
+use Rattle.std.specs.Prelude.{ℕ, List}
+use Rattle.grammar.specs.Words.{words}
+use Rattle.records.specs.declared.input.Input.{Input}
+
+abbrev pub text : Input → List ℕ
+text s = words s.bytes.now
