@@ -42,6 +42,7 @@ impl Seen {
 }
 
 // A call of rule i, which can be empty or not.
+#[tactic(auto, using(crate::proofs::Laws::Seen::call_seen))]
 fn see_call(i: usize, empty: bool, t: &mut Seen)
     requires { i < rule_limit }
     ensures { seen_of t.new ≡ past_call (seen_of t.old) i empty }

@@ -49,6 +49,7 @@ pub fn scan(names: &[u32], n: usize, name: u32) -> Option<usize>
 }
 
 // A byte of the table says where to look. Where another name stands there, or without a table, the names are looked through.
+#[tactic(auto, using(crate::proofs::Laws::Names::lookups))]
 pub fn look_up(v: &Known, name: u32) -> Option<usize>
     ensures { IsTarget v.now.names.now v.now.n name result }
 {

@@ -36,14 +36,9 @@ fn mark(r: Round, i: usize, nullable: bool, stops: bool) -> Round
     requires { (i < rule_limit) × (r.count ≤ rule_limit) }
     ensures { Marked r i nullable stops result }
 {
-    let m = r.marks;
-    let a = m.nullable;
-    let b = m.stops;
-    let c = add_if(a, i, nullable);
-    let d = add_if(b, i, stops);
     let marks = Marks {
-        nullable: c,
-        stops: d,
+        nullable: add_if(r.marks.nullable, i, nullable),
+        stops: add_if(r.marks.stops, i, stops),
     };
     Round {
         marks,
@@ -80,8 +75,7 @@ fn survey_all(
         let k = t.corners;
         calls[i] = c;
         corners[i] = k;
-        let m = mark(r, i, t.nullable, t.stops);
-        r = m;
+        r = mark(r, i, t.nullable, t.stops);
     }
     r
 }

@@ -27,13 +27,13 @@ fn walk_item(s: &Sheet, v: &Known, depth: u32, e: Item, t: &mut Seen)
     }
 }
 
-// The elements of an alternative from an index on.
-fn walk_rest(s: &Sheet, v: &Known, depth: u32, work: &[u8], x: Listed, from: usize, t: &mut Seen)
+// The elements of an alternative behind the first.
+fn walk_rest(s: &Sheet, v: &Known, depth: u32, work: &[u8], x: Listed, t: &mut Seen)
     requires { Located work.now x × ListedIn (text s.now) s.now.end depth work.now x }
-    ensures { RestWalked (view_of v.now) depth (drop from (meaning (text s.now) s.now.end depth work.now x).elements)
+    ensures { RestWalked (view_of v.now) depth (drop 1 (meaning (text s.now) s.now.end depth work.now x).elements)
         (seen_of t.old) (seen_of t.new) }
 {
-    for i in from..x.ne {
+    for i in 1..x.ne {
         walk_item(s, v, depth, item(work, x, i), t);
     }
 }
@@ -49,6 +49,6 @@ pub fn walk_alternative(s: &Sheet, v: &Known, depth: u32, work: &[u8], x: Listed
     }
     walk_item(s, v, depth, item(work, x, 0), &mut t);
     t.null = true;
-    walk_rest(s, v, depth, work, x, 1, &mut t);
+    walk_rest(s, v, depth, work, x, &mut t);
     t
 }

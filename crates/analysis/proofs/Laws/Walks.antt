@@ -139,7 +139,8 @@ pub body_room : (v : View) {ws : List ℕ} {end n at : ℕ} {s₀ : Seen} {k p :
 body_room v g l = alternative_room inner_depth (counted_found g l)
 
 -- A whole rule.
-pub rule_surveyed : (v : View) {ws : List ℕ} {end at m f q : ℕ} (b t : Held) → seen_of b ≡ unseen → m ≡ get_or ws (at + 3) 0 → f ≡ get_or ws (at + 2) 0
+pub rule_surveyed : (v : View) {ws : List ℕ} {end at m f q : ℕ} (b t : Held) → seen_of b ≡ unseen → m ≡ get_or ws (at + 3) 0
+    → f ≡ get_or ws (at + 2) 0
     → BodyWalked v ws end m (at + 4) (seen_of b) q (seen_of t)
     → BodySeen v ws end at
     (record { calls = t.calls; corners = t.corners; stops = t.stops || not (eqb f 0); nullable = t.null })

@@ -27,7 +27,8 @@ no_table {rules = rules} s e table none =
 
 module _ {ws : List ℕ} {end : ℕ} {rules : Rules} {n : ℕ} (e : n ≡ rules.n) {nullable : List ℕ} {past : Bool} where
   known_by : (s : Standing ws end rules) (g : Grammar) → g.names ≡ names_of s.rows.found.trees
-      → RowOf rules.ids rules.n g.nullable nullable → Agrees g rules.ids (record { names = rules.names; n = n; nullable = nullable; past = past })
+      → RowOf rules.ids rules.n g.nullable nullable
+      → Agrees g rules.ids (record { names = rules.names; n = n; nullable = nullable; past = past })
   known_by s g names row =
       subst
       (λ ns.
@@ -41,7 +42,8 @@ module _ {ws : List ℕ} {end : ℕ} {rules : Rules} {n : ℕ} (e : n ≡ rules.
       (sym e) (agrees s row past))
 
   pub judged_found : {members : List ℕ} {hub : ℕ} {bs : List ℕ} {l : Sizes} {r : Option (List ℕ)}
-      → JudgedOf (record { names = rules.names; n = n; nullable = nullable; past = past }) members hub inner_depth (settled ws end inner_depth bs l) r
+      → JudgedOf (record { names = rules.names; n = n; nullable = nullable; past = past }) members hub inner_depth
+      (settled ws end inner_depth bs l) r
       → JudgedFound ws end rules nullable past members hub bs l r
   judged_found {members} {hub} {bs} {l} {r} j =
       record {

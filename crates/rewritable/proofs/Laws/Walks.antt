@@ -114,7 +114,9 @@ module _ (v : View) (ws : List ℕ) (end d : ℕ) (bs : List ℕ) (x : Listed) w
         record {
           calls = λ w. record { at = no_calls all_of w empty };
           corners = λ w. record { at = no_corners all_of w empty };
-          tail = λ w. ap (λ s. s.null) begin ∙ sym (ap (λ es. all (element_nullable w.grammar (block_is_nullable w.grammar d)) (drop 1 es)) none);
+          tail = λ w.
+              ap (λ s. s.null) begin
+              ∙ sym (ap (λ es. all (element_nullable w.grammar (block_is_nullable w.grammar d)) (drop 1 es)) none);
         }
 
     -- Behind the first element, where the count of what is nullable starts anew.

@@ -21,8 +21,10 @@ decreases-other_element l = l.depth * 5
 
 abbrev pub invariant-alternatives-loop : goal.invariant-alternatives-loop
 invariant-alternatives-loop l =
-    AlternativesFolding (surveying (view_of l.v)) (text l.s) l.s.end l.depth l.n l.at (seen_of l.initial.t) (l.n - l.counter) l.p (seen_of l.t)
+    AlternativesFolding (surveying (view_of l.v)) (text l.s) l.s.end l.depth l.n l.at (seen_of l.initial.t)
+    (l.n - l.counter) l.p (seen_of l.t)
 
 abbrev pub invariant-elements-loop : goal.invariant-elements-loop
 invariant-elements-loop l =
-    ElementsFolding (surveying (view_of l.v)) (text l.s) l.s.end l.depth l.n l.at (seen_of l.initial.t) (l.n - l.counter) l.p (seen_of l.t)
+    ElementsFolding (surveying (view_of l.v)) (text l.s) l.s.end l.depth l.n l.at (seen_of l.initial.t)
+    (l.n - l.counter) l.p (seen_of l.t)
