@@ -1,6 +1,6 @@
 -- One walk over a rule's body: the rules that it calls, its left corners, whether an action or a predicate stands in it, and
 -- whether it is nullable, by what is known of the rules (SPECIFICATION 6, 7.5). The walk is a fold over the tree.
-use Rattle.std.specs.Prelude.{ℕ, ◌+◌, ◌/◌, ◌≡◌, List, [], ◌∷◌, ◌++◌, Bool, true, false, ◌&&◌, ◌||◌, not, get_or, eqb, leb}
+use Rattle.std.specs.Prelude.{ℕ, ◌/◌, ◌≡◌, List, ◌++◌, Bool, true, false, ◌&&◌, ◌||◌, not, eqb, leb}
 use Rattle.grammar.specs.Numbers.{action_sort, predicate_sort, optional_greedy, zero_or_more_nongreedy, kind_end}
 use Rattle.grammar.specs.Tree.{Call, Leaf, call, AlternativeOf, Block, Rule, body_depth, inner_depth}
 use Rattle.grammar.specs.Stands.{Stands}
@@ -14,7 +14,8 @@ use Rattle.grammar.specs.Found.{RuleSpans}
 use Rattle.reference.specs.Walks.{silent, consuming, calling, sort_of, is_end, is_optional}
 use Rattle.reach.specs.Rows.{bit}
 use Rattle.analysis.specs.Names.{is_named, any_below}
-use Rattle.analysis.specs.declared.leaf.Known.{Known}
+use Rattle.analysis.specs.declared.known.Known.{Known}
+use Rattle.analysis.specs.declared.leaf.Seen.{Seen as Held}
 use Rattle.analysis.specs.declared.survey.Survey.{Survey}
 
 -- What is known of the rules: their names by place, how many places there are, which are nullable as far as is known, and
@@ -25,8 +26,8 @@ pub record View : Type 0 where
   pub nullable : List ℕ
   pub past : Bool
 
-abbrev pub view_of : List ℕ → Known → View
-view_of names k = record { names = names; n = k.n; nullable = k.nullable; past = k.past }
+abbrev pub view_of : Known → View
+view_of k = record { names = k.names.now; n = k.n; nullable = k.nullable; past = k.past }
 
 abbrev pub reading : Bool → Corners
 reading true = textbook
@@ -41,16 +42,13 @@ pub record Seen : Type 0 where
   pub seeks : Bool
   pub null : Bool
 
--- Five numbers as what was seen: two rows of two words, and 1 where something stops inlining.
-unfoldable pub seen_of : List ℕ → Bool → Bool → Seen
-seen_of xs seeks null =
-    record {
-      calls = bit (get_or xs 0 0 ∷ get_or xs 1 0 ∷ []);
-      corners = bit (get_or xs 2 0 ∷ get_or xs 3 0 ∷ []);
-      stops = eqb (get_or xs 4 0) 1;
-      seeks = seeks;
-      null = null;
-    }
+-- What the code holds of it, with a row for each of the two sets.
+unfoldable pub seen_of : Held → Seen
+seen_of t = record { calls = bit t.calls; corners = bit t.corners; stops = t.stops; seeks = t.seeks; null = t.null }
+
+-- The rows and what stops as they are, with another state of the walk.
+abbrev pub turned : Bool → Bool → Held → Held
+turned seeks null t = record { calls = t.calls; corners = t.corners; stops = t.stops; seeks = seeks; null = null }
 
 -- An action or a predicate.
 unfoldable pub is_semantic : Leaf → Bool
@@ -145,19 +143,6 @@ whole plain s =
 abbrev pub skipping : ℕ → Bool
 skipping w = leb optional_greedy (w / kind_end) && leb (w / kind_end) zero_or_more_nongreedy
 
--- One bit more in the row at a place, if it is to be; nothing else changes.
-pub record BitSeen (xs ys : List ℕ) (at i : ℕ) (on : Bool) : Type 0 where
-  pub here : (k : ℕ)
-      → bit (get_or ys at 0 ∷ get_or ys (at + 1) 0 ∷ []) k ≡ (bit (get_or xs at 0 ∷ get_or xs (at + 1) 0 ∷ []) k || (on && eqb k i))
-  pub other : (j : ℕ) → (j ≡ at → ⊥) → (j ≡ at + 1 → ⊥) → get_or ys j 0 ≡ get_or xs j 0
-
--- Something is seen that stops inlining, and nothing else.
-abbrev pub stopped : Seen → Seen
-stopped s = record { calls = s.calls; corners = s.corners; stops = true; seeks = s.seeks; null = s.null }
-
-pub record StopSeen (xs ys : List ℕ) : Type 0 where
-  pub is : (seeks null : Bool) → seen_of ys seeks null ≡ stopped (seen_of xs seeks null)
-
 -- Past a call of rule i, which can be empty or not.
 unfoldable pub past_call : Seen → ℕ → Bool → Seen
 past_call s i empty =
@@ -170,9 +155,8 @@ past_call s i empty =
     }
 
 -- Past a symbol.
-pub record SymbolSeen (past skips seeks null seeks' null' : Bool) : Type 0 where
-  pub seeking : seeks' ≡ (seeks && (past && skips))
-  pub nulls : null' ≡ (null && skips)
+pub record SymbolSeen (past skips : Bool) (t r : Held) : Type 0 where
+  pub is : r ≡ turned (t.seeks && (past && skips)) (t.null && skips) t
 
 -- Past a call of a name.
 pub record NameSeen (v : View) (name : ℕ) (skips : Bool) (s r : Seen) : Type 0 where

@@ -3,6 +3,8 @@ ghost use Rattle.std.specs.Prelude.{◌≡◌, ◌<◌, ◌≤◌, ◌%◌, leng
 ghost use Rattle.grammar.specs.Numbers.{rule_limit};
 ghost use Rattle.analysis.specs.Names.{Told, Tabled, IsTarget, table_with, slots};
 
+use crate::known::Known;
+
 // Names that leave one remainder share a byte of the table.
 #[derive(Drop)]
 struct Table;
@@ -47,16 +49,16 @@ pub fn scan(names: &[u32], n: usize, name: u32) -> Option<usize>
 }
 
 // A byte of the table says where to look. Where another name stands there, or without a table, the names are looked through.
-pub fn look_up(names: &[u32], n: usize, table: &[u8], name: u32) -> Option<usize>
-    requires { Tabled names.now n table.now }
-    ensures { IsTarget names.now n name result }
+#[tactic(auto, using(crate::proofs::Laws::Names::lookups))]
+pub fn look_up(v: &Known, name: u32) -> Option<usize>
+    ensures { IsTarget v.now.names.now v.now.n name result }
 {
-    if table.is_empty() {
-        return scan(names, n, name);
+    if v.table.is_empty() {
+        return scan(v.names, v.n, name);
     }
-    let i = usize::from(table[slot(name)]);
-    if i < n && names[i] == name {
+    let i = usize::from(v.table[slot(name)]);
+    if i < v.n && v.names[i] == name {
         return Some(i);
     }
-    scan(names, n, name)
+    scan(v.names, v.n, name)
 }

@@ -10,7 +10,7 @@ ghost use Rattle.analysis.specs.Facts.{Standing, FactsFound};
 ghost use Rattle.reach.specs.Rows.{Behind};
 ghost use Rattle.words.specs.Sheet.{text};
 
-use crate::leaf::Known;
+use crate::known::Known;
 use crate::names::put_names;
 use crate::survey::survey_rule;
 use reach::rows::{Row, add_if};
@@ -36,14 +36,9 @@ fn mark(r: Round, i: usize, nullable: bool, stops: bool) -> Round
     requires { (i < rule_limit) × (r.count ≤ rule_limit) }
     ensures { Marked r i nullable stops result }
 {
-    let m = r.marks;
-    let a = m.nullable;
-    let b = m.stops;
-    let c = add_if(a, i, nullable);
-    let d = add_if(b, i, stops);
     let marks = Marks {
-        nullable: c,
-        stops: d,
+        nullable: add_if(r.marks.nullable, i, nullable),
+        stops: add_if(r.marks.stops, i, stops),
     };
     Round {
         marks,
@@ -55,21 +50,17 @@ fn mark(r: Round, i: usize, nullable: bool, stops: bool) -> Round
 fn survey_all(
     s: &Sheet,
     rules: Rules,
-    known: Known,
-    table: &[u8],
+    v: &Known,
     calls: &mut [[u64; Row::WORDS]; Row::RULES],
     corners: &mut [[u64; Row::WORDS]; Row::RULES],
 ) -> Round
-    requires bounds { (known.n ≡ rules.n) × (rules.n ≤ rule_limit) }
-    requires tabled { Tabled rules.names known.n table.now }
+    requires bounds { v.now.n ≡ rules.n }
     requires found_rows { FoundRows (text s.now) s.now.end rules }
     requires lengths { (length calls.old ≡ rule_limit) × (length corners.old ≡ rule_limit) }
-    ensures { Recording (view_of rules.names known) (text s.now) s.now.end rules.places
+    ensures { Recording (view_of v.now) (text s.now) s.now.end rules.places
         calls.old corners.old rules.n calls.new corners.new result }
 {
-    let names = rules.names;
     let places = rules.places;
-    let n = known.n;
     let none = Marks {
         nullable: [0; Row::WORDS],
         stops: [0; Row::WORDS],
@@ -78,14 +69,13 @@ fn survey_all(
         marks: none,
         count: 0,
     };
-    for i in 0..n {
-        let v = survey_rule(s, &names, known, table, places[i] as usize);
-        let c = v.calls;
-        let k = v.corners;
+    for i in 0..v.n {
+        let t = survey_rule(s, v, places[i] as usize);
+        let c = t.calls;
+        let k = t.corners;
         calls[i] = c;
         corners[i] = k;
-        let m = mark(r, i, v.nullable, v.stops);
-        r = m;
+        r = mark(r, i, t.nullable, t.stops);
     }
     r
 }
@@ -106,16 +96,19 @@ fn rounds(
     ensures behind { Behind rules.n calls.old calls.new
         × Behind rules.n corners.old corners.new }
 {
+    let names = rules.names;
     let n = rules.n as usize;
     let mut found = [0u64; Row::WORDS];
     let mut count: u32 = 0;
     for _ in 0..n {
-        let known = Known {
+        let v = Known {
+            names: &names,
             n,
+            table,
             nullable: found,
             past,
         };
-        let r = survey_all(s, rules, known, table, calls, corners);
+        let r = survey_all(s, rules, &v, calls, corners);
         let marks = r.marks;
         if r.count == count {
             let stops = marks.stops;
@@ -128,12 +121,14 @@ fn rounds(
         found = more;
         count = r.count;
     }
-    let known = Known {
+    let v = Known {
+        names: &names,
         n,
+        table,
         nullable: found,
         past,
     };
-    let r = survey_all(s, rules, known, table, calls, corners);
+    let r = survey_all(s, rules, &v, calls, corners);
     let marks = r.marks;
     let stops = marks.stops;
     Marks {

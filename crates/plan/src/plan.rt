@@ -12,7 +12,6 @@ ghost use Rattle.plan.specs.Decision.{TakesArguments, PlanOf, PlanWith, PlanMade
 ghost use Rattle.words.specs.Sheet.{text};
 
 use crate::facts::Facts;
-use analysis::leaf::Known;
 use analysis::names::index;
 use hub::budget::budget;
 use hub::hub::choose_hub;
@@ -62,8 +61,7 @@ fn finish(
     let marks = f.marks;
     let nullable = marks.nullable;
     let past = f.past;
-    let known = Known { n, nullable, past };
-    let Some(planned) = judge(s, rules, known, members, hub, work, l) else {
+    let Some(planned) = judge(s, rules, nullable, past, members, hub, work, l) else {
         return Err(Unplanned::Declined(Clause::NotDirectlyRewritable));
     };
     let kept = f.kept;

@@ -7,7 +7,7 @@ ghost use Rattle.renew.specs.Renewed.{BitPut, HubSurveyed, Renewable, RenewedOf}
 ghost use Rattle.words.specs.Sheet.{text};
 
 use crate::places::rules_less;
-use analysis::leaf::Known;
+use analysis::known::Known;
 use analysis::names::put_names;
 use analysis::rounds::Marks;
 use analysis::survey::survey_rule;
@@ -55,8 +55,14 @@ fn survey_hub(
     let places = rules.places;
     let n = rules.n as usize;
     put_names(&names, n, work);
-    let known = Known { n, nullable, past };
-    let v = survey_rule(s, &names, known, work, places[hub] as usize);
+    let known = Known {
+        names: &names,
+        n,
+        table: work,
+        nullable,
+        past,
+    };
+    let v = survey_rule(s, &known, places[hub] as usize);
     let c = v.calls;
     let k = v.corners;
     calls[hub] = c;

@@ -1,5 +1,5 @@
 -- What is told of the planned list: whether it is directly left-recursive as the definition has it, and the rules that it calls.
-use Rattle.std.specs.Prelude.{ℕ, ◌≡◌, List, true, false, not, get_or, Some, None}
+use Rattle.std.specs.Prelude.{ℕ, ◌≡◌, List, Bool, true, false, not, get_or, Some, None}
 use Rattle.std.specs.declared.option.Option.{Option}
 use Rattle.grammar.specs.Tree.{Element, Block, inner_depth}
 use Rattle.grammar.specs.Lists.{each}
@@ -11,7 +11,6 @@ use Rattle.records.specs.declared.rules.Rules.{Rules}
 use Rattle.reach.specs.Rows.{RowOf}
 use Rattle.analysis.specs.Survey.{View, reading}
 use Rattle.analysis.specs.Facts.{Standing}
-use Rattle.analysis.specs.declared.leaf.Known.{Known}
 use Rattle.planned.specs.Layout.{settled}
 use Rattle.planned.specs.declared.list.Sizes.{Sizes}
 use Rattle.rewritable.specs.Walks.{Agreeing}
@@ -47,9 +46,9 @@ module _ (v : View) (members : List ℕ) (hub d : ℕ) where
         → AreJudged (reading v.past) w.grammar w.ids v.n cycle (get_or w.ids hub 0) d ps r
 
 -- By the grammar of the rules that stand in a sheet, whose nullable rules are those known.
-pub record JudgedFound (ws : List ℕ) (end : ℕ) (rules : Rules) (known : Known) (members : List ℕ) (hub : ℕ) (bs : List ℕ) (l : Sizes)
-    (r : Option (List ℕ)) : Type 0 where
+pub record JudgedFound (ws : List ℕ) (end : ℕ) (rules : Rules) (nullable : List ℕ) (past : Bool) (members : List ℕ)
+    (hub : ℕ) (bs : List ℕ) (l : Sizes) (r : Option (List ℕ)) : Type 0 where
   pub is : (s : Standing ws end rules) (g : Grammar) (cycle : List ℕ) → g.names ≡ names_of s.rows.found.trees
-      → RowOf rules.ids rules.n g.nullable known.nullable → RowOf rules.ids rules.n cycle members
-      → AreJudged (reading known.past) g rules.ids rules.n cycle (get_or rules.ids hub 0) inner_depth
+      → RowOf rules.ids rules.n g.nullable nullable → RowOf rules.ids rules.n cycle members
+      → AreJudged (reading past) g rules.ids rules.n cycle (get_or rules.ids hub 0) inner_depth
       (settled ws end inner_depth bs l) r

@@ -10,7 +10,7 @@ use Rattle.reach.specs.Rows.{RowOf}
 use Rattle.analysis.specs.Survey.{View, Seen, reading, surveying}
 use Rattle.analysis.specs.Facts.{Agrees}
 use Rattle.planned.specs.Layout.{made_if}
-use Rattle.rewritable.specs.declared.walk.Walk.{Walk}
+use Rattle.analysis.specs.declared.leaf.Seen.{Seen as Held}
 
 -- An element stands at a place, and it is a call where it was made plain.
 pub record ItemStands (ws : List ℕ) (end d at : ℕ) (made : Bool) : Type 0 where
@@ -37,7 +37,7 @@ pub record Agreeing (v : View) : Type 0 where
 
 -- What a walk says of an alternative's elements.
 module _ (v : View) (d : ℕ) (es : List (Element (Block d))) where
-  pub record WalkOf (r : Walk) : Type 0 where
+  pub record WalkOf (r : Held) : Type 0 where
     pub calls : (w : Agreeing v) → RowOf w.ids v.n (collect_calls_in_elements w.grammar d es) r.calls
     pub corners : (w : Agreeing v) → RowOf w.ids v.n (left_corners (reading v.past) w.grammar d es) r.corners
     pub tail : (w : Agreeing v) → r.null ≡ all (element_nullable w.grammar (block_is_nullable w.grammar d)) (drop 1 es)

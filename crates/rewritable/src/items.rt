@@ -16,6 +16,7 @@ use words::walk::element_head;
 use words::words::word;
 
 // Whether the quantifier of an element is 0, as it is once it was made plain.
+// Stays: one number is asked for, so that the word is compared with that of the quantifier and none of the others need be named.
 fn is_one(s: &Sheet, e: Item) -> bool
     requires { e.at + 6 ≤ s.now.end }
     ensures { result ≡ (e.plain || eqb (get_or (text s.now) (e.at + 2) 0 / kind_end) once) }

@@ -13,7 +13,7 @@ ghost use Rattle.words.specs.Sheet.{text};
 
 use crate::items::{may_be_rewritten, starts_with_call};
 use crate::walk::walk_alternative;
-use analysis::leaf::Known;
+use analysis::known::Known;
 use planned::list::{Listed, Sizes};
 use planned::read::{Cursor, read_settled};
 use reach::rows::{Row, is_empty, meet, union};
@@ -30,26 +30,23 @@ struct Verdict {
 
 fn judge_alternative(
     s: &Sheet,
+    v: &Known,
     depth: u32,
-    names: &[u32],
-    known: Known,
-    table: &[u8],
     members: [u64; Row::WORDS],
     hub: usize,
     work: &[u8],
     x: Listed,
 ) -> Option<Verdict>
-    requires bounds { (known.n ≤ rule_limit) × (hub < known.n) }
-    requires tabled { Tabled names.now known.n table.now }
+    requires bounds { hub < v.now.n }
     requires located { Located work.now x × ListedIn (text s.now) s.now.end depth work.now x }
-    ensures { VerdictOf (view_of names.now known) members hub depth
+    ensures { VerdictOf (view_of v.now) members hub depth
         (meaning (text s.now) s.now.end depth work.now x).elements result }
 {
-    let name = names[hub];
+    let name = v.names[hub];
     if !may_be_rewritten(s, depth, name, work, x) {
         return None;
     }
-    let w = walk_alternative(s, depth, names, known, table, work, x);
+    let w = walk_alternative(s, v, depth, work, x);
     let recursive = starts_with_call(s, depth, name, work, x);
     let fit = if recursive {
         !w.null
@@ -63,19 +60,16 @@ fn judge_alternative(
 // If the list is directly left-recursive, the rules that it calls.
 fn judge_list(
     s: &Sheet,
+    v: &Known,
     depth: u32,
-    names: &[u32],
-    known: Known,
-    table: &[u8],
     members: [u64; Row::WORDS],
     hub: usize,
     work: &[u8],
     l: Sizes,
 ) -> Option<[u64; Row::WORDS]>
-    requires bounds { (known.n ≤ rule_limit) × (hub < known.n) }
-    requires tabled { Tabled names.now known.n table.now }
+    requires bounds { hub < v.now.n }
     requires laid { Laid work.now l × AllIn (text s.now) s.now.end depth work.now l }
-    ensures { JudgedOf (view_of names.now known) members hub depth
+    ensures { JudgedOf (view_of v.now) members hub depth
         (settled (text s.now) s.now.end depth work.now l) result }
 {
     let mut calls = [0u64; Row::WORDS];
@@ -84,10 +78,10 @@ fn judge_list(
     let mut c = Cursor::front();
     for _ in 0..l.outa {
         let r = read_settled(work, l, c);
-        let v = judge_alternative(s, depth, names, known, table, members, hub, work, r.x)?;
-        calls = union(calls, v.calls);
-        primary |= !v.recursive;
-        recursive |= v.recursive;
+        let a = judge_alternative(s, v, depth, members, hub, work, r.x)?;
+        calls = union(calls, a.calls);
+        primary |= !a.recursive;
+        recursive |= a.recursive;
         c = r.next;
     }
     (primary && recursive).then_some(calls)
@@ -97,18 +91,25 @@ fn judge_list(
 pub fn judge(
     s: &Sheet,
     rules: Rules,
-    known: Known,
+    nullable: [u64; Row::WORDS],
+    past: bool,
     members: [u64; Row::WORDS],
     hub: usize,
     work: &[u8],
     l: Sizes,
 ) -> Option<[u64; Row::WORDS]>
     requires bounds { Standing (text s.now) s.now.end rules }
-    requires n_value { (known.n ≡ rules.n) × (hub < rules.n) }
+    requires inside { hub < rules.n }
     requires laid { Laid work.now l × AllIn (text s.now) s.now.end inner_depth work.now l }
-    ensures { JudgedFound (text s.now) s.now.end rules known members hub work.now l result }
+    ensures { JudgedFound (text s.now) s.now.end rules nullable past members hub work.now l result }
 {
     let names = rules.names;
-    let table = &s.bytes[..0];
-    judge_list(s, Block::DEPTH, &names, known, table, members, hub, work, l)
+    let v = Known {
+        names: &names,
+        n: rules.n as usize,
+        table: &s.bytes[..0],
+        nullable,
+        past,
+    };
+    judge_list(s, &v, Block::DEPTH, members, hub, work, l)
 }

@@ -1,136 +1,54 @@
 // One walk over the elements of a listed alternative: the rules that it calls, its left corners, and whether all behind its
 // first element is nullable.
-ghost use Rattle.std.specs.Prelude.{◌≤◌, length, drop};
-ghost use Rattle.grammar.specs.Numbers.{rule_limit};
-ghost use Rattle.analysis.specs.Names.{Tabled};
+ghost use Rattle.std.specs.Prelude.{drop};
 ghost use Rattle.analysis.specs.Survey.{view_of, seen_of};
 ghost use Rattle.planned.specs.Layout.{meaning};
 ghost use Rattle.planned.specs.List.{Located, ListedIn};
 ghost use Rattle.rewritable.specs.Walks.{ItemStands, ItemWalked, RestWalked, WalkOf};
 ghost use Rattle.words.specs.Sheet.{text};
 
-use analysis::leaf::{Known, Passing, Slot, see_leaf};
+use analysis::known::Known;
+use analysis::leaf::{Seen, see_leaf};
 use analysis::walk::element;
 use planned::list::{Item, Listed};
 use planned::read::item;
-use reach::rows::Row;
 use words::sheet::Sheet;
 use words::walk::element_head;
 
 // One element. One that was made plain is a call that cannot be left out.
-fn walk_item(
-    s: &Sheet,
-    depth: u32,
-    names: &[u32],
-    known: Known,
-    table: &[u8],
-    e: Item,
-    p: Passing,
-    t: &mut [u64],
-) -> Passing
-    requires bounds { (known.n ≤ rule_limit) × (5 ≤ length t.old) }
-    requires tabled { Tabled names.now known.n table.now }
-    requires item_stands { ItemStands (text s.now) s.now.end depth e.at e.plain }
-    ensures { ItemWalked (view_of names.now known) (text s.now) s.now.end depth e.at e.plain
-        (seen_of t.old p.seeks p.null) (seen_of t.new result.seeks result.null) }
+fn walk_item(s: &Sheet, v: &Known, depth: u32, e: Item, t: &mut Seen)
+    requires { ItemStands (text s.now) s.now.end depth e.at e.plain }
+    ensures { ItemWalked (view_of v.now) (text s.now) s.now.end depth e.at e.plain (seen_of t.old) (seen_of t.new) }
 {
-    let at = e.at;
     if e.plain {
-        let head = element_head(s, depth, at);
-        return see_leaf(
-            s,
-            depth,
-            at,
-            head.kind,
-            head.payload,
-            names,
-            known,
-            table,
-            false,
-            p,
-            t,
-        );
-    }
-    let w = element(s, depth, names, known, table, at, p.seeks, p.null, t);
-    Passing {
-        seeks: w.seeks,
-        null: w.null,
+        see_leaf(s, v, element_head(s, depth, e.at), false, t);
+    } else {
+        element(s, v, depth, e.at, t);
     }
 }
 
-// The elements of an alternative from an index on.
-fn walk_rest(
-    s: &Sheet,
-    depth: u32,
-    names: &[u32],
-    known: Known,
-    table: &[u8],
-    work: &[u8],
-    x: Listed,
-    from: usize,
-    p: Passing,
-    t: &mut [u64],
-) -> Passing
-    requires bounds { (known.n ≤ rule_limit) × (5 ≤ length t.old) }
-    requires tabled { Tabled names.now known.n table.now }
-    requires located { Located work.now x × ListedIn (text s.now) s.now.end depth work.now x }
-    ensures { RestWalked (view_of names.now known) depth
-        (drop from (meaning (text s.now) s.now.end depth work.now x).elements)
-        (seen_of t.old p.seeks p.null) (seen_of t.new result.seeks result.null) }
+// The elements of an alternative behind the first.
+fn walk_rest(s: &Sheet, v: &Known, depth: u32, work: &[u8], x: Listed, t: &mut Seen)
+    requires { Located work.now x × ListedIn (text s.now) s.now.end depth work.now x }
+    ensures { RestWalked (view_of v.now) depth (drop 1 (meaning (text s.now) s.now.end depth work.now x).elements)
+        (seen_of t.old) (seen_of t.new) }
 {
-    let mut q = p;
-    for i in from..x.ne {
-        let e = item(work, x, i);
-        q = walk_item(s, depth, names, known, table, e, q, t);
+    for i in 1..x.ne {
+        walk_item(s, v, depth, item(work, x, i), t);
     }
-    q
-}
-
-#[derive(Clone, Copy, Debug, PartialEq, Eq)]
-pub struct Walk {
-    pub calls: [u64; Row::WORDS],
-    pub corners: [u64; Row::WORDS],
-    pub null: bool,
 }
 
 // A whole alternative. Behind its first element the count of what is nullable starts anew.
-pub fn walk_alternative(
-    s: &Sheet,
-    depth: u32,
-    names: &[u32],
-    known: Known,
-    table: &[u8],
-    work: &[u8],
-    x: Listed,
-) -> Walk
-    requires bounds { known.n ≤ rule_limit }
-    requires tabled { Tabled names.now known.n table.now }
-    requires located { Located work.now x × ListedIn (text s.now) s.now.end depth work.now x }
-    ensures { WalkOf (view_of names.now known) depth
-        (meaning (text s.now) s.now.end depth work.now x).elements result }
+pub fn walk_alternative(s: &Sheet, v: &Known, depth: u32, work: &[u8], x: Listed) -> Seen
+    requires { Located work.now x × ListedIn (text s.now) s.now.end depth work.now x }
+    ensures { WalkOf (view_of v.now) depth (meaning (text s.now) s.now.end depth work.now x).elements result }
 {
+    let mut t = Seen::begin(true);
     if x.ne == 0 {
-        return Walk {
-            calls: [0u64; Row::WORDS],
-            corners: [0u64; Row::WORDS],
-            null: true,
-        };
+        return t;
     }
-    let mut t = [0u64; Slot::ALL];
-    let front = Passing {
-        seeks: true,
-        null: true,
-    };
-    let e = item(work, x, 0);
-    let p = walk_item(s, depth, names, known, table, e, front, &mut t);
-    let behind = Passing {
-        seeks: p.seeks,
-        null: true,
-    };
-    let q = walk_rest(s, depth, names, known, table, work, x, 1, behind, &mut t);
-    Walk {
-        calls: [t[0], t[1]],
-        corners: [t[2], t[3]],
-        null: q.null,
-    }
+    walk_item(s, v, depth, item(work, x, 0), &mut t);
+    t.null = true;
+    walk_rest(s, v, depth, work, x, &mut t);
+    t
 }

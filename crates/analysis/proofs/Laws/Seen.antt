@@ -1,11 +1,10 @@
--- What is seen at one leaf: its steps on five numbers.
-use Prim.Native.Nat.{ℕ, zero, suc, ◌+◌, ◌<◌, ◌≤◌}
+-- What is seen at one leaf.
+use Prim.Native.Nat.{ℕ, zero, suc, ◌<◌, ◌≤◌}
 use mathlib.Core.Path.{◌≡◌, refl, sym, ap, ap₂, ◌∙◌}
-use mathlib.Core.List.{List, [], ◌∷◌}
+use mathlib.Core.List.{List}
 use mathlib.Core.Bool.{Bool, true, false, ◌&&◌, ◌||◌, not, and-true, and-false, or-false, or-true, not-not}
 use native.Mathlib.Omega.{arith}
-use lib.ListN.{length, get_or, set, length-set}
-use lib.Seq.{get_or-set_same, get_or-set_other}
+use lib.ListN.{get_or, replicate}
 use lib.Dec.{eqb, ltb}
 use borrow.Author.Tests.{eqb-true, eqb-false, ltb-true, ltb-false, ne_eqb}
 use Rattle.grammar.specs.Numbers.{rule_limit, call_kind, epsilon_kind, end_kind}
@@ -16,64 +15,35 @@ use Rattle.grammar.specs.Encode.{leaf_kind, encode_leaf}
 use Rattle.grammar.specs.Ids.{leaf_ids}
 use Rattle.grammar.specs.Laws.Stands.{stands_head}
 use Rattle.reference.specs.Walks.{sort_of, is_end}
-use Rattle.reach.specs.Rows.{bit, AddIf}
+use Rattle.reach.specs.Rows.{bit, With, AddIf}
 use Rattle.analysis.specs.Names.{is_named, any_below, At, Nowhere, IsTarget}
 use Rattle.std.specs.Prelude.{Option, Some, None, ◌⊎◌}
 use Rattle.std.proofs.Common.{inl, inr}
 use Rattle.words.specs.declared.numbers.Kind.{Kind}
 use Rattle.words.specs.declared.numbers.Kind.TheVariants as kind
 use Rattle.words.specs.Kinds.{kind_number}
-use Rattle.analysis.specs.Survey.{View, Seen, seen_of, is_semantic, calls_to, leaf_null, leaf_ends, past_leaf, StopSeen, BitSeen, past_call}
+use Rattle.analysis.specs.declared.leaf.Seen.{Seen as Held}
+use Rattle.reach.proofs.Laws.Rows.{no_bits}
+use Rattle.analysis.specs.Survey.{View, Seen, seen_of, into, unseen, is_semantic, calls_to, leaf_null, leaf_ends, past_leaf, past_call}
 use Rattle.analysis.specs.Survey.{SymbolSeen, NameSeen, LeafSeen}
-use Rattle.reach.proofs.Laws.Rows.{two_words}
 
--- one bit
-pub bit_seen : {xs : List ℕ} (row : List ℕ) {at i : ℕ} {on : Bool} → at + 1 < length xs
-    → AddIf (get_or xs at 0 ∷ get_or xs (at + 1) 0 ∷ []) i on row
-    → BitSeen xs (set (set xs at (get_or row 0 0)) (at + 1) (get_or row 1 0)) at i on
-bit_seen {xs} row {at} {i} {on} l a =
-    let us = set xs at (get_or row 0 0) in
-    let first = get_or-set_other us (at + 1) at (get_or row 1 0) 0 (λ z. omega arith) ∙ get_or-set_same xs at (get_or row 0 0) 0 (omega arith) in
-    let long = length-set xs at (get_or row 0 0) in
-    let second = get_or-set_same us (at + 1) (get_or row 1 0) 0 (omega arith) in
-    record {
-      here = λ k. rw (first, second) (two_words row k ∙ a.at k);
-      other = λ j e f. get_or-set_other us (at + 1) j (get_or row 1 0) 0 f ∙ get_or-set_other xs at j (get_or row 0 0) 0 e;
-    }
+-- what was seen, part by part
+pub same_seen : {a b : Seen} → ((j : ℕ) → a.calls j ≡ b.calls j) → ((j : ℕ) → a.corners j ≡ b.corners j) → a.stops ≡ b.stops
+    → a.seeks ≡ b.seeks → a.null ≡ b.null → a ≡ b
+same_seen p q x y z t = record { calls = λ j. p j t; corners = λ j. q j t; stops = x t; seeks = y t; null = z t }
 
--- what stops inlining
-pub stop_seen : (xs : List ℕ) → 5 ≤ length xs → StopSeen xs (set xs 4 1)
+-- nothing yet
+pub begun : (null : Bool)
+    → seen_of (record { calls = replicate 2 0; corners = replicate 2 0; stops = false; seeks = true; null = null }) ≡ into null unseen
 unfolding seen_of
-stop_seen xs l =
-    record {
-      is = λ seeks null t.
-          record {
-            calls = λ j. ap₂ (λ x y. bit (x ∷ y ∷ []) j) (kept 0 (λ z. omega arith)) (kept 1 (λ z. omega arith)) t;
-            corners = λ j. ap₂ (λ x y. bit (x ∷ y ∷ []) j) (kept 2 (λ z. omega arith)) (kept 3 (λ z. omega arith)) t;
-            stops = ap (λ x. eqb x 1) (get_or-set_same xs 4 1 0 l) t;
-            seeks = seeks;
-            null = null;
-          };
-    }
-  where
-    kept : (i : ℕ) → (i ≡ 4 → ⊥) → get_or (set xs 4 1) i 0 ≡ get_or xs i 0
-    kept i n = get_or-set_other xs 4 i 1 0 n
+begun null = same_seen no_bits no_bits refl refl refl
 
 -- a call of a rule
-pub call_seen : {xs us ys : List ℕ} {i : ℕ} {seeks : Bool} (null empty : Bool) → BitSeen xs us 0 i true → BitSeen us ys 2 i seeks
-    → seen_of ys (seeks && empty) (null && empty) ≡ past_call (seen_of xs seeks null) i empty
+pub call_seen : (t : Held) {i : ℕ} (empty : Bool) {calls corners : List ℕ} → With t.calls i calls → AddIf t.corners i t.seeks corners
+    → seen_of (record { calls = calls; corners = corners; stops = t.stops; seeks = t.seeks && empty; null = t.null && empty })
+    ≡ past_call (seen_of t) i empty
 unfolding seen_of past_call
-call_seen {xs} {us} {ys} {i} {seeks} null empty a b t =
-    record {
-      calls = λ j. (ap₂ (λ x y. bit (x ∷ y ∷ []) j) (b.other 0 (λ z. omega arith) (λ z. omega arith)) (b.other 1 (λ z. omega arith) (λ z. omega arith)) ∙ a.here j) t;
-      corners = λ j.
-          (b.here j
-          ∙ ap₂ (λ x y. bit (x ∷ y ∷ []) j || (seeks && eqb j i)) (a.other 2 (λ z. omega arith) (λ z. omega arith))
-          (a.other 3 (λ z. omega arith) (λ z. omega arith))) t;
-      stops = ap (λ x. eqb x 1) (b.other 4 (λ z. omega arith) (λ z. omega arith) ∙ a.other 4 (λ z. omega arith) (λ z. omega arith)) t;
-      seeks = seeks && empty;
-      null = null && empty;
-    }
+call_seen t empty a b = same_seen a.at b.at refl refl refl
 
 -- one number below n, or none
 pub any_only : (f : ℕ → Bool) (i : ℕ) (b : Bool) → ((j : ℕ) → f j ≡ (eqb j i && b)) → (n : ℕ) → i < n → any_below f n ≡ b
@@ -96,10 +66,9 @@ unfolding any_below
 any_none f h zero = refl
 any_none f h (suc n) = ap₂ ◌||◌ (h n) (any_none f h n)
 
--- what was seen, part by part
-pub same_seen : {a b : Seen} → ((j : ℕ) → a.calls j ≡ b.calls j) → ((j : ℕ) → a.corners j ≡ b.corners j) → a.stops ≡ b.stops
-    → a.seeks ≡ b.seeks → a.null ≡ b.null → a ≡ b
-same_seen p q x y z t = record { calls = λ j. p j t; corners = λ j. q j t; stops = x t; seeks = y t; null = z t }
+-- something that stops inlining is seen, and nothing else
+abbrev pub stopped : Held → Held
+stopped t = record { calls = t.calls; corners = t.corners; stops = true; seeks = t.seeks; null = t.null }
 
 module _ (v : View) (s : Seen) (skips : Bool) where
   -- a leaf that calls rule i
@@ -120,33 +89,39 @@ module _ (v : View) (s : Seen) (skips : Bool) where
       known : any_below (is_named v.names v.n c.name) v.n ≡ true
       known = any_only (is_named v.names v.n c.name) i true (λ j. a.only j ∙ sym (and-true (eqb j i))) v.n a.below
 
-  module _ {seeks' null' : Bool} (r : SymbolSeen v.past skips s.seeks s.null seeks' null') where
-    symbol : Seen
-    symbol = record { calls = s.calls; corners = s.corners; stops = s.stops; seeks = seeks'; null = null' }
+  symbol : Seen
+  symbol =
+      record {
+        calls = s.calls;
+        corners = s.corners;
+        stops = s.stops;
+        seeks = s.seeks && (v.past && skips);
+        null = s.null && skips;
+      }
 
-    past_symbol : (l : Leaf) → ((j : ℕ) → calls_to v l j ≡ false) → is_semantic l ≡ false → leaf_ends v l ≡ not v.past → leaf_null v l ≡ false
-        → symbol ≡ past_leaf v s skips l
-    unfolding past_leaf symbol
-    past_symbol l a b e n =
-        same_seen (λ j. sym (ap (λ x. s.calls j || x) (a j) ∙ or-false (s.calls j)))
-        (λ j. sym (ap (λ x. s.corners j || (s.seeks && x)) (a j) ∙ ap (λ x. s.corners j || x) (and-false s.seeks) ∙ or-false (s.corners j)))
-        (sym (ap (λ x. s.stops || x) b ∙ or-false s.stops))
-        (r.seeking ∙ rw (e, n, not-not v.past, or-false skips) refl) (r.nulls ∙ rw (n, or-false skips) refl)
+  past_symbol : (l : Leaf) → ((j : ℕ) → calls_to v l j ≡ false) → is_semantic l ≡ false → leaf_ends v l ≡ not v.past → leaf_null v l ≡ false
+      → symbol ≡ past_leaf v s skips l
+  unfolding past_leaf symbol
+  past_symbol l a b e n =
+      same_seen (λ j. sym (ap (λ x. s.calls j || x) (a j) ∙ or-false (s.calls j)))
+      (λ j. sym (ap (λ x. s.corners j || (s.seeks && x)) (a j) ∙ ap (λ x. s.corners j || x) (and-false s.seeks) ∙ or-false (s.corners j)))
+      (sym (ap (λ x. s.stops || x) b ∙ or-false s.stops))
+      (rw (e, n, not-not v.past, or-false skips) refl) (rw (n, or-false skips) refl)
 
-    calls_nothing : (c : Call) → Nowhere v.names v.n c.name → symbol ≡ past_leaf v s skips (call c)
-    unfolding calls_to leaf_null leaf_ends sort_of is_end is_semantic leaf_ids
-    calls_nothing c a =
-        past_symbol (call c) a.none refl
-        (rw (any_none (is_named v.names v.n c.name) a.none v.n) (and-true (not v.past)))
-        (any_none (λ j. is_named v.names v.n c.name j && bit v.nullable j) (λ j. rw (a.none j) refl) v.n)
+  calls_nothing : (c : Call) → Nowhere v.names v.n c.name → symbol ≡ past_leaf v s skips (call c)
+  unfolding calls_to leaf_null leaf_ends sort_of is_end is_semantic leaf_ids
+  calls_nothing c a =
+      past_symbol (call c) a.none refl
+      (rw (any_none (is_named v.names v.n c.name) a.none v.n) (and-true (not v.past)))
+      (any_none (λ j. is_named v.names v.n c.name j && bit v.nullable j) (λ j. rw (a.none j) refl) v.n)
 
-    past_token : (n : ℕ) → symbol ≡ past_leaf v s skips (token n)
-    unfolding calls_to leaf_null leaf_ends sort_of is_end is_semantic leaf_ids
-    past_token n = past_symbol (token n) (λ j. refl) refl (and-true (not v.past)) refl
+  past_token : (n : ℕ) → symbol ≡ past_leaf v s skips (token n)
+  unfolding calls_to leaf_null leaf_ends sort_of is_end is_semantic leaf_ids
+  past_token n = past_symbol (token n) (λ j. refl) refl (and-true (not v.past)) refl
 
-    past_terminal : symbol ≡ past_leaf v s skips terminal
-    unfolding calls_to leaf_null leaf_ends sort_of is_end is_semantic leaf_ids
-    past_terminal = past_symbol terminal (λ j. refl) refl (and-true (not v.past)) refl
+  past_terminal : symbol ≡ past_leaf v s skips terminal
+  unfolding calls_to leaf_null leaf_ends sort_of is_end is_semantic leaf_ids
+  past_terminal = past_symbol terminal (λ j. refl) refl (and-true (not v.past)) refl
 
   -- what takes no input
   past_silent : (l : Leaf) → ((j : ℕ) → calls_to v l j ≡ false) → leaf_ends v l ≡ false → leaf_null v l ≡ true
@@ -162,24 +137,30 @@ module _ (v : View) (s : Seen) (skips : Bool) where
 pub target_low : {names : List ℕ} {n m i : ℕ} {r : Option ℕ} → IsTarget names n m r → r ≡ Some i → n ≤ rule_limit → i < rule_limit
 target_low {i = i} a e l = let b = (a.rule i e).below in omega arith
 
-module _ (v : View) {m : ℕ} {skips : Bool} (xs : List ℕ) (seeks null : Bool) where
-  pub name_unknown : {t : Option ℕ} {seeks' null' : Bool} → IsTarget v.names v.n m t → t ≡ None
-      → SymbolSeen v.past skips seeks null seeks' null'
-      → NameSeen v m skips (seen_of xs seeks null) (seen_of xs seeks' null')
+module _ (v : View) {m : ℕ} {skips : Bool} (t : Held) where
+  pub name_unknown : {o : Option ℕ} {r : Held} → IsTarget v.names v.n m o → o ≡ None → SymbolSeen v.past skips t r
+      → NameSeen v m skips (seen_of t) (seen_of r)
   unfolding seen_of symbol
   name_unknown a e r =
-      record { is = λ c f. calls_nothing v (seen_of xs seeks null) skips r c (rw f (a.unknown e)) }
+      record { is = λ c f. ap seen_of r.is ∙ calls_nothing v (seen_of t) skips c (rw f (a.unknown e)) }
 
-  pub name_known : {t : Option ℕ} {r : Seen} {i : ℕ} {h : Bool} → IsTarget v.names v.n m t → t ≡ Some i
-      → h ≡ bit v.nullable i → r ≡ past_call (seen_of xs seeks null) i (skips || h)
-      → NameSeen v m skips (seen_of xs seeks null) r
+  pub name_known : {o : Option ℕ} {r : Seen} {i : ℕ} {h : Bool} → IsTarget v.names v.n m o → o ≡ Some i
+      → h ≡ bit v.nullable i → r ≡ past_call (seen_of t) i (skips || h)
+      → NameSeen v m skips (seen_of t) r
   name_known {i = i} a e b f =
       record {
         is = λ c g.
             f
-            ∙ ap (λ x. past_call (seen_of xs seeks null) i (skips || x)) b
-            ∙ calls_rule v (seen_of xs seeks null) skips c i (rw g (a.rule i e));
+            ∙ ap (λ x. past_call (seen_of t) i (skips || x)) b
+            ∙ calls_rule v (seen_of t) skips c i (rw g (a.rule i e));
       }
+
+-- What takes no input and does not stop inlining changes nothing.
+leaf_nothing : (v : View) (t : Held) (skips : Bool) (l : Leaf) → is_semantic l ≡ false → ((j : ℕ) → calls_to v l j ≡ false)
+    → leaf_ends v l ≡ false → leaf_null v l ≡ true → seen_of t ≡ past_leaf v (seen_of t) skips l
+leaf_nothing v t skips l i x y z =
+    same_seen (λ j. refl) (λ j. refl) (sym (ap (λ b. (seen_of t).stops || b) i ∙ or-false (seen_of t).stops)) refl refl
+    ∙ past_silent v (seen_of t) skips l x y z
 
 -- a leaf of a kind
 module _ (v : View) {ws : List ℕ} {end k p : ℕ} {skips : Bool} where
@@ -196,30 +177,27 @@ module _ (v : View) {ws : List ℕ} {end k p : ℕ} {skips : Bool} where
       go terminal q h u = absurd (omega arith)
       go end_of_input q h u = absurd (omega arith)
 
-  pub leaf_symbol : (xs : List ℕ) {seeks null seeks' null' : Bool} → call_kind < k → (k ≡ end_kind → ⊥)
-      → SymbolSeen v.past skips seeks null seeks' null'
-      → LeafSeen v ws end k p skips (seen_of xs seeks null) (seen_of xs seeks' null')
+  pub leaf_symbol : {t r : Held} → call_kind < k → (k ≡ end_kind → ⊥) → SymbolSeen v.past skips t r
+      → LeafSeen v ws end k p skips (seen_of t) (seen_of r)
   unfolding leaf_kind seen_of symbol
-  leaf_symbol xs {seeks} {null} {seeks'} {null'} e z r = record { is = go }
+  leaf_symbol {t} {r} e z y = record { is = λ l q h u. ap seen_of y.is ∙ go l q h u }
     where
-      go : (l : Leaf) (q : ℕ) → k ≡ leaf_kind l → Stands ws end (encode_leaf l) p q → seen_of xs seeks' null' ≡ past_leaf v (seen_of xs seeks null) skips l
+      go : (l : Leaf) (q : ℕ) → k ≡ leaf_kind l → Stands ws end (encode_leaf l) p q
+          → symbol v (seen_of t) skips ≡ past_leaf v (seen_of t) skips l
       go epsilon q h u = absurd (omega arith)
       go (action a) q h u = absurd (omega arith)
       go (predicate a) q h u = absurd (omega arith)
       go (call c) q h u = absurd (omega arith)
-      go (token a) q h u = past_token v (seen_of xs seeks null) skips r a
-      go terminal q h u = past_terminal v (seen_of xs seeks null) skips r
+      go (token a) q h u = past_token v (seen_of t) skips a
+      go terminal q h u = past_terminal v (seen_of t) skips
       go end_of_input q h u = absurd (z h)
 
-  leaf_epsilon : (xs : List ℕ) (seeks null : Bool) → k ≡ epsilon_kind
-      → LeafSeen v ws end k p skips (seen_of xs seeks null) (seen_of xs seeks null)
-  unfolding leaf_kind seen_of calls_to leaf_null leaf_ends sort_of is_end is_semantic leaf_ids
-  leaf_epsilon xs seeks null e = record { is = go }
+  leaf_epsilon : (t : Held) → k ≡ epsilon_kind → LeafSeen v ws end k p skips (seen_of t) (seen_of t)
+  unfolding leaf_kind calls_to leaf_null leaf_ends sort_of is_end is_semantic leaf_ids
+  leaf_epsilon t e = record { is = go }
     where
-      go : (l : Leaf) (q : ℕ) → k ≡ leaf_kind l → Stands ws end (encode_leaf l) p q → seen_of xs seeks null ≡ past_leaf v (seen_of xs seeks null) skips l
-      go epsilon q h u =
-          same_seen (λ j. refl) (λ j. refl) (sym (or-false (eqb (get_or xs 4 0) 1))) refl refl
-          ∙ past_silent v (seen_of xs seeks null) skips epsilon (λ j. refl) (and-false (not v.past)) refl
+      go : (l : Leaf) (q : ℕ) → k ≡ leaf_kind l → Stands ws end (encode_leaf l) p q → seen_of t ≡ past_leaf v (seen_of t) skips l
+      go epsilon q h u = leaf_nothing v t skips epsilon refl (λ j. refl) (and-false (not v.past)) refl
       go (action a) q h u = absurd (omega arith)
       go (predicate a) q h u = absurd (omega arith)
       go (call c) q h u = absurd (omega arith)
@@ -227,35 +205,32 @@ module _ (v : View) {ws : List ℕ} {end k p : ℕ} {skips : Bool} where
       go terminal q h u = absurd (omega arith)
       go end_of_input q h u = absurd (omega arith)
 
-  leaf_end_lem : (xs : List ℕ) (seeks null : Bool) → k ≡ end_kind
-      → LeafSeen v ws end k p skips (seen_of xs seeks null) (seen_of xs seeks null)
-  unfolding leaf_kind seen_of calls_to leaf_null leaf_ends sort_of is_end is_semantic leaf_ids
-  leaf_end_lem xs seeks null e = record { is = go }
+  leaf_end_lem : (t : Held) → k ≡ end_kind → LeafSeen v ws end k p skips (seen_of t) (seen_of t)
+  unfolding leaf_kind calls_to leaf_null leaf_ends sort_of is_end is_semantic leaf_ids
+  leaf_end_lem t e = record { is = go }
     where
-      go : (l : Leaf) (q : ℕ) → k ≡ leaf_kind l → Stands ws end (encode_leaf l) p q → seen_of xs seeks null ≡ past_leaf v (seen_of xs seeks null) skips l
+      go : (l : Leaf) (q : ℕ) → k ≡ leaf_kind l → Stands ws end (encode_leaf l) p q → seen_of t ≡ past_leaf v (seen_of t) skips l
       go epsilon q h u = absurd (omega arith)
       go (action a) q h u = absurd (omega arith)
       go (predicate a) q h u = absurd (omega arith)
       go (call c) q h u = absurd (omega arith)
       go (token a) q h u = absurd (omega arith)
       go terminal q h u = absurd (omega arith)
-      go end_of_input q h u =
-          same_seen (λ j. refl) (λ j. refl) (sym (or-false (eqb (get_or xs 4 0) 1))) refl refl
-          ∙ past_silent v (seen_of xs seeks null) skips end_of_input (λ j. refl) (and-false (not v.past)) refl
+      go end_of_input q h u = leaf_nothing v t skips end_of_input refl (λ j. refl) (and-false (not v.past)) refl
 
-  leaf_semantic : {xs ys : List ℕ} (seeks null : Bool) → StopSeen xs ys → (k ≡ call_kind → ⊥) → k ≤ call_kind → (k ≡ epsilon_kind → ⊥)
-      → LeafSeen v ws end k p skips (seen_of xs seeks null) (seen_of ys seeks null)
-  unfolding leaf_kind calls_to leaf_null leaf_ends sort_of is_end is_semantic leaf_ids
-  leaf_semantic {xs} {ys} seeks null s a b c = record { is = go }
+  leaf_semantic : (t : Held) → (k ≡ call_kind → ⊥) → k ≤ call_kind → (k ≡ epsilon_kind → ⊥)
+      → LeafSeen v ws end k p skips (seen_of t) (seen_of (stopped t))
+  unfolding leaf_kind seen_of calls_to leaf_null leaf_ends sort_of is_end is_semantic leaf_ids
+  leaf_semantic t a b c = record { is = go }
     where
-      there : (e : Leaf) → is_semantic e ≡ true → ((j : ℕ) → calls_to v e j ≡ false) → leaf_ends v e ≡ false → leaf_null v e ≡ true
-          → seen_of ys seeks null ≡ past_leaf v (seen_of xs seeks null) skips e
-      there e i x y z =
-          s.is seeks null
-          ∙ same_seen (λ j. refl) (λ j. refl) (sym (ap (λ x. (seen_of xs seeks null).stops || x) i ∙ or-true (seen_of xs seeks null).stops)) refl refl
-          ∙ past_silent v (seen_of xs seeks null) skips e x y z
+      there : (l : Leaf) → is_semantic l ≡ true → ((j : ℕ) → calls_to v l j ≡ false) → leaf_ends v l ≡ false → leaf_null v l ≡ true
+          → seen_of (stopped t) ≡ past_leaf v (seen_of t) skips l
+      there l i x y z =
+          same_seen (λ j. refl) (λ j. refl) (sym (ap (λ x. t.stops || x) i ∙ or-true t.stops)) refl refl
+          ∙ past_silent v (seen_of t) skips l x y z
 
-      go : (e : Leaf) (q : ℕ) → k ≡ leaf_kind e → Stands ws end (encode_leaf e) p q → seen_of ys seeks null ≡ past_leaf v (seen_of xs seeks null) skips e
+      go : (l : Leaf) (q : ℕ) → k ≡ leaf_kind l → Stands ws end (encode_leaf l) p q
+          → seen_of (stopped t) ≡ past_leaf v (seen_of t) skips l
       go epsilon q h u = absurd (c (omega arith))
       go (action x) q h u = there (action x) refl (λ j. refl) (and-false (not v.past)) refl
       go (predicate x) q h u = there (predicate x) refl (λ j. refl) (and-false (not v.past)) refl
@@ -268,25 +243,21 @@ module _ (v : View) {ws : List ℕ} {end p : ℕ} {skips : Bool} {k : Kind} wher
   pub at_call : {w : ℕ} {s r : Seen} → k ≡ kind.Call → w ≡ get_or ws p 0 → NameSeen v w skips s r → LeafSeen v ws end (kind_number k) p skips s r
   at_call e = leaf_call v (ap kind_number e)
 
-  pub at_symbol : (xs : List ℕ) {seeks null seeks' null' : Bool} → k ≡ kind.Token ⊎ (k ≡ kind.Terminal ⊎ k ≡ kind.Block)
-      → SymbolSeen v.past skips seeks null seeks' null'
-      → LeafSeen v ws end (kind_number k) p skips (seen_of xs seeks null) (seen_of xs seeks' null')
-  at_symbol xs (inl e) = let i = ap kind_number e in leaf_symbol v xs (omega arith) (λ z. omega arith)
-  at_symbol xs (inr (inl e)) = let i = ap kind_number e in leaf_symbol v xs (omega arith) (λ z. omega arith)
-  at_symbol xs (inr (inr e)) = let i = ap kind_number e in leaf_symbol v xs (omega arith) (λ z. omega arith)
+  pub at_symbol : {t r : Held} → k ≡ kind.Token ⊎ (k ≡ kind.Terminal ⊎ k ≡ kind.Block) → SymbolSeen v.past skips t r
+      → LeafSeen v ws end (kind_number k) p skips (seen_of t) (seen_of r)
+  at_symbol (inl e) = let i = ap kind_number e in leaf_symbol v (omega arith) (λ z. omega arith)
+  at_symbol (inr (inl e)) = let i = ap kind_number e in leaf_symbol v (omega arith) (λ z. omega arith)
+  at_symbol (inr (inr e)) = let i = ap kind_number e in leaf_symbol v (omega arith) (λ z. omega arith)
 
-  pub at_nothing : (xs : List ℕ) (seeks null : Bool) → k ≡ kind.Epsilon ⊎ k ≡ kind.EndOfInput
-      → LeafSeen v ws end (kind_number k) p skips (seen_of xs seeks null) (seen_of xs seeks null)
-  at_nothing xs seeks null (inl e) = leaf_epsilon v xs seeks null (ap kind_number e)
-  at_nothing xs seeks null (inr e) = leaf_end_lem v xs seeks null (ap kind_number e)
+  pub at_nothing : (t : Held) → k ≡ kind.Epsilon ⊎ k ≡ kind.EndOfInput → LeafSeen v ws end (kind_number k) p skips (seen_of t) (seen_of t)
+  at_nothing t (inl e) = leaf_epsilon v t (ap kind_number e)
+  at_nothing t (inr e) = leaf_end_lem v t (ap kind_number e)
 
-  pub at_semantic : {xs ys : List ℕ} (seeks null : Bool) → StopSeen xs ys → k ≡ kind.Action ⊎ k ≡ kind.Predicate
-      → LeafSeen v ws end (kind_number k) p skips (seen_of xs seeks null) (seen_of ys seeks null)
-  at_semantic seeks null s (inl e) =
-      let i = ap kind_number e in leaf_semantic v seeks null s (λ z. omega arith) (omega arith) (λ z. omega arith)
-  at_semantic seeks null s (inr e) =
-      let i = ap kind_number e in leaf_semantic v seeks null s (λ z. omega arith) (omega arith) (λ z. omega arith)
+  pub at_semantic : (t : Held) → k ≡ kind.Action ⊎ k ≡ kind.Predicate
+      → LeafSeen v ws end (kind_number k) p skips (seen_of t) (seen_of (stopped t))
+  at_semantic t (inl e) = let i = ap kind_number e in leaf_semantic v t (λ z. omega arith) (omega arith) (λ z. omega arith)
+  at_semantic t (inr e) = let i = ap kind_number e in leaf_semantic v t (λ z. omega arith) (omega arith) (λ z. omega arith)
 
-pub ruleset sees = (bit_seen, stop_seen, call_seen, target_low, name_unknown, name_known)
+pub ruleset sees = (call_seen, target_low, name_unknown, name_known)
 
 pub ruleset leaves = (at_call, at_symbol, at_nothing, at_semantic)

@@ -1,12 +1,12 @@
 -- The walk over a body as a fold: one element, one alternative.
 use Prim.Native.Nat.{ℕ, ◌+◌, ◌*◌, ◌-◌, ◌/◌, ◌<◌, ◌≤◌}
 use mathlib.Core.Path.{◌≡◌, refl, sym, ap, ◌∙◌}
-use mathlib.Core.List.{List, [], ◌∷◌}
-use mathlib.Core.Bool.{Bool, true, false, ◌&&◌, ◌||◌, not, or-false, or-true}
+use mathlib.Core.List.{List}
+use mathlib.Core.Bool.{Bool, true, false, ◌&&◌, ◌||◌, not}
 use native.Mathlib.Omega.{arith}
-use lib.ListN.{get_or, replicate}
+use lib.ListN.{get_or}
 use lib.Dec.{eqb, leb}
-use borrow.Author.Tests.{eq-eqb, ne_eqb}
+use borrow.Author.Tests.{leb-true}
 use Rattle.grammar.specs.Numbers.{token_kind, block_kind, kind_end, optional_greedy, zero_or_more_nongreedy}
 use Rattle.grammar.specs.Tree.{ElementHead, inner_depth}
 use Rattle.grammar.specs.Encode.{encode_alternative, encode_block}
@@ -17,11 +17,17 @@ use Rattle.grammar.specs.Laws.Complete.{leaf_kind_lem}
 use Rattle.grammar.specs.Laws.Opened.{HeadWords, alternative_words_lem, rule_words_lem}
 use Rattle.grammar.specs.Laws.Found.{alternative_room, block_depth}
 use Rattle.grammar.specs.Laws.Fold.{Folding, folding_all, folding_done, folding_found, folding_more, fold_leaf, fold_block, fold_alternative}
+use Rattle.grammar.specs.Laws.Parse.{either}
 use Rattle.reference.specs.Walks.{is_optional}
-use Rattle.analysis.specs.Survey.{View, Seen, seen_of, surveying, skipping, past_block, past_alternative, past_leaf, SymbolSeen, LeafSeen}
-use Rattle.analysis.specs.Survey.{StopSeen, unseen, whole, past_outermost, OutermostWalked, BodyWalked, BodySeen}
-use Rattle.reach.proofs.Laws.Rows.{no_bits}
-use Rattle.analysis.proofs.Laws.Seen.{same_seen, leaf_symbol}
+use Rattle.std.specs.Prelude.{Result, Err}
+use Rattle.words.specs.declared.numbers.Quantifier.{Quantifier}
+use Rattle.words.specs.declared.numbers.Quantifier.TheVariants.{OptionalGreedy, OptionalNongreedy, ZeroOrMoreGreedy, ZeroOrMoreNongreedy}
+use Rattle.words.specs.declared.numbers.Unnamed.{Unnamed}
+use Rattle.words.specs.Kinds.{Names, quantifier_number}
+use Rattle.analysis.specs.declared.leaf.Seen.{Seen as Held}
+use Rattle.analysis.specs.Survey.{View, Seen, seen_of, turned, surveying, skipping, past_block, past_alternative, past_leaf, SymbolSeen}
+use Rattle.analysis.specs.Survey.{LeafSeen, unseen, whole, past_outermost, OutermostWalked, BodyWalked, BodySeen}
+use Rattle.analysis.proofs.Laws.Seen.{leaf_symbol}
 
 -- The measure of a block's alternatives is below that of the block.
 pub block_lower : {ws : List ℕ} {end at k p : ℕ} → HeadAt ws end at k p → k ≡ block_kind → (d : ℕ) {t : ℕ} → FoundElement ws end d at
@@ -44,65 +50,69 @@ module _ (v : View) {ws : List ℕ} {end at k p : ℕ} (head : HeadAt ws end at 
       f.is l q (let x = w.packed in let y = head.kind_is in omega arith) u.stands
       ∙ ap (λ b. past_leaf v s b l) (optional (omega arith) w)
 
-  pub survey_token : (d : ℕ) → k ≡ token_kind → {there : ℕ} (xs : List ℕ) {seeks null seeks' null' : Bool} → LeafEnd ws end d at p there
-      → SymbolSeen v.past skips seeks null seeks' null'
-      → ElementWalked (surveying v) ws end d at (seen_of xs seeks null) there (seen_of xs seeks' null')
-  survey_token d four xs e f = survey_leaf d (λ z. omega arith) e (leaf_symbol v xs (omega arith) (λ z. omega arith) f)
+  pub survey_token : (d : ℕ) → k ≡ token_kind → {there : ℕ} {t r : Held} → LeafEnd ws end d at p there → SymbolSeen v.past skips t r
+      → ElementWalked (surveying v) ws end d at (seen_of t) there (seen_of r)
+  survey_token d four e f = survey_leaf d (λ z. omega arith) e (leaf_symbol v (omega arith) (λ z. omega arith) f)
 
-  pub survey_block : (d : ℕ) → k ≡ block_kind → {m q : ℕ} (xs ys : List ℕ) (seeks null seeks' null' : Bool) → m ≡ get_or ws p 0
-      → AlternativesWalked (surveying v) ws end (d - 1) m (p + 1) (seen_of xs seeks false) q (seen_of ys seeks' null')
-      → ElementWalked (surveying v) ws end d at (seen_of xs seeks null) q (seen_of ys (seeks && (skips || null')) (null && (skips || null')))
+  pub survey_block : (d : ℕ) → k ≡ block_kind → {m q : ℕ} (t r : Held) → m ≡ get_or ws p 0
+      → AlternativesWalked (surveying v) ws end (d - 1) m (p + 1) (seen_of (turned t.seeks false t)) q (seen_of r)
+      → ElementWalked (surveying v) ws end d at (seen_of t) q
+      (seen_of (turned (t.seeks && (skips || r.null)) (t.null && (skips || r.null)) r))
   unfolding surveying seen_of past_block
-  survey_block d six xs ys seeks null seeks' null' c w =
-      fold_block (surveying v) head six d c (λ h y. refl) w λ h y.
-      ap (λ b. past_block (seen_of xs seeks null) b (seen_of ys seeks' null')) (optional (omega arith) y)
+  survey_block d six t r c w =
+      fold_block (surveying v) head six d c (λ h y. refl) w λ h y. ap (λ b. past_block (seen_of t) b (seen_of r)) (optional (omega arith) y)
 
 pub survey_alternative : (v : View) {ws : List ℕ} {end at : ℕ} (d : ℕ) {count first : ℕ} → AlternativeAt ws end at count first → {q : ℕ}
-    (xs ys : List ℕ) (seeks null seeks' null' : Bool)
-    → ElementsWalked (surveying v) ws end d count first (seen_of xs seeks true) q (seen_of ys seeks' null')
-    → AlternativeWalked (surveying v) ws end d at (seen_of xs seeks null) q (seen_of ys seeks (null || null'))
+    (t r : Held) → ElementsWalked (surveying v) ws end d count first (seen_of (turned t.seeks true t)) q (seen_of r)
+    → AlternativeWalked (surveying v) ws end d at (seen_of t) q (seen_of (turned t.seeks (t.null || r.null) r))
 unfolding surveying seen_of past_alternative
-survey_alternative v d head xs ys seeks null seeks' null' c = fold_alternative (surveying v) d head (λ a z w. refl) c λ a z w. refl
+survey_alternative v d head t r c = fold_alternative (surveying v) d head (λ a z w. refl) c λ a z w. refl
 
 pub ruleset surveys = (survey_leaf, survey_token, survey_block, survey_alternative)
 
--- The word that packs kind and quantifier, read.
-pub skips_word : {w x : ℕ} → w ≡ x → (leb 1 (w / 256) && leb (w / 256) 4) ≡ skipping x
-skips_word e = rw e refl
+-- A number that names no quantifier lets nothing be left out.
+pub no_skips : {v w : ℕ} → v ≡ w → {r : Result Quantifier Unnamed} {x : Unnamed} → Names quantifier_number (v / kind_end) r → r ≡ Err x
+    → false ≡ skipping w
+no_skips {v} {w} e {r} {x} m f = go (λ a b. (rw f at m).1 a (b ∙ ap (λ k. k / kind_end) (sym e)))
+  where
+    go : ((a : Quantifier) → quantifier_number a ≡ w / kind_end → ⊥) → false ≡ skipping w
+    go none =
+        either (leb optional_greedy (w / kind_end))
+        (λ a.
+        either (leb (w / kind_end) zero_or_more_nongreedy)
+        (λ b.
+        let c = leb-true optional_greedy (w / kind_end) a in
+        let d = leb-true (w / kind_end) zero_or_more_nongreedy b in
+        let p = none OptionalGreedy in
+        let q = none OptionalNongreedy in
+        let s = none ZeroOrMoreGreedy in
+        let t = none ZeroOrMoreNongreedy in
+        absurd (omega arith))
+        (λ b. rw (a, b) refl))
+        (λ a. rw a refl)
 
 -- An outermost alternative: its label is looked at behind it.
-module _ (v : View) {ws : List ℕ} {end at : ℕ} where
-  module _ {s r : Seen} {q : ℕ} (w : AlternativeWalked (surveying v) ws end inner_depth at s q r) where
-    outer : {r' : Seen}
-        → ((f : ℕ) → get_or ws (at + 2) 0 ≡ f → r' ≡ record { calls = r.calls; corners = r.corners; stops = r.stops || not (eqb f 0); seeks = r.seeks; null = r.null })
-        → OutermostWalked v ws end at s q r'
-    unfolding past_outermost
-    outer e =
-        record {
-          passed = w.passed;
-          value = λ a z u.
-              e a.flag (alternative_words_lem inner_depth u).flag_is
-              ∙ ap (λ t. record { calls = t.calls; corners = t.corners; stops = t.stops || not (eqb a.flag 0); seeks = t.seeks; null = t.null })
-              (w.value a z u);
-          within = w.within;
-        }
-
-  pub outer_plain : {s r : Seen} {q m : ℕ} → AlternativeWalked (surveying v) ws end inner_depth at s q r → m ≡ get_or ws (at + 2) 0 → m ≡ 0
-      → OutermostWalked v ws end at s q r
-  outer_plain {r = r} w e f =
-      outer w λ g h.
-      same_seen (λ j. refl) (λ j. refl) (sym (rw (eq-eqb g 0 (omega arith)) (or-false r.stops))) refl refl
-
-  pub outer_labelled : {s : Seen} {q m : ℕ} {xs ys : List ℕ} (seeks null : Bool)
-      → AlternativeWalked (surveying v) ws end inner_depth at s q (seen_of xs seeks null) → StopSeen xs ys → m ≡ get_or ws (at + 2) 0
-      → (m ≡ 0 → ⊥) → OutermostWalked v ws end at s q (seen_of ys seeks null)
-  outer_labelled {xs = xs} seeks null w l e f =
-      outer w λ g h.
-      l.is seeks null
-      ∙ same_seen (λ j. refl) (λ j. refl)
-      (sym (rw (ne_eqb g 0 (λ z. f (omega arith))) (or-true (seen_of xs seeks null).stops))) refl refl
-
-pub ruleset outers = (outer_plain, outer_labelled)
+pub outer_walked : (v : View) {ws : List ℕ} {end at : ℕ} {s : Seen} {q : ℕ} (r : Held)
+    → AlternativeWalked (surveying v) ws end inner_depth at s q (seen_of r) → {m : ℕ} → m ≡ get_or ws (at + 2) 0
+    → OutermostWalked v ws end at s q
+    (seen_of (record {
+      calls = r.calls;
+      corners = r.corners;
+      stops = r.stops || not (eqb m 0);
+      seeks = r.seeks;
+      null = r.null;
+    }))
+unfolding past_outermost seen_of
+outer_walked v r w e =
+    record {
+      passed = w.passed;
+      value = λ a z u.
+          let f = e ∙ (alternative_words_lem inner_depth u).flag_is in
+          rw f
+          (ap (λ t. record { calls = t.calls; corners = t.corners; stops = t.stops || not (eqb a.flag 0); seeks = t.seeks; null = t.null })
+          (w.value a z u));
+      within = w.within;
+    }
 
 -- A loop that counts up to n, of which k trees are done.
 module _ {ws : List ℕ} {end : ℕ} {A S : Type 0} {enc : A → List ℕ} {ok : A → Bool} {step : S → A → S} {n at : ℕ} {s₀ : S} {k p : ℕ}
@@ -129,24 +139,17 @@ pub body_room : (v : View) {ws : List ℕ} {end n at : ℕ} {s₀ : Seen} {k p :
 body_room v g l = alternative_room inner_depth (counted_found g l)
 
 -- A whole rule.
-pub rule_surveyed : (v : View) {ws : List ℕ} {end at m f q : ℕ} (ys : List ℕ) (seeks : Bool) {null : Bool} → m ≡ get_or ws (at + 3) 0 → f ≡ get_or ws (at + 2) 0
-    → BodyWalked v ws end m (at + 4) (seen_of (replicate 5 0) true false) q (seen_of ys seeks null)
+pub rule_surveyed : (v : View) {ws : List ℕ} {end at m f q : ℕ} (b t : Held) → seen_of b ≡ unseen → m ≡ get_or ws (at + 3) 0
+    → f ≡ get_or ws (at + 2) 0
+    → BodyWalked v ws end m (at + 4) (seen_of b) q (seen_of t)
     → BodySeen v ws end at
-    (record {
-      calls = get_or ys 0 0 ∷ get_or ys 1 0 ∷ [];
-      corners = get_or ys 2 0 ∷ get_or ys 3 0 ∷ [];
-      stops = eqb (get_or ys 4 0) 1 || not (eqb f 0);
-      nullable = null;
-    })
+    (record { calls = t.calls; corners = t.corners; stops = t.stops || not (eqb f 0); nullable = t.null })
 unfolding seen_of
-rule_surveyed v ys seeks {null} e f c =
+rule_surveyed v b t n e f c =
     record {
-      is = λ t z u.
+      is = λ r z u.
           let w = rule_words_lem inner_depth u in
-          let s = c.value t.body z w.alternatives (sym w.count ∙ sym e) in
-          ap (λ x. whole (eqb x 0) (seen_of ys seeks null)) (f ∙ w.flags_are)
-          ∙ ap (whole (eqb t.flags 0)) (s ∙ ap (λ x. folded (past_outermost v inner_depth) x t.body) nothing);
+          let s = c.value r.body z w.alternatives (sym w.count ∙ sym e) in
+          ap (λ x. whole (eqb x 0) (seen_of t)) (f ∙ w.flags_are)
+          ∙ ap (whole (eqb r.flags 0)) (s ∙ ap (λ x. folded (past_outermost v inner_depth) x r.body) n);
     }
-  where
-    nothing : seen_of (replicate 5 0) true false ≡ unseen
-    nothing = same_seen no_bits no_bits refl refl refl

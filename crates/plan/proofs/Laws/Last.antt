@@ -51,7 +51,7 @@ module _ {ws : List ℕ} {end : ℕ} {rules : Rules} {past : Bool} {calls : List
       }
 
   module _ {n : ℕ} (count : n ≡ rules.n) (some : done.steps ≡ 0 → ⊥) {j : Option (List ℕ)}
-      (judged : JudgedFound ws end rules (record { n = n; nullable = marks.nullable; past = past }) members hub bs done.l j) where
+      (judged : JudgedFound ws end rules marks.nullable past members hub bs done.l j) where
     known_judged : (x : CycleKnown ws end rules past calls marks kept members)
         → AreJudged (reading past) (known_grammar x) rules.ids rules.n x.cycle (get_or rules.ids hub 0) inner_depth
         (settled ws end inner_depth bs done.l) j

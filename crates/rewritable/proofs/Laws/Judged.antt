@@ -25,7 +25,7 @@ use Rattle.rewritable.specs.Items.{call_of, is_call_of, gives_arguments, starts_
 use Rattle.rewritable.specs.Walks.{Agreeing, WalkOf}
 use Rattle.rewritable.specs.Judge.{FitAs, IsJudged, VerdictOf}
 use Rattle.rewritable.specs.declared.judge.Verdict.{Verdict}
-use Rattle.rewritable.specs.declared.walk.Walk.{Walk}
+use Rattle.analysis.specs.declared.leaf.Seen.{Seen as Held}
 use Rattle.rewritable.proofs.Laws.Corners.{corners_apart}
 
 eqb_swap : (a b : ℕ) → eqb a b ≡ eqb b a
@@ -125,7 +125,7 @@ module _ (v : View) {hub : ℕ} (low : hub < v.n) (d : ℕ) (es : List (Element 
             };
       }
 
-  module _ (yes : not may ≡ false) {x : Walk} (walked : WalkOf v d es x) {begins : Bool}
+  module _ (yes : not may ≡ false) {x : Held} (walked : WalkOf v d es x) {begins : Bool}
       (second : begins ≡ starts_with_call (get_or v.names hub 0) es) where
     module _ (w : Agreeing v) (cycle : List ℕ) where
       -- What is left of the test.

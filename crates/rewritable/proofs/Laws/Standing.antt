@@ -2,6 +2,7 @@
 use Prim.Native.Nat.{ℕ}
 use mathlib.Core.Path.{◌≡◌, sym, subst}
 use mathlib.Core.List.{List}
+use mathlib.Core.Bool.{Bool}
 use lib.ListN.{length, get_or}
 use Rattle.std.specs.declared.option.Option.{Option}
 use Rattle.grammar.specs.Tree.{inner_depth}
@@ -9,9 +10,8 @@ use Rattle.reference.specs.Analysis.{Grammar, names_of}
 use Rattle.records.specs.declared.rules.Rules.{Rules}
 use Rattle.reach.specs.Rows.{RowOf}
 use Rattle.analysis.specs.Names.{Tabled}
-use Rattle.analysis.specs.Survey.{reading, view_of}
+use Rattle.analysis.specs.Survey.{reading}
 use Rattle.analysis.specs.Facts.{Agrees, Standing}
-use Rattle.analysis.specs.declared.leaf.Known.{Known}
 use Rattle.analysis.proofs.Laws.Agree.{agrees}
 use Rattle.analysis.proofs.Laws.Standing.{told}
 use Rattle.planned.specs.Layout.{settled}
@@ -25,26 +25,32 @@ no_table {rules = rules} s e table none =
     subst (λ n. Tabled rules.names n table) (sym e)
     (record { told = told s; room = λ some. absurd (some none) })
 
-module _ {ws : List ℕ} {end : ℕ} {rules : Rules} {known : Known} (e : known.n ≡ rules.n) where
+module _ {ws : List ℕ} {end : ℕ} {rules : Rules} {n : ℕ} (e : n ≡ rules.n) {nullable : List ℕ} {past : Bool} where
   known_by : (s : Standing ws end rules) (g : Grammar) → g.names ≡ names_of s.rows.found.trees
-      → RowOf rules.ids rules.n g.nullable known.nullable → Agrees g rules.ids (view_of rules.names known)
+      → RowOf rules.ids rules.n g.nullable nullable
+      → Agrees g rules.ids (record { names = rules.names; n = n; nullable = nullable; past = past })
   known_by s g names row =
-      subst (λ ns. Agrees (record { names = ns; nullable = g.nullable }) rules.ids (view_of rules.names known)) (sym names)
+      subst
+      (λ ns.
+      Agrees (record { names = ns; nullable = g.nullable }) rules.ids
+      (record { names = rules.names; n = n; nullable = nullable; past = past }))
+      (sym names)
       (subst
       (λ n.
       Agrees (record { names = names_of s.rows.found.trees; nullable = g.nullable }) rules.ids
-      (record { names = rules.names; n = n; nullable = known.nullable; past = known.past }))
-      (sym e) (agrees s row known.past))
+      (record { names = rules.names; n = n; nullable = nullable; past = past }))
+      (sym e) (agrees s row past))
 
   pub judged_found : {members : List ℕ} {hub : ℕ} {bs : List ℕ} {l : Sizes} {r : Option (List ℕ)}
-      → JudgedOf (view_of rules.names known) members hub inner_depth (settled ws end inner_depth bs l) r
-      → JudgedFound ws end rules known members hub bs l r
+      → JudgedOf (record { names = rules.names; n = n; nullable = nullable; past = past }) members hub inner_depth
+      (settled ws end inner_depth bs l) r
+      → JudgedFound ws end rules nullable past members hub bs l r
   judged_found {members} {hub} {bs} {l} {r} j =
       record {
         is = λ s g cycle names row cycles.
             subst
             (λ n.
-            AreJudged (reading known.past) g rules.ids n cycle (get_or rules.ids hub 0) inner_depth
+            AreJudged (reading past) g rules.ids n cycle (get_or rules.ids hub 0) inner_depth
             (settled ws end inner_depth bs l) r)
             e
             (j.by

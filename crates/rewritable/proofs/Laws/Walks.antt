@@ -1,10 +1,10 @@
 -- The walk over the elements of a listed alternative, and what it says of them.
 use Prim.Native.Nat.{ℕ, ◌+◌, ◌≤◌}
 use mathlib.Core.Path.{◌≡◌, refl, sym, ap, ◌∙◌, subst}
-use mathlib.Core.List.{List, [], ◌∷◌}
-use mathlib.Core.Bool.{Bool, true, false, ◌||◌}
+use mathlib.Core.List.{List}
+use mathlib.Core.Bool.{Bool, true, false}
 use native.Mathlib.Omega.{arith}
-use lib.ListN.{get_or, drop, replicate}
+use lib.ListN.{drop}
 use Rattle.grammar.specs.Numbers.{block_kind}
 use Rattle.grammar.specs.Tree.{Element, Block}
 use Rattle.grammar.specs.Found.{FoundElement, HeadAt}
@@ -15,8 +15,8 @@ use Rattle.grammar.specs.Laws.Opened.{Opened, opened_leaf, opened_block, opened}
 use Rattle.reference.specs.Substitute.{plain}
 use Rattle.reference.specs.Analysis.{collect_calls_in_elements, left_corners, element_nullable, block_is_nullable}
 use Rattle.reach.specs.Rows.{holds}
-use Rattle.reach.proofs.Laws.Rows.{no_bits}
-use Rattle.analysis.specs.Survey.{View, Seen, seen_of, reading, surveying, LeafSeen}
+use Rattle.analysis.specs.Survey.{View, Seen, seen_of, turned, into, unseen, reading, surveying, LeafSeen}
+use Rattle.analysis.specs.declared.leaf.Seen.{Seen as Held}
 use Rattle.planned.specs.Layout.{made_if, meaning}
 use Rattle.planned.specs.List.{ListedIn}
 use Rattle.planned.specs.Reading.{ItemIs}
@@ -93,69 +93,65 @@ module _ (v : View) (ws : List ℕ) (end d : ℕ) (bs : List ℕ) (x : Listed) w
   abbrev rest : List (Element (Block d))
   rest = drop 1 all_of
 
-  abbrev start : Seen
-  start = seen_of (replicate 5 0) true true
-
   -- Nothing is seen in front.
-  no_calls : (es : List (Element (Block d))) (w : Agreeing v) {r : Seen} → r ≡ folded (past_element v d) start es → (j : ℕ)
+  abbrev front : Seen
+  front = into true unseen
+
+  no_calls : (es : List (Element (Block d))) (w : Agreeing v) {r : Seen} → r ≡ folded (past_element v d) front es → (j : ℕ)
       → r.calls j ≡ holds w.ids v.n (collect_calls_in_elements w.grammar d es) j
-  unfolding seen_of
-  no_calls es w e j =
-      ap (λ s. s.calls j) e ∙ (past_adds w.agrees d start es).calls j
-      ∙ ap (λ b. b || holds w.ids v.n (collect_calls_in_elements w.grammar d es) j) (no_bits j)
+  no_calls es w e j = ap (λ s. s.calls j) e ∙ (past_adds w.agrees d front es).calls j
 
-  no_corners : (es : List (Element (Block d))) (w : Agreeing v) {r : Seen} → r ≡ folded (past_element v d) start es → (j : ℕ)
+  no_corners : (es : List (Element (Block d))) (w : Agreeing v) {r : Seen} → r ≡ folded (past_element v d) front es → (j : ℕ)
       → r.corners j ≡ holds w.ids v.n (left_corners (reading v.past) w.grammar d es) j
-  unfolding seen_of
-  no_corners es w e j =
-      ap (λ s. s.corners j) e ∙ (past_adds w.agrees d start es).corners j
-      ∙ ap (λ b. b || holds w.ids v.n (left_corners (reading v.past) w.grammar d es) j) (no_bits j)
+  no_corners es w e j = ap (λ s. s.corners j) e ∙ (past_adds w.agrees d front es).corners j
 
-  pub whole_none : x.ne ≡ 0 → WalkOf v d all_of (record { calls = replicate 2 0; corners = replicate 2 0; null = true })
-  unfolding seen_of all
-  whole_none e =
-      let none = no_steps_left ws end d bs x 0 (omega arith) in
-      let empty = ap (folded (past_element v d) start) (sym none) in
-      record {
-        calls = λ w. record { at = no_calls all_of w empty };
-        corners = λ w. record { at = no_corners all_of w empty };
-        tail = λ w. sym (ap (λ es. all (element_nullable w.grammar (block_is_nullable w.grammar d)) (drop 1 es)) none);
-      }
-
-  -- Behind the first element, where the count of what is nullable starts anew.
-  module _ {at : ℕ} {made : Bool} (listed : ListedIn ws end d bs x) (item : ItemIs bs x 0 at made) (us ys : List ℕ)
-      (seeks null seeks' null' : Bool)
-      (one : ItemWalked v ws end d at made start (seen_of us seeks null))
-      (others : RestWalked v d rest (seen_of us seeks true) (seen_of ys seeks' null')) where
-    -- The walk from the first element on, where it does not.
-    whole : folded (past_element v d) (seen_of us seeks null) rest ≡ folded (past_element v d) start all_of
-    whole =
-        let f = (there ws end d listed item).found in
-        ap (λ s. folded (past_element v d) s rest) (one.value f.tree f.next f.spans)
-        ∙ sym (ap (folded (past_element v d) start) (next_left ws end d listed item))
-
-    pub whole_some : WalkOf v d all_of
-        (record { calls = get_or ys 0 0 ∷ get_or ys 1 0 ∷ []; corners = get_or ys 2 0 ∷ get_or ys 3 0 ∷ []; null = null' })
-    unfolding seen_of
-    whole_some =
+  module _ (b : Held) (begin : seen_of b ≡ front) where
+    pub whole_none : x.ne ≡ 0 → WalkOf v d all_of b
+    unfolding seen_of all
+    whole_none e =
+        let none = no_steps_left ws end d bs x 0 (omega arith) in
+        let empty = begin ∙ ap (folded (past_element v d) front) (sym none) in
         record {
-          calls = λ w.
-              record {
-                at = λ j.
-                    ap (λ s. s.calls j) others.value
-                    ∙ (past_adds w.agrees d (seen_of us seeks true) rest).calls j
-                    ∙ sym ((past_adds w.agrees d (seen_of us seeks null) rest).calls j)
-                    ∙ no_calls all_of w whole j;
-              };
-          corners = λ w.
-              record {
-                at = λ j.
-                    ap (λ s. s.corners j) others.value
-                    ∙ (past_adds w.agrees d (seen_of us seeks true) rest).corners j
-                    ∙ sym ((past_adds w.agrees d (seen_of us seeks null) rest).corners j)
-                    ∙ no_corners all_of w whole j;
-              };
-          tail = λ w. ap (λ s. s.null) others.value ∙ past_null w.agrees d (seen_of us seeks true) rest;
+          calls = λ w. record { at = no_calls all_of w empty };
+          corners = λ w. record { at = no_corners all_of w empty };
+          tail = λ w.
+              ap (λ s. s.null) begin
+              ∙ sym (ap (λ es. all (element_nullable w.grammar (block_is_nullable w.grammar d)) (drop 1 es)) none);
         }
+
+    -- Behind the first element, where the count of what is nullable starts anew.
+    module _ {at : ℕ} {made : Bool} (listed : ListedIn ws end d bs x) (item : ItemIs bs x 0 at made) (u r : Held)
+        (one : ItemWalked v ws end d at made (seen_of b) (seen_of u))
+        (others : RestWalked v d rest (seen_of (turned u.seeks true u)) (seen_of r)) where
+      -- The walk from the first element on, where it does not.
+      whole : folded (past_element v d) (seen_of u) rest ≡ folded (past_element v d) front all_of
+      whole =
+          let f = (there ws end d listed item).found in
+          ap (λ s. folded (past_element v d) s rest) (one.value f.tree f.next f.spans)
+          ∙ sym (ap (folded (past_element v d) (seen_of b)) (next_left ws end d listed item))
+          ∙ ap (λ s. folded (past_element v d) s all_of) begin
+
+      pub whole_some : WalkOf v d all_of r
+      unfolding seen_of
+      whole_some =
+          record {
+            calls = λ w.
+                record {
+                  at = λ j.
+                      ap (λ s. s.calls j) others.value
+                      ∙ (past_adds w.agrees d (seen_of (turned u.seeks true u)) rest).calls j
+                      ∙ sym ((past_adds w.agrees d (seen_of u) rest).calls j)
+                      ∙ no_calls all_of w whole j;
+                };
+            corners = λ w.
+                record {
+                  at = λ j.
+                      ap (λ s. s.corners j) others.value
+                      ∙ (past_adds w.agrees d (seen_of (turned u.seeks true u)) rest).corners j
+                      ∙ sym ((past_adds w.agrees d (seen_of u) rest).corners j)
+                      ∙ no_corners all_of w whole j;
+                };
+            tail = λ w. ap (λ s. s.null) others.value ∙ past_null w.agrees d (seen_of (turned u.seeks true u)) rest;
+          }
 
 pub ruleset wholes = (item_stands, whole_none, whole_some)

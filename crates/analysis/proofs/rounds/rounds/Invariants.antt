@@ -1,6 +1,5 @@
 use Rattle.words.specs.Sheet.{text}
 use Prim.Native.Nat.{◌-◌}
-use Rattle.grammar.specs.Words.{words}
 use Rattle.reach.specs.Rows.{Behind}
 use Rattle.analysis.proofs.Laws.Rounded.{Finding}
 use Rattle.analysis.proofs.rounds.rounds.Given as goal

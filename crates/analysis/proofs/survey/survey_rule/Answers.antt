@@ -5,8 +5,8 @@ use Rattle.analysis.proofs.Laws.Walks.{rule_surveyed}
 use Rattle.analysis.proofs.Laws.Meant.{surveyed}
 
 -- src/survey.rt:119:9
-pub body-w-requires-clause-found_alternatives : goal.body-w-requires-clause-found_alternatives
-body-w-requires-clause-found_alternatives c = search (rules, bodies)
+pub body-requires-clause-found_alternatives : goal.body-requires-clause-found_alternatives
+body-requires-clause-found_alternatives c = search (rules, bodies)
 
 -- src/survey.rt:103:1
 pub returns : goal.returns

@@ -10,8 +10,8 @@ pub alternative-alternative_head-head-requires-clause-bounds :
 alternative-alternative_head-head-requires-clause-bounds t c = search (rules, inner, rooms, surveys, counted, block_lower)
 
 -- src/walk.rt:177:9
-pub alternative-elements-e-requires : goal.alternative-elements-e-requires
-alternative-elements-e-requires t c = search (rules, inner, rooms, surveys, counted, block_lower)
+pub alternative-elements-there-requires : goal.alternative-elements-there-requires
+alternative-elements-there-requires t c = search (rules, inner, rooms, surveys, counted, block_lower)
 
 -- src/walk.rt:156:1
 pub alternative-returns : goal.alternative-returns
@@ -23,7 +23,7 @@ alternatives-alternative-p-requires t c = search (rules, inner, rooms, surveys, 
 
 -- src/walk.rt:212:5
 pub alternatives-loop-preserved : goal.alternatives-loop-preserved
-alternatives-loop-preserved t c = search (rules, inner, rooms, surveys, counted, block_lower)
+alternatives-loop-preserved t c = search (rules, inner, rooms, surveys, counted)
 
 -- src/walk.rt:188:1
 pub alternatives-returns : goal.alternatives-returns
@@ -44,7 +44,7 @@ elements-element-p-requires t c = search (rules, inner, rooms, surveys, counted,
 
 -- src/walk.rt:141:5
 pub elements-loop-preserved : goal.elements-loop-preserved
-elements-loop-preserved t c = search (rules, inner, rooms, surveys, counted, block_lower)
+elements-loop-preserved t c = search (rules, inner, rooms, surveys, counted)
 
 -- src/walk.rt:117:1
 pub elements-returns : goal.elements-returns
@@ -60,8 +60,8 @@ pub other_element-overflow_sub-depth : goal.other_element-overflow_sub-depth
 other_element-overflow_sub-depth t c = search (rules, inner, rooms, surveys, counted, named_kinds)
 
 -- src/walk.rt:84:13
-pub other_element-alternatives-b-requires : goal.other_element-alternatives-b-requires
-other_element-alternatives-b-requires t c = search (rules, inner, rooms, surveys, counted, block_lower, named_kinds)
+pub other_element-alternatives-there-requires : goal.other_element-alternatives-there-requires
+other_element-alternatives-there-requires t c = search (rules, inner, rooms, surveys, counted, block_lower, named_kinds)
 
 -- src/walk.rt:98:9
 pub other_element-returns-in-Block : goal.other_element-returns-in-Block

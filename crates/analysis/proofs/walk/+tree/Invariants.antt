@@ -1,8 +1,5 @@
 use Rattle.words.specs.Sheet.{text}
-use mathlib.Core.Path.{◌≡◌}
 use Prim.Native.Nat.{◌+◌, ◌-◌, ◌*◌}
-use lib.ListN.{length}
-use Rattle.grammar.specs.Words.{words}
 use Rattle.grammar.specs.Laws.Fold.{ElementsFolding, AlternativesFolding}
 use Rattle.analysis.specs.Survey.{view_of, seen_of, surveying}
 use Rattle.analysis.proofs.walk.+tree.Given as goal
@@ -23,7 +20,11 @@ abbrev pub decreases-other_element : goal.decreases-other_element
 decreases-other_element l = l.depth * 5
 
 abbrev pub invariant-alternatives-loop : goal.invariant-alternatives-loop
-invariant-alternatives-loop l = (length l.t ≡ length l.initial.t) × AlternativesFolding (surveying (view_of l.names l.known)) (text l.s) l.s.end l.depth l.n l.at (seen_of l.initial.t l.seeks l.null) (l.n - l.counter) l.p.at (seen_of l.t l.p.seeks l.p.null)
+invariant-alternatives-loop l =
+    AlternativesFolding (surveying (view_of l.v)) (text l.s) l.s.end l.depth l.n l.at (seen_of l.initial.t)
+    (l.n - l.counter) l.p (seen_of l.t)
 
 abbrev pub invariant-elements-loop : goal.invariant-elements-loop
-invariant-elements-loop l = (length l.t ≡ length l.initial.t) × ElementsFolding (surveying (view_of l.names l.known)) (text l.s) l.s.end l.depth l.n l.at (seen_of l.initial.t l.seeks l.null) (l.n - l.counter) l.p.at (seen_of l.t l.p.seeks l.p.null)
+invariant-elements-loop l =
+    ElementsFolding (surveying (view_of l.v)) (text l.s) l.s.end l.depth l.n l.at (seen_of l.initial.t)
+    (l.n - l.counter) l.p (seen_of l.t)

@@ -1,5 +1,4 @@
 use Rattle.words.specs.Sheet.{text}
-use Rattle.grammar.specs.Words.{words}
 use Rattle.rewritable.proofs.Laws.Listed.{Testing}
 use Rattle.rewritable.proofs.items.may_be_rewritten.Given as goal
 

@@ -8,13 +8,13 @@ pub loop-init : goal.loop-init
 loop-init c = search (rules, judging)
 
 -- src/judge.rt:89:17
-pub returns-in_err-v : goal.returns-in_err-v
-returns-in_err-v c = judge_stop _ _ _ _ _ _ _ _ c.loop.invariant c.read_settled-r.ensures c.in_err-v.ensures c.from_residual.ensures
+pub returns-in_err-a : goal.returns-in_err-a
+returns-in_err-a c = judge_stop _ _ _ _ _ _ _ _ c.loop.invariant c.read_settled-r.ensures c.in_err-a.ensures c.from_residual.ensures
 
 -- src/judge.rt:87:5
 pub loop-preserved : goal.loop-preserved
 loop-preserved c =
-    judge_more _ _ _ _ _ _ _ _ c.loop.invariant c.read_settled-r.ensures c.loop-test.true c.in_ok-v.ensures c.union-calls.ensures
+    judge_more _ _ _ _ _ _ _ _ c.loop.invariant c.read_settled-r.ensures c.loop-test.true c.in_ok-a.ensures c.union-calls.ensures
 
 -- src/judge.rt:65:1
 pub returns : goal.returns

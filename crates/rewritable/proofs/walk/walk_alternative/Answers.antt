@@ -7,8 +7,8 @@ pub returns-then-x-eq0 : goal.returns-then-x-eq0
 returns-then-x-eq0 c = search (rules, wholes)
 
 -- src/walk.rt:132:9
-pub walk_item-p-requires-clause-item_stands : goal.walk_item-p-requires-clause-item_stands
-walk_item-p-requires-clause-item_stands c = search (rules, wholes)
+pub walk_item-requires : goal.walk_item-requires
+walk_item-requires c = search (rules, wholes)
 
 -- src/walk.rt:103:1
 pub returns : goal.returns

@@ -3,8 +3,8 @@ use Rattle.rewritable.proofs.walk.walk_rest.Goals as goal
 use Rattle.rewritable.proofs.Laws.Walks.{rest_more, resting}
 
 -- src/walk.rt:88:13
-pub walk_item-q-requires-clause-item_stands : goal.walk_item-q-requires-clause-item_stands
-walk_item-q-requires-clause-item_stands c = search (rules, resting, rest_more)
+pub walk_item-requires : goal.walk_item-requires
+walk_item-requires c = search (rules, resting, rest_more)
 
 -- src/walk.rt:86:5
 pub loop-i-preserved : goal.loop-i-preserved
