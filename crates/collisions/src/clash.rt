@@ -12,7 +12,7 @@ ghost use Rattle.collisions.specs.Clash.{clash_label, clash_leaf, comparing, Nam
 ghost use Rattle.words.specs.Kinds.{kind_number};
 ghost use Rattle.words.specs.Sheet.{text};
 
-use crate::names::{Names, has};
+use crate::names::{Set, has};
 use words::numbers::{Block, Kind};
 use words::sheet::Sheet;
 use words::visit::{Visitor, walk_alternative};
@@ -45,8 +45,8 @@ fn see_label(s: &Sheet, depth: u32, at: usize, work: &[u8], c: Clash) -> Clash
         return c;
     }
     Clash {
-        label: c.label | has(s, work, Names::LABELS, name),
-        binding: c.binding | has(s, work, Names::REFERENCES, name),
+        label: c.label | has(s, work, Set::Labels, name),
+        binding: c.binding | has(s, work, Set::References, name),
     }
 }
 
@@ -57,7 +57,7 @@ fn bind(s: &Sheet, work: &[u8], name: u32, c: Clash) -> Clash
 {
     Clash {
         label: c.label,
-        binding: c.binding | has(s, work, Names::REFERENCES, name),
+        binding: c.binding | has(s, work, Set::References, name),
     }
 }
 

@@ -14,7 +14,7 @@ ghost use Rattle.collisions.specs.Mark.{Marks, marks_of, mark_leaf, marking, Lab
 ghost use Rattle.words.specs.Kinds.{kind_number};
 ghost use Rattle.words.specs.Sheet.{text};
 
-use crate::names::{Names, clear_both, put};
+use crate::names::{Set, clear_both, put};
 use crate::references::reference_count;
 use planned::list::Listed;
 use planned::read::item;
@@ -33,7 +33,7 @@ fn mark_label(s: &Sheet, depth: u32, at: usize, work: &mut [u8])
     if name == 0 {
         return;
     }
-    put(s, work, Names::LABELS, at + 4);
+    put(s, work, Set::Labels, at + 4);
 }
 
 // The reference at `at`; all but those of the last kind bind.
@@ -50,7 +50,7 @@ fn mark_reference(s: &Sheet, at: usize, name: u32, work: &mut [u8], dangling: bo
     if u32::from(ReferenceKind::Qualified) < kind {
         return refers;
     }
-    put(s, work, Names::REFERENCES, at + 1);
+    put(s, work, Set::References, at + 1);
     refers
 }
 

@@ -183,8 +183,8 @@ module _ {ws : List ℕ} {end at p : ℕ} {bs cs : List ℕ} (name : ℕ) (b : L
 
 pub ruleset marks = (mark_leaf_lem, mark_block)
 
-pub ruleset labels = (label_unmarked, label_marked, labels_set)
+pub ruleset labels = (label_unmarked, label_marked)
 
-pub ruleset reference_laws = (reference_room, reference_apart, reference_binds, put_kept, kept_refl, references_set)
+pub ruleset reference_laws = (reference_room, reference_apart, reference_binds, put_kept, kept_refl)
 
 pub ruleset leaf_laws = (leaf_unmarked, refers_found, refers_room, leaf_marked, kept_refl)

@@ -1,7 +1,6 @@
 use Rattle.words.specs.Sheet.{text}
 use Rattle.std.specs.Prelude.{◌≡◌}
 use Rattle.grammar.specs.Tree.{inner_depth}
-use Rattle.grammar.specs.Words.{words}
 use Rattle.planned.specs.Layout.{meaning}
 use Rattle.collisions.specs.Names.{Kept}
 use Rattle.collisions.specs.Mark.{marks_of, marking}

@@ -1,6 +1,5 @@
 use Rattle.words.specs.Sheet.{text}
 use Prim.Native.Nat.{◌-◌, ◌<◌}
-use Rattle.grammar.specs.Words.{words}
 use Rattle.collisions.specs.Names.{Kept}
 use Rattle.collisions.specs.Mark.{marks_of}
 use Rattle.collisions.proofs.Laws.Mark.{ReferencesFolding}
