@@ -11,6 +11,8 @@ use planned::halves::{half, move_halves, put_half};
 use words::sheet::Sheet;
 use words::words::word;
 
+// Stays: that the names rise is a clause of each function. A value that knew it would hold the sheet and the whole lent work area; but a
+// walk hands its visitor the sheet at each step, and the planned list, which is read between two names, stands in the same area.
 #[derive(Drop)]
 pub struct Names;
 

@@ -1,5 +1,5 @@
 use Rattle.std.proofs.Common.{rules}
-use Rattle.collisions.proofs.clash.see_label.Goals as goal
+use Rattle.collisions.proofs.clash.Comparer.see_label.Goals as goal
 use Rattle.collisions.proofs.Laws.Clash.{clashes}
 
 -- src/clash.rt:42:9
