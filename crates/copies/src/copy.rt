@@ -12,7 +12,7 @@ use words::walk::{alternative_head, element_head, leaf_end};
 use words::words::word;
 
 // Past what was copied, and the pen behind the copy.
-#[derive(Clone, Copy)]
+#[derive(Clone, Copy, Debug, PartialEq, Eq)]
 pub struct Copied {
     pub next: usize,
     pub pen: Pen,

@@ -45,18 +45,18 @@ fn write_head(
     at: usize,
     payload: usize,
     id: u32,
-    kind: u32,
+    packed: u32,
     label: u32,
     out: &mut [u8],
     to: usize,
 )
     requires { (at + 6 ≤ payload) × (4 * payload ≤ length s.now) × (4 * (to + (payload - at)) ≤ length out.old) }
     ensures { Wrote out.old out.new to
-        (id ∷ get_or (words s.now) (at + 1) 0 ∷ kind ∷ label
+        (id ∷ get_or (words s.now) (at + 1) 0 ∷ packed ∷ label
         ∷ take (payload - (at + 4)) (drop (at + 4) (words s.now))) }
 {
     let carried = word(s, at + 1);
-    write_words(out, to, &[id, carried, kind, label]);
+    write_words(out, to, &[id, carried, packed, label]);
     copy_words(s, at + 4, out, to + 4, payload - (at + 4));
 }
 
@@ -75,12 +75,12 @@ pub fn copy_head(
         trail.old trail.new pen result }
 {
     let to = pen.to + (payload - at);
-    let kind = packed(s.bytes, at + 2, plain);
+    let packed = packed(s.bytes, at + 2, plain);
     let owner = word(s.bytes, at);
     let given = fresh(trail, pen, Sort::Element, Reason::BlockBoundary, owner);
     let first = given.pen;
     let named = label_id(s.bytes, at + 3, trail, first);
-    write_head(s.bytes, at, payload, given.id, kind, named.id, out, pen.to);
+    write_head(s.bytes, at, payload, given.id, packed, named.id, out, pen.to);
     let behind = named.pen;
     Pen { to, ..behind }
 }
