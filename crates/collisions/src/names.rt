@@ -54,7 +54,7 @@ impl From<Set> for u16 {
 fn place(h: u16) -> usize
     ensures { result ≡ h % most_words }
 {
-    (h % Names::PLACES) as usize
+    usize::from(h % Names::PLACES)
 }
 
 // Whether a set has the name of an entry.
@@ -80,14 +80,14 @@ fn lowest(work: &[u8]) -> usize
     requires { work_bytes ≤ length work.now }
     ensures { result ≡ low_in work.now }
 {
-    half(work, Names::LOW) as usize
+    usize::from(half(work, Names::LOW))
 }
 
 fn count(work: &[u8]) -> usize
     requires { (work_bytes ≤ length work.now) × (low_in work.now ≤ high_in work.now) }
     ensures { result ≡ count_in work.now }
 {
-    half(work, Names::HIGH) as usize - lowest(work)
+    usize::from(half(work, Names::HIGH)) - lowest(work)
 }
 
 // The i-th entry, and its name.
