@@ -11,8 +11,8 @@ pub write_hub-behind-requires-clause-hub_fits : goal.write_hub-behind-requires-c
 write_hub-behind-requires-clause-hub_fits c = search (rules, hubs)
 
 -- src/rules.rt:42:9
-pub add_row-with-requires : goal.add_row-with-requires
-add_row-with-requires c = search (rules, hubs)
+pub add_row-requires : goal.add_row-requires
+add_row-requires c = search (rules, hubs)
 
 -- src/rules.rt:19:1
 pub returns : goal.returns
