@@ -22,6 +22,7 @@ pub struct Composed {
 }
 
 // By the plan in the work area, for the sheet whose rules end at `end` and whose trailer stands at `to`.
+// Stays: the bytes and their end. The caller has no `Sheet` of them, since it writes the new sheet over them right behind this call.
 pub fn compose(
     s: &[u8],
     end: usize,
@@ -42,7 +43,7 @@ pub fn compose(
     let sheet = Sheet { bytes: s, end };
     compose_rules(&sheet, rules, p, work, trail, &mut d);
     let behind = d.pen;
-    let last = write_end(s, end, to, work, behind);
+    let last = write_end(&sheet, to, work, behind);
     Composed {
         pen: last,
         rules: d.rules,

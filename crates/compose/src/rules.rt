@@ -9,6 +9,7 @@ ghost use Rattle.words.specs.Sheet.{text};
 
 use crate::body::write_hub;
 use analysis::names::index;
+use copies::pen::Drawing;
 use drafts::draft::Draft;
 use drafts::kept::copy_rules;
 use plan::plan::Plan;
@@ -27,7 +28,13 @@ fn add_hub(s: &Sheet, rules: Rules, p: Plan, work: &mut [u8], trail: &mut [u8], 
     let hub = p.hub;
     let at = index(rules.places[hub]);
     let pen = d.pen;
-    let behind = write_hub(s, at, p.l, work, trail, pen);
+    let mut drawing = Drawing {
+        out: work,
+        trail,
+        pen,
+    };
+    write_hub(&mut drawing, s, at, p.l);
+    let behind = drawing.pen;
     d.add_row(rules.ids[hub], rules.names[hub], behind.to - pen.to);
     d.pen = behind;
 }

@@ -45,6 +45,14 @@ pub struct Given {
     pub pen: Pen,
 }
 
+// What is drawn into, the words of copies and the entries of the trail, and the pen.
+#[derive(Drop)]
+pub struct Drawing<'a> {
+    pub out: &'a mut [u8],
+    pub trail: &'a mut [u8],
+    pub pen: Pen,
+}
+
 // Words one after the other.
 pub fn write_words(out: &mut [u8], at: usize, ws: &[u32])
     requires { 4 * (at + length ws.now) ≤ length out.old }
