@@ -6,6 +6,8 @@ use Rattle.grammar.specs.Lists.{member}
 use Rattle.planned.specs.Layout.{half, hand_end}
 use Rattle.planned.specs.List.{SameList}
 use Rattle.planned.specs.Laws.Same.{same_refl, same_trans}
+use Rattle.collisions.specs.declared.names.Set.{Set}
+use Rattle.collisions.specs.declared.names.Set.TheVariants.{Labels, References}
 
 -- The halves that say where the entries begin and end; where they may stand.
 abbrev pub entries_at : ℕ
@@ -23,6 +25,10 @@ labels_bit = most_words
 
 abbrev pub references_bit : ℕ
 references_bit = 2 * most_words
+
+abbrev pub set_bit : Set → ℕ
+set_bit Labels = labels_bit
+set_bit References = references_bit
 
 pub record IsSet (w : ℕ) : Type 0 where
   pub is : (w ≡ labels_bit) ⊎ (w ≡ references_bit)

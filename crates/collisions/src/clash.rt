@@ -12,7 +12,7 @@ ghost use Rattle.collisions.specs.Clash.{clash_label, clash_leaf, comparing, Nam
 ghost use Rattle.words.specs.Kinds.{kind_number};
 ghost use Rattle.words.specs.Sheet.{text};
 
-use crate::names::{Names, has};
+use crate::names::{Set, has};
 use words::numbers::{Block, Kind};
 use words::sheet::Sheet;
 use words::visit::{Visitor, walk_alternative};
@@ -33,54 +33,46 @@ struct Comparer<'a> {
     found: Clash,
 }
 
-fn see_label(s: &Sheet, depth: u32, at: usize, work: &[u8], c: Clash) -> Clash
-    requires bounds { (at + 6 ≤ s.now.end) × Ordered (text s.now) s.now.end work.now }
-    requires found_element { FoundElement (text s.now) s.now.end depth at }
-    ensures { LabelSeen (text s.now) at
-        (clash_label (has_name (text s.now) work.now labels_bit)
-        (has_name (text s.now) work.now references_bit)) c result }
-{
-    let name = word(s.bytes, at + 4);
-    if name == 0 {
-        return c;
+impl Comparer<'_> {
+    // The label of the element at `at`.
+    fn see_label(&mut self, s: &Sheet, depth: u32, at: usize)
+        requires bounds { (at + 6 ≤ s.now.end) × Ordered (text s.now) s.now.end self.old.work.now }
+        requires found_element { FoundElement (text s.now) s.now.end depth at }
+        ensures same_names { self.old.work.now ≡ self.new.work.now }
+        ensures seen { LabelSeen (text s.now) at
+            (clash_label (has_name (text s.now) self.old.work.now labels_bit)
+            (has_name (text s.now) self.old.work.now references_bit)) self.old.found self.new.found }
+    {
+        let name = word(s.bytes, at + 4);
+        if name == 0 {
+            return;
+        }
+        self.found.label |= has(s, self.work, Set::Labels, name);
+        self.found.binding |= has(s, self.work, Set::References, name);
     }
-    Clash {
-        label: c.label | has(s, work, Names::LABELS, name),
-        binding: c.binding | has(s, work, Names::REFERENCES, name),
-    }
-}
 
-// A name that a call or a token binds.
-fn bind(s: &Sheet, work: &[u8], name: u32, c: Clash) -> Clash
-    requires { Ordered (text s.now) s.now.end work.now }
-    ensures { NameBound (text s.now) work.now name c result }
-{
-    Clash {
-        label: c.label,
-        binding: c.binding | has(s, work, Names::REFERENCES, name),
+    // A name that a call or a token binds.
+    fn bind(&mut self, s: &Sheet, name: u32)
+        requires { Ordered (text s.now) s.now.end self.old.work.now }
+        ensures same_names { self.old.work.now ≡ self.new.work.now }
+        ensures bound { NameBound (text s.now) self.old.work.now name self.old.found self.new.found }
+    {
+        self.found.binding |= has(s, self.work, Set::References, name);
     }
-}
 
-// An element that is no block; its payload stands at `payload`.
-fn see_leaf(
-    s: &Sheet,
-    depth: u32,
-    at: usize,
-    kind: Kind,
-    payload: usize,
-    work: &[u8],
-    c: Clash,
-) -> Clash
-    requires bounds { Ordered (text s.now) s.now.end work.now }
-    requires head_at { HeadAt (text s.now) s.now.end at (kind_number kind) payload × (kind_number kind ≡ block_kind → ⊥)
-        × FoundElement (text s.now) s.now.end depth at }
-    ensures { LeafSeen (text s.now) s.now.end (kind_number kind) payload
-        (clash_leaf (has_name (text s.now) work.now references_bit)) c result }
-{
-    match kind {
-        Kind::Call => bind(s, work, word(s.bytes, payload), c),
-        Kind::Token => bind(s, work, word(s.bytes, payload), c),
-        _ => c,
+    // An element that is no block; its payload stands at `payload`.
+    fn see_leaf(&mut self, s: &Sheet, depth: u32, at: usize, kind: Kind, payload: usize)
+        requires bounds { Ordered (text s.now) s.now.end self.old.work.now }
+        requires head_at { HeadAt (text s.now) s.now.end at (kind_number kind) payload × (kind_number kind ≡ block_kind → ⊥)
+            × FoundElement (text s.now) s.now.end depth at }
+        ensures same_names { self.old.work.now ≡ self.new.work.now }
+        ensures seen { LeafSeen (text s.now) s.now.end (kind_number kind) payload
+            (clash_leaf (has_name (text s.now) self.old.work.now references_bit)) self.old.found self.new.found }
+    {
+        match kind {
+            Kind::Call | Kind::Token => self.bind(s, word(s.bytes, payload)),
+            _ => {}
+        }
     }
 }
 
@@ -96,12 +88,12 @@ impl Visitor for Comparer<'_> {
     ghost Kept = { λ ws end a b. a.work.now ≡ b.work.now };
 
     fn leaf(&mut self, s: &Sheet, depth: u32, at: usize, head: Head) {
-        let labelled = see_label(s, depth, at, self.work, self.found);
-        self.found = see_leaf(s, depth, at, head.kind, head.payload, self.work, labelled);
+        self.see_label(s, depth, at);
+        self.see_leaf(s, depth, at, head.kind, head.payload);
     }
 
     fn enter_block(&mut self, s: &Sheet, depth: u32, at: usize, _head: Head) {
-        self.found = see_label(s, depth, at, self.work, self.found);
+        self.see_label(s, depth, at);
     }
 
     fn enter_alternative(&mut self, _s: &Sheet, _depth: u32, _at: usize) {}

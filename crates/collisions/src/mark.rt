@@ -14,7 +14,7 @@ ghost use Rattle.collisions.specs.Mark.{Marks, marks_of, mark_leaf, marking, Lab
 ghost use Rattle.words.specs.Kinds.{kind_number};
 ghost use Rattle.words.specs.Sheet.{text};
 
-use crate::names::{Names, clear_both, put};
+use crate::names::{Set, clear_both, put};
 use crate::references::reference_count;
 use planned::list::Listed;
 use planned::read::item;
@@ -24,84 +24,106 @@ use words::visit::{Visitor, walk_element};
 use words::walk::Head;
 use words::words::word;
 
-fn mark_label(s: &Sheet, depth: u32, at: usize, work: &mut [u8])
-    requires bounds { (at + 6 ≤ s.now.end) × Ordered (text s.now) s.now.end work.old }
-    requires found_element { FoundElement (text s.now) s.now.end depth at }
-    ensures { LabelMarked (text s.now) s.now.end at work.old work.new }
-{
-    let name = word(s.bytes, at + 4);
-    if name == 0 {
-        return;
-    }
-    put(s, work, Names::LABELS, at + 4);
-}
-
-// The reference at `at`; all but those of the last kind bind.
-fn mark_reference(s: &Sheet, at: usize, name: u32, work: &mut [u8], dangling: bool) -> bool
-    requires bounds { (0 < at) × (at + 2 ≤ s.now.end) × Ordered (text s.now) s.now.end work.old }
-    requires found_reference { FoundReference (text s.now) s.now.end at }
-    ensures { Kept (text s.now) s.now.end work.old work.new × ReferenceMarked name
-        (text s.now) s.now.end at (marks_of (text s.now) work.old dangling) (at + 2)
-        (marks_of (text s.now) work.new result) }
-{
-    let kind = word(s.bytes, at);
-    let to = word(s.bytes, at + 1);
-    let refers = dangling | (name == to);
-    if u32::from(ReferenceKind::Qualified) < kind {
-        return refers;
-    }
-    put(s, work, Names::REFERENCES, at + 1);
-    refers
-}
-
-// n references from `at` on.
-fn mark_references(s: &Sheet, n: u32, at: usize, name: u32, work: &mut [u8], dangling: bool) -> bool
-    requires bounds { (0 < at) × (at ≤ s.now.end) × Ordered (text s.now) s.now.end work.old }
-    requires found_references { FoundReferences (text s.now) s.now.end n at }
-    ensures { Kept (text s.now) s.now.end work.old work.new × ReferencesMarked name
-        (text s.now) s.now.end n at (marks_of (text s.now) work.old dangling)
-        (marks_of (text s.now) work.new result) }
-{
-    let mut p: usize = at;
-    let mut refers = dangling;
-    for _ in 0..n {
-        refers = mark_reference(s, p, name, work, refers);
-        p += 2;
-    }
-    refers
-}
-
-// An element that is no block; its payload stands at `payload`.
-fn mark_leaf(
-    s: &Sheet,
-    depth: u32,
-    at: usize,
-    kind: Kind,
-    payload: usize,
-    name: u32,
-    work: &mut [u8],
-    dangling: bool,
-) -> bool
-    requires bounds { Ordered (text s.now) s.now.end work.old }
-    requires head_at { HeadAt (text s.now) s.now.end at (kind_number kind) payload × (kind_number kind ≡ block_kind → ⊥)
-        × FoundElement (text s.now) s.now.end depth at }
-    ensures { Kept (text s.now) s.now.end work.old work.new × LeafSeen
-        (text s.now) s.now.end (kind_number kind) payload (mark_leaf name) (marks_of (text s.now) work.old dangling)
-        (marks_of (text s.now) work.new result) }
-{
-    let n = reference_count(s, depth, at, kind, payload);
-    if n == 0 {
-        return dangling;
-    }
-    mark_references(s, n, payload + 2, name, work, dangling)
-}
-
 // What marks, in the sets of the work area, and whether something referred to the name that is sought.
 #[derive(Drop)]
 struct Marker<'a> {
     name: u32,
     work: &'a mut [u8],
     dangling: bool,
+}
+
+impl Marker<'_> {
+    // The label of the element at `at`.
+    fn mark_label(&mut self, s: &Sheet, depth: u32, at: usize)
+        requires bounds { (at + 6 ≤ s.now.end) × Ordered (text s.now) s.now.end self.old.work.now }
+        requires found_element { FoundElement (text s.now) s.now.end depth at }
+        ensures same_buffer { self.old.work.ghost_name ≡ self.new.work.ghost_name }
+        ensures same_name { self.old.name ≡ self.new.name }
+        ensures same_dangling { self.old.dangling ≡ self.new.dangling }
+        ensures marked { LabelMarked (text s.now) s.now.end at self.old.work.now self.new.work.now }
+    {
+        let name = word(s.bytes, at + 4);
+        if name == 0 {
+            return;
+        }
+        put(s, self.work, Set::Labels, at + 4);
+    }
+
+    // The reference at `at`; all but those of the last kind bind.
+    fn mark_reference(&mut self, s: &Sheet, at: usize)
+        requires bounds { (0 < at) × (at + 2 ≤ s.now.end) × Ordered (text s.now) s.now.end self.old.work.now }
+        requires found_reference { FoundReference (text s.now) s.now.end at }
+        ensures same_buffer { self.old.work.ghost_name ≡ self.new.work.ghost_name }
+        ensures same_name { self.old.name ≡ self.new.name }
+        ensures marked { Kept (text s.now) s.now.end self.old.work.now self.new.work.now × ReferenceMarked self.old.name
+            (text s.now) s.now.end at (marks_of (text s.now) self.old.work.now self.old.dangling) (at + 2)
+            (marks_of (text s.now) self.new.work.now self.new.dangling) }
+    {
+        let to = word(s.bytes, at + 1);
+        self.dangling |= self.name == to;
+        let Ok(kind) = ReferenceKind::try_from(word(s.bytes, at)) else {
+            return;
+        };
+        match kind {
+            ReferenceKind::Attribute | ReferenceKind::Qualified => {
+                put(s, self.work, Set::References, at + 1);
+            }
+            ReferenceKind::NonLocal => {}
+        }
+    }
+
+    // n references from `at` on.
+    fn mark_references(&mut self, s: &Sheet, n: u32, at: usize)
+        requires bounds { (0 < at) × (at ≤ s.now.end) × Ordered (text s.now) s.now.end self.old.work.now }
+        requires found_references { FoundReferences (text s.now) s.now.end n at }
+        ensures same_buffer { self.old.work.ghost_name ≡ self.new.work.ghost_name }
+        ensures same_name { self.old.name ≡ self.new.name }
+        ensures marked { Kept (text s.now) s.now.end self.old.work.now self.new.work.now × ReferencesMarked self.old.name
+            (text s.now) s.now.end n at (marks_of (text s.now) self.old.work.now self.old.dangling)
+            (marks_of (text s.now) self.new.work.now self.new.dangling) }
+    {
+        let mut p: usize = at;
+        for _ in 0..n {
+            self.mark_reference(s, p);
+            p += 2;
+        }
+    }
+
+    // An element that is no block; its payload stands at `payload`.
+    fn mark_leaf(&mut self, s: &Sheet, depth: u32, at: usize, kind: Kind, payload: usize)
+        requires bounds { Ordered (text s.now) s.now.end self.old.work.now }
+        requires head_at { HeadAt (text s.now) s.now.end at (kind_number kind) payload × (kind_number kind ≡ block_kind → ⊥)
+            × FoundElement (text s.now) s.now.end depth at }
+        ensures same_buffer { self.old.work.ghost_name ≡ self.new.work.ghost_name }
+        ensures same_name { self.old.name ≡ self.new.name }
+        ensures marked { Kept (text s.now) s.now.end self.old.work.now self.new.work.now × LeafSeen
+            (text s.now) s.now.end (kind_number kind) payload (mark_leaf self.old.name)
+            (marks_of (text s.now) self.old.work.now self.old.dangling) (marks_of (text s.now) self.new.work.now self.new.dangling) }
+    {
+        let n = reference_count(s, depth, at, kind, payload);
+        if n != 0 {
+            self.mark_references(s, n, payload + 2);
+        }
+    }
+
+    // The elements of a planned alternative from one index up to another.
+    fn mark_items(&mut self, s: &Sheet, x: Listed, from: usize, to: usize)
+        requires bounds { Located self.old.work.now x × (from ≤ to) × (to ≤ x.ne) }
+        requires ordered { Ordered (text s.now) s.now.end self.old.work.now
+            × ListedIn (text s.now) s.now.end inner_depth self.old.work.now x }
+        ensures same_buffer { self.old.work.ghost_name ≡ self.new.work.ghost_name }
+        ensures same_name { self.old.name ≡ self.new.name }
+        ensures marked { Kept (text s.now) s.now.end self.old.work.now self.new.work.now × ItemsWalked (marking self.old.name) inner_depth
+            (meaning (text s.now) s.now.end inner_depth self.old.work.now x).elements from to
+            (marks_of (text s.now) self.old.work.now self.old.dangling)
+            (marks_of (text s.now) self.new.work.now self.new.dangling) }
+    {
+        for i in from..to {
+            let work = &mut *self.work;
+            let e = item(work, x, i);
+            walk_element(self, s, Block::DEPTH, e.at);
+        }
+    }
 }
 
 impl Visitor for Marker<'_> {
@@ -116,45 +138,17 @@ impl Visitor for Marker<'_> {
     ghost Kept = { λ ws end a b. (a.work.ghost_name ≡ b.work.ghost_name) × (a.name ≡ b.name) × names.Kept ws end a.work.now b.work.now };
 
     fn leaf(&mut self, s: &Sheet, depth: u32, at: usize, head: Head) {
-        mark_label(s, depth, at, self.work);
-        self.dangling = mark_leaf(
-            s,
-            depth,
-            at,
-            head.kind,
-            head.payload,
-            self.name,
-            self.work,
-            self.dangling,
-        );
+        self.mark_label(s, depth, at);
+        self.mark_leaf(s, depth, at, head.kind, head.payload);
     }
 
     fn enter_block(&mut self, s: &Sheet, depth: u32, at: usize, _head: Head) {
-        mark_label(s, depth, at, self.work);
+        self.mark_label(s, depth, at);
     }
 
     fn enter_alternative(&mut self, _s: &Sheet, _depth: u32, _at: usize) {}
 
     ghost laws = { Prim.search (rules, noting_past_block, noting_past_alternative, kept_refl, kept_trans) };
-}
-
-// The elements of a planned alternative from one index up to another.
-fn mark_items(marker: &mut Marker<'_>, s: &Sheet, x: Listed, from: usize, to: usize)
-    requires bounds { Located marker.old.work.now x × (from ≤ to) × (to ≤ x.ne) }
-    requires ordered { Ordered (text s.now) s.now.end marker.old.work.now
-        × ListedIn (text s.now) s.now.end inner_depth marker.old.work.now x }
-    ensures same_reference { marker.old.work.ghost_name ≡ marker.new.work.ghost_name }
-    ensures same_name { marker.old.name ≡ marker.new.name }
-    ensures marked { Kept (text s.now) s.now.end marker.old.work.now marker.new.work.now × ItemsWalked (marking marker.old.name) inner_depth
-        (meaning (text s.now) s.now.end inner_depth marker.old.work.now x).elements from to
-        (marks_of (text s.now) marker.old.work.now marker.old.dangling)
-        (marks_of (text s.now) marker.new.work.now marker.new.dangling) }
-{
-    for i in from..to {
-        let work = &mut *marker.work;
-        let e = item(work, x, i);
-        walk_element(marker, s, Block::DEPTH, e.at);
-    }
 }
 
 // All elements of a planned alternative but the one at an index are marked, and nothing else. The answer says whether one of
@@ -172,7 +166,7 @@ pub fn mark_around(s: &Sheet, work: &mut [u8], x: Listed, index: usize, name: u3
         work,
         dangling: false,
     };
-    mark_items(&mut marker, s, x, 0, index);
-    mark_items(&mut marker, s, x, index + 1, x.ne);
+    marker.mark_items(s, x, 0, index);
+    marker.mark_items(s, x, index + 1, x.ne);
     marker.dangling
 }

@@ -2,7 +2,7 @@
 // planned list, from its middle on to both sides, a half for each.
 ghost use Rattle.std.specs.Prelude.{◌≡◌, ◌+◌, ◌*◌, ◌%◌, ◌<◌, ◌≤◌, true, false, length, get_or, MatchResult};
 ghost use Rattle.grammar.specs.Numbers.{most_words, work_bytes};
-ghost use Rattle.collisions.specs.Names.{IsSet, entries_at, entries_end, most_entries, low_in, high_in, count_in};
+ghost use Rattle.collisions.specs.Names.{entries_at, entries_end, most_entries, set_bit, low_in, high_in, count_in};
 ghost use Rattle.collisions.specs.Names.{entry, has_bit, name_at, has_name, Ordered, NamePut, Cleared};
 ghost use Rattle.collisions.specs.Order.{Parted, IsAt, Joined, Raised, Nearer, Insertable, Inserted, InSet};
 ghost use Rattle.words.specs.Sheet.{text};
@@ -11,6 +11,8 @@ use planned::halves::{half, move_halves, put_half};
 use words::sheet::Sheet;
 use words::words::word;
 
+// Stays: that the names rise is a clause of each function. A value that knew it would hold the sheet and the whole lent work area; but a
+// walk hands its visitor the sheet at each step, and the planned list, which is read between two names, stands in the same area.
 #[derive(Drop)]
 pub struct Names;
 
@@ -25,35 +27,52 @@ impl Names {
     pub const END: usize = 32768;
 
     pub const MIDDLE: u16 = 28672;
-    // Places are below this. An entry has more where a label has the name, and where something refers to it.
+    // Places are below this.
     pub const PLACES: u16 = 8192;
+}
 
-    pub const LABELS: u16 = 8192;
+// The two sets: the names of labels, and the names by which something is referred to.
+#[derive(Clone, Copy, Debug, PartialEq, Eq)]
+pub enum Set {
+    Labels,
+    References,
+}
 
-    pub const REFERENCES: u16 = 16384;
+// What an entry has more than a place where the set has its name.
+impl From<Set> for u16 {
+    ghost from_gives = { λ set bit. bit ≡ set_bit set };
+
+    fn from(set: Set) -> u16 {
+        match set {
+            Set::Labels => 8192,
+            Set::References => 16384,
+        }
+    }
 }
 
 // The place of an entry.
 fn place(h: u16) -> usize
     ensures { result ≡ h % most_words }
 {
-    (h % Names::PLACES) as usize
+    usize::from(h % Names::PLACES)
 }
 
 // Whether a set has the name of an entry.
-fn has_bit(h: u16, set: u16) -> bool
-    requires { IsSet set }
-    ensures { result ≡ has_bit set h }
+fn has_bit(h: u16, set: Set) -> bool
+    ensures { result ≡ has_bit (set_bit set) h }
 {
-    h / set % 2 == 1
+    h / u16::from(set) % 2 == 1
 }
 
 // An entry whose name a set has too.
-fn joined(h: u16, set: u16) -> u16
-    requires { IsSet set }
-    ensures { Joined h set result }
+fn joined(h: u16, set: Set) -> u16
+    ensures { Joined h (set_bit set) result }
 {
-    if has_bit(h, set) { h } else { h + set }
+    if has_bit(h, set) {
+        h
+    } else {
+        h + u16::from(set)
+    }
 }
 
 // Where the entries begin, and how many they are.
@@ -61,14 +80,14 @@ fn lowest(work: &[u8]) -> usize
     requires { work_bytes ≤ length work.now }
     ensures { result ≡ low_in work.now }
 {
-    half(work, Names::LOW) as usize
+    usize::from(half(work, Names::LOW))
 }
 
 fn count(work: &[u8]) -> usize
     requires { (work_bytes ≤ length work.now) × (low_in work.now ≤ high_in work.now) }
     ensures { result ≡ count_in work.now }
 {
-    half(work, Names::HIGH) as usize - lowest(work)
+    usize::from(half(work, Names::HIGH)) - lowest(work)
 }
 
 // The i-th entry, and its name.
@@ -129,9 +148,9 @@ fn look(s: &Sheet, work: &[u8], name: u32) -> Result<usize, usize>
 }
 
 // Whether a set has a name.
-pub fn has(s: &Sheet, work: &[u8], set: u16, name: u32) -> bool
-    requires { Ordered (text s.now) s.now.end work.now × IsSet set }
-    ensures { result ≡ has_name (text s.now) work.now set name }
+pub fn has(s: &Sheet, work: &[u8], set: Set, name: u32) -> bool
+    requires { Ordered (text s.now) s.now.end work.now }
+    ensures { result ≡ has_name (text s.now) work.now (set_bit set) name }
 {
     match look(s, work, name) {
         Ok(k) => has_bit(entry_at(work, k), set),
@@ -189,23 +208,23 @@ fn insert(work: &mut [u8], k: usize, v: u16)
 }
 
 // The name of the k-th entry comes into a set.
-fn join(work: &mut [u8], k: usize, set: u16)
-    requires { (work_bytes ≤ length work.old) × (low_in work.old + k < entries_end) × IsSet set }
-    ensures { InSet work.old work.new k set }
+fn join(work: &mut [u8], k: usize, set: Set)
+    requires { (work_bytes ≤ length work.old) × (low_in work.old + k < entries_end) }
+    ensures { InSet work.old work.new k (set_bit set) }
 {
     let v = joined(entry_at(work, k), set);
     put_half(work, lowest(work) + k, v);
 }
 
 // The name that stands at `at` comes into a set.
-pub fn put(s: &Sheet, work: &mut [u8], set: u16, at: usize)
-    requires { Ordered (text s.now) s.now.end work.old × IsSet set × (1 < at) × (at < s.now.end) }
-    ensures { NamePut (text s.now) s.now.end work.old work.new set
+pub fn put(s: &Sheet, work: &mut [u8], set: Set, at: usize)
+    requires { Ordered (text s.now) s.now.end work.old × (1 < at) × (at < s.now.end) }
+    ensures { NamePut (text s.now) s.now.end work.old work.new (set_bit set)
         (get_or (text s.now) at 0) }
 {
     match look(s, work, word(s.bytes, at)) {
         Ok(k) => join(work, k, set),
-        Err(k) => insert(work, k, at as u16 + set),
+        Err(k) => insert(work, k, at as u16 + u16::from(set)),
     }
 }
 

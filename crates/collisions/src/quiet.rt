@@ -27,19 +27,23 @@ struct Listener {
     noisy: bool,
 }
 
-fn see_label(s: &[u8], at: usize, noisy: bool) -> bool
-    requires { 4 * (at + 6) ≤ length s.now }
-    ensures { LabelSeen (words s.now) at noisy_label noisy result }
-{
-    noisy | (word(s, at + 4) != 0)
-}
+impl Listener {
+    // The label of the element at `at`.
+    fn see_label(&mut self, s: &[u8], at: usize)
+        requires { 4 * (at + 6) ≤ length s.now }
+        ensures { LabelSeen (words s.now) at noisy_label self.old.noisy self.new.noisy }
+    {
+        self.noisy |= word(s, at + 4) != 0;
+    }
 
-fn see_leaf(s: &Sheet, depth: u32, at: usize, kind: Kind, payload: usize, noisy: bool) -> bool
-    requires head_at { HeadAt (text s.now) s.now.end at (kind_number kind) payload × (kind_number kind ≡ block_kind → ⊥)
-        × FoundElement (text s.now) s.now.end depth at }
-    ensures { LeafSeen (text s.now) s.now.end (kind_number kind) payload noisy_leaf noisy result }
-{
-    noisy | (reference_count(s, depth, at, kind, payload) != 0)
+    // An element that is no block; its payload stands at `payload`.
+    fn see_leaf(&mut self, s: &Sheet, depth: u32, at: usize, kind: Kind, payload: usize)
+        requires head_at { HeadAt (text s.now) s.now.end at (kind_number kind) payload × (kind_number kind ≡ block_kind → ⊥)
+            × FoundElement (text s.now) s.now.end depth at }
+        ensures { LeafSeen (text s.now) s.now.end (kind_number kind) payload noisy_leaf self.old.noisy self.new.noisy }
+    {
+        self.noisy |= reference_count(s, depth, at, kind, payload) != 0;
+    }
 }
 
 impl Visitor for Listener {
@@ -54,12 +58,12 @@ impl Visitor for Listener {
     ghost Kept = { λ ws end a b. Unit {0} };
 
     fn leaf(&mut self, s: &Sheet, depth: u32, at: usize, head: Head) {
-        let labelled = see_label(s.bytes, at, self.noisy);
-        self.noisy = see_leaf(s, depth, at, head.kind, head.payload, labelled);
+        self.see_label(s.bytes, at);
+        self.see_leaf(s, depth, at, head.kind, head.payload);
     }
 
     fn enter_block(&mut self, s: &Sheet, _depth: u32, at: usize, _head: Head) {
-        self.noisy = see_label(s.bytes, at, self.noisy);
+        self.see_label(s.bytes, at);
     }
 
     fn enter_alternative(&mut self, _s: &Sheet, _depth: u32, _at: usize) {}

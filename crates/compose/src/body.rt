@@ -1,12 +1,12 @@
 // The hub with its new body.
-ghost use Rattle.std.specs.Prelude.{◌+◌, ◌*◌, ◌≤◌, length};
+ghost use Rattle.std.specs.Prelude.{◌≡◌, ◌+◌, ◌*◌, ◌≤◌, length};
 ghost use Rattle.grammar.specs.Tree.{inner_depth};
 ghost use Rattle.planned.specs.List.{Laid, AllIn};
 ghost use Rattle.heads.specs.Front.{compose_at};
 ghost use Rattle.compose.specs.Hub.{Moved, rule_head, Closed, HubFits, BodyDrawn, HubDrawn};
 ghost use Rattle.words.specs.Sheet.{text};
 
-use copies::pen::{Pen, Reason, write_entry, write_words};
+use copies::pen::{Drawing, Reason, write_entry, write_words};
 use planned::list::Sizes;
 use words::numbers::Sort;
 use words::sheet::Sheet;
@@ -14,9 +14,12 @@ use words::words::word;
 use written::list::write_planned;
 
 // Id, name and flags of the rule at `at`, and how many alternatives it has now.
-fn begin_rule(s: &Sheet, at: usize, n: u32, work: &mut [u8], pen: Pen) -> Pen
-    requires { (at + 4 ≤ s.now.end) × (4 * (pen.to + 4) ≤ length work.old) }
-    ensures { Moved (rule_head (text s.now) s.now.end at n) work.old work.new pen result }
+fn begin_rule(d: &mut Drawing<'_>, s: &Sheet, at: usize, n: u32)
+    requires { (at + 4 ≤ s.now.end) × (4 * (d.old.pen.to + 4) ≤ length d.old.out.now) }
+    ensures same_out { d.old.out.ghost_name ≡ d.new.out.ghost_name }
+    ensures same_trail { d.old.trail.ghost_name ≡ d.new.trail.ghost_name }
+    ensures same_entries { d.old.trail.now ≡ d.new.trail.now }
+    ensures moved { Moved (rule_head (text s.now) s.now.end at n) d.old.out.now d.new.out.now d.old.pen d.new.pen }
 {
     let head = [
         word(s.bytes, at),
@@ -24,45 +27,53 @@ fn begin_rule(s: &Sheet, at: usize, n: u32, work: &mut [u8], pen: Pen) -> Pen
         word(s.bytes, at + 2),
         n,
     ];
-    write_words(work, pen.to, &head);
-    Pen {
-        to: pen.to + 4,
-        ..pen
-    }
+    write_words(d.out, d.pen.to, &head);
+    d.pen.to += 4;
 }
 
 // The entry of the hub itself, the last of a plan (SPECIFICATION 12.5).
-fn close(trail: &mut [u8], pen: Pen, id: u32) -> Pen
-    requires { 4 * (pen.trail + 4) ≤ length trail.old }
-    ensures { Closed id trail.old trail.new pen result }
+fn close(d: &mut Drawing<'_>, id: u32)
+    requires { 4 * (d.old.pen.trail + 4) ≤ length d.old.trail.now }
+    ensures same_out { d.old.out.ghost_name ≡ d.new.out.ghost_name }
+    ensures same_trail { d.old.trail.ghost_name ≡ d.new.trail.ghost_name }
+    ensures same_words { d.old.out.now ≡ d.new.out.now }
+    ensures closed { Closed id d.old.trail.now d.new.trail.now d.old.pen d.new.pen }
 {
-    write_entry(trail, pen.trail, Sort::RULE, id, Reason::RuleBoundary, id);
-    Pen {
-        trail: pen.trail + 4,
-        ..pen
-    }
+    write_entry(
+        d.trail,
+        d.pen.trail,
+        Sort::RULE,
+        id,
+        Reason::RuleBoundary,
+        id,
+    );
+    d.pen.trail += 4;
 }
 
 // The rule's fixed words and its alternatives, and their entries.
-fn write_body(s: &Sheet, at: usize, l: Sizes, work: &mut [u8], trail: &mut [u8], pen: Pen) -> Pen
-    requires bounds { (at + 4 ≤ s.now.end) × (compose_at ≤ pen.to) }
-    requires laid { Laid work.old l × AllIn (text s.now) s.now.end inner_depth work.old l }
-    requires hub_fits { HubFits (text s.now) s.now.end work.old l pen at trail.old }
-    ensures { BodyDrawn (text s.now) s.now.end work.old l pen at work.new
-        trail.old trail.new result }
+fn write_body(d: &mut Drawing<'_>, s: &Sheet, at: usize, l: Sizes)
+    requires bounds { (at + 4 ≤ s.now.end) × (compose_at ≤ d.old.pen.to) }
+    requires laid { Laid d.old.out.now l × AllIn (text s.now) s.now.end inner_depth d.old.out.now l }
+    requires hub_fits { HubFits (text s.now) s.now.end d.old.out.now l d.old.pen at d.old.trail.now }
+    ensures same_out { d.old.out.ghost_name ≡ d.new.out.ghost_name }
+    ensures same_trail { d.old.trail.ghost_name ≡ d.new.trail.ghost_name }
+    ensures drawn { BodyDrawn (text s.now) s.now.end d.old.out.now l d.old.pen at d.new.out.now
+        d.old.trail.now d.new.trail.now d.new.pen }
 {
-    let inside = begin_rule(s, at, l.outa as u32, work, pen);
-    write_planned(s, work, l, trail, inside)
+    begin_rule(d, s, at, l.outa as u32);
+    write_planned(d, s, l);
 }
 
 // The whole rule, and its entries.
-pub fn write_hub(s: &Sheet, at: usize, l: Sizes, work: &mut [u8], trail: &mut [u8], pen: Pen) -> Pen
-    requires bounds { (at + 4 ≤ s.now.end) × (compose_at ≤ pen.to) }
-    requires laid { Laid work.old l × AllIn (text s.now) s.now.end inner_depth work.old l }
-    requires hub_fits { HubFits (text s.now) s.now.end work.old l pen at trail.old }
-    ensures { HubDrawn (text s.now) s.now.end work.old l pen at work.new
-        trail.old trail.new result }
+pub fn write_hub(d: &mut Drawing<'_>, s: &Sheet, at: usize, l: Sizes)
+    requires bounds { (at + 4 ≤ s.now.end) × (compose_at ≤ d.old.pen.to) }
+    requires laid { Laid d.old.out.now l × AllIn (text s.now) s.now.end inner_depth d.old.out.now l }
+    requires hub_fits { HubFits (text s.now) s.now.end d.old.out.now l d.old.pen at d.old.trail.now }
+    ensures same_out { d.old.out.ghost_name ≡ d.new.out.ghost_name }
+    ensures same_trail { d.old.trail.ghost_name ≡ d.new.trail.ghost_name }
+    ensures drawn { HubDrawn (text s.now) s.now.end d.old.out.now l d.old.pen at d.new.out.now
+        d.old.trail.now d.new.trail.now d.new.pen }
 {
-    let behind = write_body(s, at, l, work, trail, pen);
-    close(trail, behind, word(s.bytes, at))
+    write_body(d, s, at, l);
+    close(d, word(s.bytes, at));
 }

@@ -14,7 +14,7 @@ use records::rules::Rules;
 use words::sheet::Sheet;
 
 // The pen behind the new sheet, its rules, and where these end, counted in words from its first.
-#[derive(Clone, Copy)]
+#[derive(Clone, Copy, Debug, PartialEq, Eq)]
 pub struct Composed {
     pub pen: Pen,
     pub rules: Rules,
@@ -22,6 +22,7 @@ pub struct Composed {
 }
 
 // By the plan in the work area, for the sheet whose rules end at `end` and whose trailer stands at `to`.
+// Stays: the bytes and their end. The caller has no `Sheet` of them, since it writes the new sheet over them right behind this call.
 pub fn compose(
     s: &[u8],
     end: usize,
@@ -38,14 +39,14 @@ pub fn compose(
         trail.old trail.new pen result }
 {
     let none = Rules::empty();
-    let d = Draft { rules: none, pen };
+    let mut d = Draft { rules: none, pen };
     let sheet = Sheet { bytes: s, end };
-    let w = compose_rules(&sheet, rules, p, work, trail, d);
-    let behind = w.pen;
-    let last = write_end(s, end, to, work, behind);
+    compose_rules(&sheet, rules, p, work, trail, &mut d);
+    let behind = d.pen;
+    let last = write_end(&sheet, to, work, behind);
     Composed {
         pen: last,
-        rules: w.rules,
+        rules: d.rules,
         end: behind.to - Draft::FIRST,
     }
 }

@@ -9,7 +9,7 @@ ghost use Rattle.copies.specs.Heads.{LabelRoom, LabelGiven, HeadRoom, HeadCopied
 ghost use Rattle.copies.specs.Heads.{MarkedRoom, BehindRoom, CopiedBehind, MarkedCopied, LeafRoom, LeafCopied, CountCopied};
 ghost use Rattle.words.specs.Sheet.{text};
 
-use crate::pen::{Given, Pen, Reason, fresh, write_words};
+use crate::pen::{Drawing, Given, Pen, Reason, fresh, write_words};
 use words::numbers::{Kind, Sort};
 use words::sheet::Sheet;
 use words::words::word;
@@ -45,44 +45,19 @@ fn write_head(
     at: usize,
     payload: usize,
     id: u32,
-    kind: u32,
+    packed: u32,
     label: u32,
     out: &mut [u8],
     to: usize,
 )
     requires { (at + 6 ≤ payload) × (4 * payload ≤ length s.now) × (4 * (to + (payload - at)) ≤ length out.old) }
     ensures { Wrote out.old out.new to
-        (id ∷ get_or (words s.now) (at + 1) 0 ∷ kind ∷ label
+        (id ∷ get_or (words s.now) (at + 1) 0 ∷ packed ∷ label
         ∷ take (payload - (at + 4)) (drop (at + 4) (words s.now))) }
 {
     let carried = word(s, at + 1);
-    write_words(out, to, &[id, carried, kind, label]);
+    write_words(out, to, &[id, carried, packed, label]);
     copy_words(s, at + 4, out, to + 4, payload - (at + 4));
-}
-
-// An element's head, with fresh ids for it and its label.
-pub fn copy_head(
-    s: &Sheet,
-    at: usize,
-    payload: usize,
-    plain: bool,
-    out: &mut [u8],
-    trail: &mut [u8],
-    pen: Pen,
-) -> Pen
-    requires { (payload ≤ s.now.end) × HeadRoom (text s.now) at payload out.old trail.old pen }
-    ensures { HeadCopied (text s.now) s.now.end at payload plain out.old out.new
-        trail.old trail.new pen result }
-{
-    let to = pen.to + (payload - at);
-    let kind = packed(s.bytes, at + 2, plain);
-    let owner = word(s.bytes, at);
-    let given = fresh(trail, pen, Sort::Element, Reason::BlockBoundary, owner);
-    let first = given.pen;
-    let named = label_id(s.bytes, at + 3, trail, first);
-    write_head(s.bytes, at, payload, given.id, kind, named.id, out, pen.to);
-    let behind = named.pen;
-    Pen { to, ..behind }
 }
 
 // An id just given, and the words that stand behind the old one.
@@ -97,60 +72,72 @@ fn copy_behind(s: &[u8], at: usize, there: usize, given: Given, out: &mut [u8]) 
     Pen { to, ..pen }
 }
 
-// What begins with an id of a sort, up to a place, with a fresh id: an action, a predicate, or the head of a block's alternative up to
-// its first element.
-pub fn copy_marked(
-    s: &Sheet,
-    at: usize,
-    there: usize,
-    sort: Sort,
-    out: &mut [u8],
-    trail: &mut [u8],
-    pen: Pen,
-) -> Pen
-    requires bounds { there ≤ s.now.end }
-    requires marked_room { MarkedRoom (counter_of sort pen.counters) at there out.old trail.old pen }
-    ensures { MarkedCopied (sort_number sort) (counter_of sort pen.counters) (text s.now) at there
-        out.old out.new trail.old trail.new pen result }
-{
-    let owner = word(s.bytes, at);
-    let given = fresh(trail, pen, sort, Reason::BlockBoundary, owner);
-    copy_behind(s.bytes, at, there, given, out)
-}
+impl Drawing<'_> {
+    // An element's head, with fresh ids for it and its label.
+    pub fn copy_head(&mut self, s: &Sheet, at: usize, payload: usize, plain: bool)
+        requires { (payload ≤ s.now.end) × HeadRoom (text s.now) at payload self.old.out.now self.old.trail.now self.old.pen }
+        ensures same_out { self.old.out.ghost_name ≡ self.new.out.ghost_name }
+        ensures same_trail { self.old.trail.ghost_name ≡ self.new.trail.ghost_name }
+        ensures copied { HeadCopied (text s.now) s.now.end at payload plain self.old.out.now self.new.out.now
+            self.old.trail.now self.new.trail.now self.old.pen self.new.pen }
+    {
+        let pen = self.pen;
+        let to = pen.to + (payload - at);
+        let packed = packed(s.bytes, at + 2, plain);
+        let owner = word(s.bytes, at);
+        let given = fresh(self.trail, pen, Sort::Element, Reason::BlockBoundary, owner);
+        let first = given.pen;
+        let named = label_id(s.bytes, at + 3, self.trail, first);
+        write_head(
+            s.bytes, at, payload, given.id, packed, named.id, self.out, pen.to,
+        );
+        let behind = named.pen;
+        self.pen = Pen { to, ..behind };
+    }
 
-// The payload of an element that is no block, up to where it ends.
-pub fn copy_leaf(
-    s: &Sheet,
-    kind: Kind,
-    at: usize,
-    there: usize,
-    out: &mut [u8],
-    trail: &mut [u8],
-    pen: Pen,
-) -> Pen
-    requires { (there ≤ s.now.end) × LeafRoom (kind_number kind) at there out.old trail.old pen }
-    ensures { LeafCopied (text s.now) s.now.end (kind_number kind) at there out.old out.new
-        trail.old trail.new pen result }
-{
-    match kind {
-        Kind::Action => copy_marked(s, at, there, Sort::Action, out, trail, pen),
-        Kind::Predicate => copy_marked(s, at, there, Sort::Predicate, out, trail, pen),
-        _ => {
-            let to = pen.to + (there - at);
-            copy_words(s.bytes, at, out, pen.to, there - at);
-            Pen { to, ..pen }
+    // What begins with an id of a sort, up to a place, with a fresh id: an action, a predicate, or the head of a block's alternative up to
+    // its first element.
+    pub fn copy_marked(&mut self, s: &Sheet, at: usize, there: usize, sort: Sort)
+        requires bounds { there ≤ s.now.end }
+        requires marked_room { MarkedRoom (counter_of sort self.old.pen.counters) at there
+            self.old.out.now self.old.trail.now self.old.pen }
+        ensures same_out { self.old.out.ghost_name ≡ self.new.out.ghost_name }
+        ensures same_trail { self.old.trail.ghost_name ≡ self.new.trail.ghost_name }
+        ensures copied { MarkedCopied (sort_number sort) (counter_of sort self.old.pen.counters) (text s.now) at there
+            self.old.out.now self.new.out.now self.old.trail.now self.new.trail.now self.old.pen self.new.pen }
+    {
+        let owner = word(s.bytes, at);
+        let given = fresh(self.trail, self.pen, sort, Reason::BlockBoundary, owner);
+        self.pen = copy_behind(s.bytes, at, there, given, self.out);
+    }
+
+    // The payload of an element that is no block, up to where it ends.
+    pub fn copy_leaf(&mut self, s: &Sheet, kind: Kind, at: usize, there: usize)
+        requires { (there ≤ s.now.end) × LeafRoom (kind_number kind) at there self.old.out.now self.old.trail.now self.old.pen }
+        ensures same_out { self.old.out.ghost_name ≡ self.new.out.ghost_name }
+        ensures same_trail { self.old.trail.ghost_name ≡ self.new.trail.ghost_name }
+        ensures copied { LeafCopied (text s.now) s.now.end (kind_number kind) at there self.old.out.now self.new.out.now
+            self.old.trail.now self.new.trail.now self.old.pen self.new.pen }
+    {
+        match kind {
+            Kind::Action => self.copy_marked(s, at, there, Sort::Action),
+            Kind::Predicate => self.copy_marked(s, at, there, Sort::Predicate),
+            _ => {
+                copy_words(s.bytes, at, self.out, self.pen.to, there - at);
+                self.pen.to += there - at;
+            }
         }
     }
-}
 
-// How many alternatives a block has.
-pub fn copy_count(n: u32, out: &mut [u8], pen: Pen) -> Pen
-    requires { 4 * (pen.to + 1) ≤ length out.old }
-    ensures { CountCopied n out.old out.new pen result }
-{
-    write(out, pen.to, n);
-    Pen {
-        to: pen.to + 1,
-        ..pen
+    // How many alternatives a block has.
+    pub fn copy_count(&mut self, n: u32)
+        requires { 4 * (self.old.pen.to + 1) ≤ length self.old.out.now }
+        ensures same_out { self.old.out.ghost_name ≡ self.new.out.ghost_name }
+        ensures same_trail { self.old.trail.ghost_name ≡ self.new.trail.ghost_name }
+        ensures same_entries { self.old.trail.now ≡ self.new.trail.now }
+        ensures copied { CountCopied n self.old.out.now self.new.out.now self.old.pen self.new.pen }
+    {
+        write(self.out, self.pen.to, n);
+        self.pen.to += 1;
     }
 }

@@ -10,7 +10,7 @@ use writing::copy::write;
 use writing::counters::{Counters, Taken};
 
 // The next word of what is drawn and the next word of the trail, both counted in words, and the counters.
-#[derive(Clone, Copy)]
+#[derive(Clone, Copy, Debug, PartialEq, Eq)]
 pub struct Pen {
     pub to: usize,
     pub trail: usize,
@@ -39,9 +39,17 @@ impl From<Reason> for u32 {
 }
 
 // A fresh id, and the pen behind its entry.
-#[derive(Clone, Copy)]
+#[derive(Clone, Copy, Debug, PartialEq, Eq)]
 pub struct Given {
     pub id: u32,
+    pub pen: Pen,
+}
+
+// What is drawn into, the words of copies and the entries of the trail, and the pen.
+#[derive(Drop)]
+pub struct Drawing<'a> {
+    pub out: &'a mut [u8],
+    pub trail: &'a mut [u8],
     pub pen: Pen,
 }
 

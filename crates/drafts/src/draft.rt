@@ -1,14 +1,13 @@
 // The draft: the rules drawn so far, and the pen behind them.
 ghost use Rattle.std.specs.Prelude.{◌+◌, ◌<◌, ◌≤◌};
 ghost use Rattle.grammar.specs.Numbers.{rule_limit};
-ghost use Rattle.records.specs.Rules.{IsWith};
 ghost use Rattle.heads.specs.Front.{compose_at};
 ghost use Rattle.drafts.specs.Draft.{compose_end, RowAdded};
 
 use copies::pen::Pen;
 use records::rules::Rules;
 
-#[derive(Clone, Copy)]
+#[derive(Clone, Copy, Debug, PartialEq, Eq)]
 pub struct Draft {
     pub rules: Rules,
     pub pen: Pen,
@@ -17,33 +16,20 @@ pub struct Draft {
 impl Draft {
     // The word of the work area from which a sheet is composed.
     pub const FIRST: usize = 8192;
-}
 
-// One rule more.
-fn with(mut rules: Rules, id: u32, name: u32, place: u32) -> Rules
-    requires { rules.n < rule_limit }
-    ensures { IsWith rules id name place result }
-{
-    let n = rules.n as usize;
-    rules.ids[n] = id;
-    rules.names[n] = name;
-    rules.places[n] = place;
-    rules.n += 1;
-    rules
-}
-
-// A rule whose n words are drawn next.
-pub fn add_row(d: Draft, id: u32, name: u32, n: usize) -> Draft
-    requires { (d.rules.n < rule_limit) × (compose_at ≤ d.pen.to) × (d.pen.to + n ≤ compose_end) }
-    ensures { RowAdded id name n d result }
-{
-    let pen = d.pen;
-    let place = (pen.to - Draft::FIRST) as u32;
-    Draft {
-        rules: with(d.rules, id, name, place),
-        pen: Pen {
-            to: pen.to + n,
-            ..pen
-        },
+    // A rule whose n words are drawn next.
+    // Stays: the row is written as `Rules::add` writes one, and not by it. Callers outside have a value of `Rules`, and no open method of
+    // what they have may ask for anything.
+    pub fn add_row(&mut self, id: u32, name: u32, n: usize)
+        requires { (self.old.rules.n < rule_limit) × (compose_at ≤ self.old.pen.to) × (self.old.pen.to + n ≤ compose_end) }
+        ensures { RowAdded id name n self.old self.new }
+    {
+        let place = (self.pen.to - Draft::FIRST) as u32;
+        let k = self.rules.n as usize;
+        self.rules.ids[k] = id;
+        self.rules.names[k] = name;
+        self.rules.places[k] = place;
+        self.rules.n += 1;
+        self.pen.to += n;
     }
 }

@@ -8,7 +8,6 @@ ghost use Rattle.words.specs.Sheet.{text};
 
 use crate::draft::Draft;
 use analysis::names::index;
-use copies::pen::Pen;
 use reach::rows::{Row, has};
 use records::rules::Rules;
 use words::sheet::Sheet;
@@ -26,8 +25,6 @@ pub fn rule_end(places: &[u32; Row::RULES], n: usize, i: usize, end: usize) -> u
 }
 
 // Those from one place among the rules up to another that are not in the row.
-// Stays: each row is written here and not by `add_row`, which takes the draft by value; so its arrays would be copied for each rule,
-// and grammars of many small plans would take a fifth longer.
 pub fn copy_rules(
     s: &Sheet,
     rules: Rules,
@@ -35,31 +32,19 @@ pub fn copy_rules(
     from: usize,
     until: usize,
     work: &mut [u8],
-    d: Draft,
-) -> Draft
+    d: &mut Draft,
+)
     requires bounds { Standing (text s.now) s.now.end rules × (from ≤ until) × (until ≤ rules.n) }
-    requires fact { Open d work.old × (d.rules.n ≤ from) × RulesFit (text s.now) s.now.end rules row from until d }
-    ensures { RulesAdded (text s.now) s.now.end rules row from until work.old work.new d result }
+    requires fact { Open d.old work.old × (d.old.rules.n ≤ from) × RulesFit (text s.now) s.now.end rules row from until d.old }
+    ensures { RulesAdded (text s.now) s.now.end rules row from until work.old work.new d.old d.new }
 {
     let n = rules.n as usize;
-    let pen = d.pen;
-    let mut made = d.rules;
-    let mut to = pen.to;
     for i in from..until {
         if !has(row, i) {
             let at = index(rules.places[i]);
             let long = rule_end(&rules.places, n, i, s.end) - at;
-            copy_words(s.bytes, at, work, to, long);
-            let k = made.n as usize;
-            made.ids[k] = rules.ids[i];
-            made.names[k] = rules.names[i];
-            made.places[k] = (to - Draft::FIRST) as u32;
-            made.n += 1;
-            to += long;
+            copy_words(s.bytes, at, work, d.pen.to, long);
+            d.add_row(rules.ids[i], rules.names[i], long);
         }
-    }
-    Draft {
-        rules: made,
-        pen: Pen { to, ..pen },
     }
 }

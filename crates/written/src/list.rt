@@ -13,7 +13,7 @@ ghost use Rattle.written.specs.Planned.{HeadDrawn, AlternativeFits, AlternativeD
 ghost use Rattle.words.specs.Sheet.{text};
 
 use crate::items::write_items;
-use copies::pen::{Pen, Reason, fresh};
+use copies::pen::{Drawing, Reason, fresh};
 use heads::head::write_head;
 use heads::read::read_here;
 use planned::list::{Listed, Mark, Sizes};
@@ -31,84 +31,102 @@ fn id_at(s: &Sheet, at: usize) -> u32
 }
 
 // The head of an alternative, with an id.
-fn begin(s: &Sheet, depth: u32, work: &mut [u8], x: Listed, id: u32, pen: Pen) -> Pen
-    requires bounds { (compose_at ≤ pen.to) × (4 * (pen.to + 5 + 2 * x.no) ≤ length work.old) }
-    requires readable { Readable (text s.now) s.now.end depth work.old x }
-    ensures { HeadDrawn (text s.now) s.now.end depth work.old x id work.new pen result }
+fn begin(d: &mut Drawing<'_>, s: &Sheet, depth: u32, x: Listed, id: u32)
+    requires bounds { (compose_at ≤ d.old.pen.to) × (4 * (d.old.pen.to + 5 + 2 * x.no) ≤ length d.old.out.now) }
+    requires readable { Readable (text s.now) s.now.end depth d.old.out.now x }
+    ensures same_out { d.old.out.ghost_name ≡ d.new.out.ghost_name }
+    ensures same_trail { d.old.trail.ghost_name ≡ d.new.trail.ghost_name }
+    ensures same_entries { d.old.trail.now ≡ d.new.trail.now }
+    ensures drawn { HeadDrawn (text s.now) s.now.end depth d.old.out.now x id d.new.out.now d.old.pen d.new.pen }
 {
-    write_head(s, depth, work, x, id, pen.to);
-    Pen {
-        to: pen.to + 5 + 2 * x.no,
-        ..pen
-    }
+    write_head(s, depth, d.out, x, id, d.pen.to);
+    d.pen.to += 5 + 2 * x.no;
 }
 
 // An alternative that always filled its slot: it keeps its id, and nothing is recorded (SPECIFICATION 11.2).
-fn write_same(s: &Sheet, depth: u32, work: &mut [u8], x: Listed, trail: &mut [u8], pen: Pen) -> Pen
-    requires bounds { (compose_at ≤ pen.to) × (is_marked x.slot ≡ true) }
-    requires readable { Readable (text s.now) s.now.end depth work.old x
-        × AlternativeFits (text s.now) s.now.end depth work.old x trail.old pen }
-    ensures { AlternativeDrawn (text s.now) s.now.end depth work.old x work.new
-        trail.old trail.new pen result }
+fn write_same(d: &mut Drawing<'_>, s: &Sheet, depth: u32, x: Listed)
+    requires bounds { (compose_at ≤ d.old.pen.to) × (is_marked x.slot ≡ true) }
+    requires readable { Readable (text s.now) s.now.end depth d.old.out.now x
+        × AlternativeFits (text s.now) s.now.end depth d.old.out.now x d.old.trail.now d.old.pen }
+    ensures same_out { d.old.out.ghost_name ≡ d.new.out.ghost_name }
+    ensures same_trail { d.old.trail.ghost_name ≡ d.new.trail.ghost_name }
+    ensures drawn { AlternativeDrawn (text s.now) s.now.end depth d.old.out.now x d.new.out.now
+        d.old.trail.now d.new.trail.now d.old.pen d.new.pen }
 {
     let id = id_at(s, x.origin as usize);
-    let inside = begin(s, depth, work, x, id, pen);
-    write_items(s, depth, work, x, false, trail, inside)
+    begin(d, s, depth, x, id);
+    write_items(d, s, depth, x, false);
 }
 
 // A new alternative: a fresh id, and fresh ids for all that is in it (SPECIFICATION 11.3).
-fn write_new(s: &Sheet, depth: u32, work: &mut [u8], x: Listed, trail: &mut [u8], pen: Pen) -> Pen
-    requires bounds { (compose_at ≤ pen.to) × (is_marked x.slot ≡ false) }
-    requires readable { Readable (text s.now) s.now.end depth work.old x
-        × AlternativeFits (text s.now) s.now.end depth work.old x trail.old pen }
-    ensures { AlternativeDrawn (text s.now) s.now.end depth work.old x work.new
-        trail.old trail.new pen result }
+fn write_new(d: &mut Drawing<'_>, s: &Sheet, depth: u32, x: Listed)
+    requires bounds { (compose_at ≤ d.old.pen.to) × (is_marked x.slot ≡ false) }
+    requires readable { Readable (text s.now) s.now.end depth d.old.out.now x
+        × AlternativeFits (text s.now) s.now.end depth d.old.out.now x d.old.trail.now d.old.pen }
+    ensures same_out { d.old.out.ghost_name ≡ d.new.out.ghost_name }
+    ensures same_trail { d.old.trail.ghost_name ≡ d.new.trail.ghost_name }
+    ensures drawn { AlternativeDrawn (text s.now) s.now.end depth d.old.out.now x d.new.out.now
+        d.old.trail.now d.new.trail.now d.old.pen d.new.pen }
 {
     let owner = id_at(s, x.origin as usize);
-    let given = fresh(trail, pen, Sort::Alternative, Reason::RuleBoundary, owner);
-    let inside = begin(s, depth, work, x, given.id, given.pen);
-    write_items(s, depth, work, x, true, trail, inside)
+    let given = fresh(
+        d.trail,
+        d.pen,
+        Sort::Alternative,
+        Reason::RuleBoundary,
+        owner,
+    );
+    d.pen = given.pen;
+    begin(d, s, depth, x, given.id);
+    write_items(d, s, depth, x, true);
 }
 
-fn write_one(s: &Sheet, depth: u32, work: &mut [u8], x: Listed, trail: &mut [u8], pen: Pen) -> Pen
-    requires bounds { compose_at ≤ pen.to }
-    requires readable { Readable (text s.now) s.now.end depth work.old x
-        × AlternativeFits (text s.now) s.now.end depth work.old x trail.old pen }
-    ensures { AlternativeDrawn (text s.now) s.now.end depth work.old x work.new
-        trail.old trail.new pen result }
+fn write_one(d: &mut Drawing<'_>, s: &Sheet, depth: u32, x: Listed)
+    requires bounds { compose_at ≤ d.old.pen.to }
+    requires readable { Readable (text s.now) s.now.end depth d.old.out.now x
+        × AlternativeFits (text s.now) s.now.end depth d.old.out.now x d.old.trail.now d.old.pen }
+    ensures same_out { d.old.out.ghost_name ≡ d.new.out.ghost_name }
+    ensures same_trail { d.old.trail.ghost_name ≡ d.new.trail.ghost_name }
+    ensures drawn { AlternativeDrawn (text s.now) s.now.end depth d.old.out.now x d.new.out.now
+        d.old.trail.now d.new.trail.now d.old.pen d.new.pen }
 {
     if x.slot < Mark::BIT {
-        return write_new(s, depth, work, x, trail, pen);
+        write_new(d, s, depth, x);
+        return;
     }
-    write_same(s, depth, work, x, trail, pen)
+    write_same(d, s, depth, x);
 }
 
-fn write_list(s: &Sheet, depth: u32, work: &mut [u8], l: Sizes, trail: &mut [u8], pen: Pen) -> Pen
-    requires bounds { compose_at ≤ pen.to }
-    requires laid { Laid work.old l × AllIn (text s.now) s.now.end depth work.old l }
-    requires list_fits { ListFits (text s.now) s.now.end depth work.old l trail.old pen }
-    ensures { ListDrawn (text s.now) s.now.end depth work.old l work.new
-        trail.old trail.new pen result }
+fn write_list(d: &mut Drawing<'_>, s: &Sheet, depth: u32, l: Sizes)
+    requires bounds { compose_at ≤ d.old.pen.to }
+    requires laid { Laid d.old.out.now l × AllIn (text s.now) s.now.end depth d.old.out.now l }
+    requires list_fits { ListFits (text s.now) s.now.end depth d.old.out.now l d.old.trail.now d.old.pen }
+    ensures same_out { d.old.out.ghost_name ≡ d.new.out.ghost_name }
+    ensures same_trail { d.old.trail.ghost_name ≡ d.new.trail.ghost_name }
+    ensures drawn { ListDrawn (text s.now) s.now.end depth d.old.out.now l d.new.out.now
+        d.old.trail.now d.new.trail.now d.old.pen d.new.pen }
 {
     let mut c = Cursor::front();
-    let mut w = pen;
     for _ in 0..l.outa {
-        let r = read_here(work, l, c);
-        w = write_one(s, depth, work, r.x, trail, w);
+        let out = &mut *d.out;
+        let r = read_here(out, l, c);
+        write_one(d, s, depth, r.x);
         c = r.next;
     }
-    w
 }
 
 // The hub's new alternatives, drawn behind the list in the work area.
-pub fn write_planned(s: &Sheet, work: &mut [u8], l: Sizes, trail: &mut [u8], pen: Pen) -> Pen
-    requires bounds { compose_at ≤ pen.to }
-    requires laid { Laid work.old l × AllIn (text s.now) s.now.end inner_depth work.old l }
+pub fn write_planned(d: &mut Drawing<'_>, s: &Sheet, l: Sizes)
+    requires bounds { compose_at ≤ d.old.pen.to }
+    requires laid { Laid d.old.out.now l × AllIn (text s.now) s.now.end inner_depth d.old.out.now l }
     requires fits { Fits (each (encode_alternative (encode_block inner_depth)))
-        (drawn_list (text s.now) s.now.end inner_depth work.old l (counters_of pen.counters)) work.old trail.old pen }
-    ensures { Drew (each (encode_alternative (encode_block inner_depth)))
-        (drawn_list (text s.now) s.now.end inner_depth work.old l (counters_of pen.counters))
-        work.old work.new trail.old trail.new pen result }
+        (drawn_list (text s.now) s.now.end inner_depth d.old.out.now l (counters_of d.old.pen.counters))
+        d.old.out.now d.old.trail.now d.old.pen }
+    ensures same_out { d.old.out.ghost_name ≡ d.new.out.ghost_name }
+    ensures same_trail { d.old.trail.ghost_name ≡ d.new.trail.ghost_name }
+    ensures drawn { Drew (each (encode_alternative (encode_block inner_depth)))
+        (drawn_list (text s.now) s.now.end inner_depth d.old.out.now l (counters_of d.old.pen.counters))
+        d.old.out.now d.new.out.now d.old.trail.now d.new.trail.now d.old.pen d.new.pen }
 {
-    write_list(s, Block::DEPTH, work, l, trail, pen)
+    write_list(d, s, Block::DEPTH, l);
 }

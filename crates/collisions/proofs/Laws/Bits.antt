@@ -7,7 +7,9 @@ use native.Mathlib.Omega.{arith}
 use lib.Dec.{eqb}
 use borrow.Author.Tests.{eqb-false, eq-eqb, ne_eqb}
 use Rattle.grammar.specs.Numbers.{most_words}
-use Rattle.collisions.specs.Names.{labels_bit, references_bit, IsSet, has_bit}
+use Rattle.collisions.specs.Names.{labels_bit, references_bit, set_bit, IsSet, has_bit}
+use Rattle.collisions.specs.declared.names.Set.{Set}
+use Rattle.collisions.specs.declared.names.Set.TheVariants.{Labels, References}
 use Rattle.collisions.specs.Order.{Joined}
 
 pub labels_set : IsSet labels_bit
@@ -23,12 +25,18 @@ some : {w : ℕ} → Either w → 0 < w
 some (inl e) = omega arith
 some (inr e) = omega arith
 
-pub set_some : {w : ℕ} → IsSet w → 0 < w
-set_some s = some s.is
+pub set_is : (s : Set) → IsSet (set_bit s)
+set_is Labels = labels_set
+set_is References = references_set
 
-pub bit_is : {w : ℕ} → IsSet w → (h : ℕ) → eqb (h / w % 2) 1 ≡ has_bit w h
-unfolding has_bit
-bit_is s h = refl
+-- The bit of a set, which was asked for.
+module _ (s : Set) {w : ℕ} (e : w ≡ set_bit s) where
+  pub set_some : 0 < w
+  set_some = rw e (some (set_is s).is)
+
+  pub bit_is : (h : ℕ) → eqb (h / w % 2) 1 ≡ has_bit (set_bit s) h
+  unfolding has_bit
+  bit_is h = rw e refl
 
 -- A bit more.
 module _ (h : ℕ) where
@@ -62,22 +70,24 @@ module _ (h : ℕ) where
   more_fits (inl e) f l = let z = eqb-false (h / labels_bit % 2) 1 (rw e at f) in omega arith
   more_fits (inr e) f l = let z = eqb-false (h / references_bit % 2) 1 (rw e at f) in omega arith
 
-pub joined_already : {h w : ℕ} → IsSet w → {b : Bool} → b ≡ has_bit w h → b ≡ true → Joined h w h
-joined_already s e t = record { place = refl; here = cc; other = λ v u d. refl }
+pub joined_already : (h : ℕ) (s : Set) {b : Bool} → b ≡ has_bit (set_bit s) h → b ≡ true → Joined h (set_bit s) h
+joined_already h s e t = record { place = refl; here = cc; other = λ v u d. refl }
 
-pub joined_now : {h w : ℕ} → IsSet w → {b : Bool} → b ≡ has_bit w h → b ≡ false → Joined h w (h + w)
-joined_now {h} {w} s {b} e t =
-    let f : has_bit w h ≡ false = cc in
-    record {
-      place = more_place h s.is;
-      here = more_here h s.is f;
-      other = λ v u d. more_other h s.is u.is f d;
-    }
+module _ (h : ℕ) (s : Set) {b : Bool} (e : b ≡ has_bit (set_bit s) h) (t : b ≡ false) {w : ℕ} (is : w ≡ set_bit s) where
+  not_yet : has_bit (set_bit s) h ≡ false
+  not_yet = cc
 
-pub joined_fits : {h w : ℕ} → IsSet w → {b : Bool} → b ≡ has_bit w h → b ≡ false → h < 65536 → h + w < 65536
-joined_fits {h} {w} s {b} e t l = more_fits h s.is (let f : has_bit w h ≡ false = cc in f) l
+  pub joined_now : Joined h (set_bit s) (h + w)
+  joined_now =
+      rw is
+      record {
+        place = more_place h (set_is s).is;
+        here = more_here h (set_is s).is not_yet;
+        other = λ v u d. more_other h (set_is s).is u.is not_yet d;
+      }
 
-pub ruleset bits = (labels_set, references_set, set_some, bit_is, joined_already, joined_now, joined_fits)
+  pub joined_fits : h < 65536 → h + w < 65536
+  joined_fits l = rw is (more_fits h (set_is s).is not_yet l)
 
 -- The half of a new entry.
 module _ {at : ℕ} (low : at < most_words) where

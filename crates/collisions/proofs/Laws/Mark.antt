@@ -1,5 +1,5 @@
 -- Labels and references marked: one name, one element, one reference, and the list that stays as it was.
-use Prim.Native.Nat.{ℕ, ◌+◌, ◌<◌, ◌≤◌}
+use Prim.Native.Nat.{ℕ, zero, suc, ◌+◌, ◌<◌, ◌≤◌}
 use mathlib.Core.Path.{◌≡◌, refl, sym, ap, ap₂, ◌∙◌}
 use mathlib.Core.Logic.{◌⊎◌, inl, inr}
 use mathlib.Core.List.{List, [], ◌∷◌, map}
@@ -19,6 +19,9 @@ use Rattle.grammar.specs.Fold.{folded}
 use Rattle.grammar.specs.Laws.Parse.{left_true}
 use Rattle.grammar.specs.Laws.Stands.{stands_head, stands_length}
 use Rattle.grammar.specs.Laws.Fold.{Folding, folding_done, folding_found}
+use Rattle.words.specs.Kinds.{reference_number}
+use Rattle.words.specs.declared.numbers.ReferenceKind.{ReferenceKind}
+use Rattle.words.specs.declared.numbers.ReferenceKind.TheVariants.{Attribute, Qualified, NonLocal}
 use Rattle.words.specs.Visit.{LeafPassed, BlockEntered}
 use Rattle.reference.specs.Walks.{references}
 use Rattle.collisions.specs.Names.{labels_bit, references_bit, has_name, Ordered, Kept, kept_refl, kept_trans, NamePut}
@@ -62,6 +65,19 @@ module _ {ws : List ℕ} {end at w : ℕ} (e : w ≡ get_or ws (at + 4) 0) where
           (λ n. p.here n ∙ ap (λ x. has_name ws bs labels_bit n || x) (ap (eqb n) f ∙ sym (or-false (eqb n m))))
           (p.other references_bit references_set (λ z. omega arith)) refl
 
+-- A reference's kind, by the number that stands there.
+pub kind_binds : {t : ReferenceKind} {k : ℕ} → (t ≡ Attribute) ⊎ (t ≡ Qualified) → reference_number t ≡ k → k ≤ qualified
+kind_binds (inl e) f = let n = ap reference_number e in omega arith
+kind_binds (inr e) f = let n = ap reference_number e in omega arith
+
+pub kind_apart : {t : ReferenceKind} {k : ℕ} → t ≡ NonLocal → reference_number t ≡ k → qualified < k
+kind_apart e f = let n = ap reference_number e in omega arith
+
+pub kind_unnamed : {k : ℕ} → ((t : ReferenceKind) → reference_number t ≡ k → ⊥) → qualified < k
+kind_unnamed {k = zero} h = absurd (h Attribute refl)
+kind_unnamed {k = suc zero} h = absurd (h Qualified refl)
+kind_unnamed {k = suc (suc k)} h = omega arith
+
 -- A reference.
 module _ {ws : List ℕ} {end at : ℕ} where
   pub reference_room : FoundReference ws end at → at + 2 ≤ end
@@ -77,10 +93,10 @@ module _ {ws : List ℕ} {end at : ℕ} where
           within = room;
         }
 
-    pub reference_apart : (bs : List ℕ) {m : ℕ} → m ≡ qualified → m < k
+    pub reference_apart : (bs : List ℕ) → qualified < k
         → ReferenceMarked name ws end at (marks_of ws bs dangling) (at + 2) (marks_of ws bs (dangling || eqb name w))
     unfolding marks_of mark_reference
-    reference_apart bs em l =
+    reference_apart bs l =
         reference λ t a b.
         same_marks (λ n. refl)
         (λ n.
@@ -89,10 +105,10 @@ module _ {ws : List ℕ} {end at : ℕ} where
         ∙ or-false (has_name ws bs references_bit n)))
         (ap (λ x. dangling || eqb name x) b)
 
-    pub reference_binds : {bs cs : List ℕ} {m : ℕ} → m ≡ qualified → k ≤ m → NamePut ws end bs cs references_bit (get_or ws (at + 1) 0)
+    pub reference_binds : {bs cs : List ℕ} → k ≤ qualified → NamePut ws end bs cs references_bit (get_or ws (at + 1) 0)
         → ReferenceMarked name ws end at (marks_of ws bs dangling) (at + 2) (marks_of ws cs (dangling || eqb name w))
     unfolding marks_of mark_reference
-    reference_binds {bs} {cs} em l p =
+    reference_binds {bs} {cs} l p =
         reference λ t a b.
         same_marks (p.other labels_bit labels_set (λ z. omega arith))
         (λ n.
@@ -183,8 +199,8 @@ module _ {ws : List ℕ} {end at p : ℕ} {bs cs : List ℕ} (name : ℕ) (b : L
 
 pub ruleset marks = (mark_leaf_lem, mark_block)
 
-pub ruleset labels = (label_unmarked, label_marked, labels_set)
+pub ruleset labels = (label_unmarked, label_marked)
 
-pub ruleset reference_laws = (reference_room, reference_apart, reference_binds, put_kept, kept_refl, references_set)
+pub ruleset reference_laws = (reference_room, reference_apart, reference_binds, put_kept, kept_refl)
 
 pub ruleset leaf_laws = (leaf_unmarked, refers_found, refers_room, leaf_marked, kept_refl)

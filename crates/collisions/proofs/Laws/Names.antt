@@ -8,14 +8,15 @@ use lib.ListN.{length, get_or}
 use Rattle.grammar.specs.Numbers.{work_bytes}
 use Rattle.planned.specs.Layout.{hand_end}
 use Rattle.planned.specs.Halves.{HalfPut}
-use Rattle.collisions.specs.Names.{IsSet, entries_at, entries_end, low_in, count_in, entry, has_among, has_name, Ordered, NamePut, Cleared}
+use Rattle.collisions.specs.Names.{set_bit, entries_at, entries_end, low_in, count_in, entry, has_among, has_name, Ordered, NamePut, Cleared}
 use Rattle.collisions.specs.Order.{IsAt, Joined, Insertable, Inserted, InSet}
-use Rattle.collisions.proofs.Laws.Bits.{new_fits}
+use Rattle.collisions.specs.declared.names.Set.{Set}
+use Rattle.collisions.proofs.Laws.Bits.{set_is, new_fits}
 use Rattle.collisions.proofs.Laws.Entry.{insertable, name_inserted}
 use Rattle.collisions.proofs.Laws.Join.{name_joined}
 
-pub put_fits : {ws : List ℕ} {end : ℕ} {bs : List ℕ} → Ordered ws end bs → {at w : ℕ} → at < end → IsSet w → at + w < 65536
-put_fits o l s = new_fits (let z = o.low in omega arith) s
+pub put_fits : {ws : List ℕ} {end : ℕ} {bs : List ℕ} → Ordered ws end bs → {at v : ℕ} (s : Set) → v ≡ set_bit s → at < end → at + v < 65536
+put_fits o s is l = rw is (new_fits (let z = o.low in omega arith) (set_is s))
 
 -- The name was read.
 module _ {ws : List ℕ} {end : ℕ} {bs : List ℕ} (o : Ordered ws end bs) (at : ℕ) {n k : ℕ} (e : n ≡ get_or ws at 0) {b : Bool} (a : IsAt ws bs n k b) where
@@ -23,11 +24,11 @@ module _ {ws : List ℕ} {end : ℕ} {bs : List ℕ} (o : Ordered ws end bs) (at
     pub put_insertable : Insertable bs k
     put_insertable = insertable o (rw e at a) f some inside a.within
 
-    pub put_inserted : {w : ℕ} → IsSet w → {cs : List ℕ} → Inserted bs cs k (at + w) → NamePut ws end bs cs w (get_or ws at 0)
-    put_inserted s g = name_inserted o (rw e at a) f some inside s a.within g
+    pub put_inserted : {v : ℕ} (s : Set) → v ≡ set_bit s → {cs : List ℕ} → Inserted bs cs k (at + v) → NamePut ws end bs cs (set_bit s) (get_or ws at 0)
+    put_inserted s is g = name_inserted o (rw e at a) f some inside (set_is s) a.within (rw is at g)
 
-  pub put_joined : b ≡ true → {w : ℕ} → IsSet w → {cs : List ℕ} → InSet bs cs k w → NamePut ws end bs cs w (get_or ws at 0)
-  put_joined t s j = rw e at (name_joined o a t s refl j.joined refl j.put)
+  pub put_joined : b ≡ true → (s : Set) → {cs : List ℕ} → InSet bs cs k (set_bit s) → NamePut ws end bs cs (set_bit s) (get_or ws at 0)
+  put_joined t s j = rw e at (name_joined o a t (set_is s) refl j.joined refl j.put)
 
 pub in_set : (bs : List ℕ) {cs : List ℕ} (k : ℕ) {w h r low : ℕ} → h ≡ entry bs k → Joined h w r → low ≡ low_in bs → HalfPut bs cs (low + k) r → InSet bs cs k w
 in_set bs {cs} k {w} {r = r} e j l p =

@@ -96,6 +96,12 @@ module _ (ws : List ℕ) (end : ℕ) (rules : Rules) (p : Plan) (work trail : Li
           few = let c = r.rows.count in omega arith;
         }
 
+-- In the buffers as they come back from what draws.
+pub hub_left_in : {ws : List ℕ} {end : ℕ} {rules : Rules} {p : Plan} {work trail work' trail' left left_trail : List ℕ} {a b : Draft}
+    → left ≡ work' → left_trail ≡ trail' → NewHubAdded ws end rules p work trail a work' trail' b
+    → NewHubAdded ws end rules p work trail a left left_trail b
+hub_left_in e f h = rw (e, f) h
+
 pub hub_room : {ws : List ℕ} {end : ℕ} {rules : Rules} {p : Plan} {work trail work' trail' : List ℕ} {a : Draft} {at : ℕ} {q : Pen}
     → NewHubFits ws end rules p work trail a → Standing ws end rules → p.hub < rules.n
     → HubDrawn ws end work p.l a.pen at work' trail trail' q → at ≡ get_or rules.places p.hub 0

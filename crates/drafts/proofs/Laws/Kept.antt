@@ -19,7 +19,6 @@ use Rattle.reach.specs.Rows.{bit}
 use Rattle.analysis.specs.Facts.{Standing, Among}
 use Rattle.analysis.proofs.Laws.Standing.{rule_of, id_at, name_at}
 use Rattle.writing.specs.Wrote.{Wrote}
-use Rattle.writing.specs.declared.counters.Counters.{Counters}
 use Rattle.drafts.specs.declared.draft.Draft.{Draft}
 use Rattle.drafts.specs.Draft.{compose_end, Open, Added, RowAdded}
 use Rattle.drafts.specs.Kept.{kept_of, RuleEnds, RulesFit, RulesAdded}
@@ -40,16 +39,10 @@ module _ (ws : List ℕ) (end : ℕ) (rules : Rules) (i : ℕ) (gone : Bool) whe
     pub is : (s : Standing ws end rules) (x : Among s.rows.found.trees i) → Added (push (not gone) x.rule []) before after a b
     pub few : b.rules.n ≤ a.rules.n + 1
 
--- A draft by its parts.
-abbrev pub drawn : ℕ → Counters → Rules → ℕ → Draft
-drawn trail counters made to = record { rules = made; pen = record { to = to; trail = trail; counters = counters } }
-
-pub rule_gone : {ws : List ℕ} {end : ℕ} {rules : Rules} {i : ℕ} {gone : Bool} {trail : ℕ} {counters : Counters} → gone ≡ true
-    → {work work' : List ℕ} {made made' : Rules} {to to' : ℕ} → work' ≡ work → made' ≡ made → to' ≡ to
-    → RuleAdded ws end rules i gone work work' (drawn trail counters made to) (drawn trail counters made' to')
-rule_gone {trail = trail} {counters = counters} e {work} {made = made} {to = to} f g h =
-    let a = drawn trail counters made to in
-    rw (f, g, h)
+pub rule_gone : {ws : List ℕ} {end : ℕ} {rules : Rules} {i : ℕ} {gone : Bool} → gone ≡ true → {work work' : List ℕ} {a b : Draft}
+    → work' ≡ work → b ≡ a → RuleAdded ws end rules i gone work work' a b
+rule_gone e {work} {a = a} f g =
+    rw (f, g)
     record {
       is = λ s x. subst (λ g. Added (push (not g) x.rule []) work work a a) (sym e) (added_none work a);
       few = omega arith;

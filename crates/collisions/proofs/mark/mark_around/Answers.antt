@@ -1,7 +1,6 @@
 use Rattle.words.specs.Sheet.{text}
 use Rattle.std.proofs.Common.{rules}
 use Rattle.grammar.specs.Tree.{inner_depth}
-use Rattle.grammar.specs.Words.{words}
 use Rattle.collisions.proofs.Laws.Around.{clear_ordered, clear_listed, around_done, around_left}
 use Rattle.collisions.proofs.Laws.Mark.{same}
 use Rattle.collisions.proofs.mark.mark_around.Goals as goal

@@ -1,6 +1,5 @@
 use Rattle.words.specs.Sheet.{text}
 use Prim.Native.Nat.{◌-◌}
-use Rattle.grammar.specs.Words.{words}
 use Rattle.collisions.proofs.Laws.Find.{Halving}
 use Rattle.collisions.proofs.names.find.Given as goal
 

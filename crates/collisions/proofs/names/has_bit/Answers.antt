@@ -1,7 +1,8 @@
-use Rattle.std.proofs.Common.{rules}
 use Rattle.collisions.proofs.names.has_bit.Goals as goal
-use Rattle.collisions.proofs.Laws.Bits.{bits}
+use Rattle.collisions.proofs.Laws.Bits.{set_some, bit_is}
 
--- src/names.rt:51:1
+pub nonzero_div-result : goal.nonzero_div-result
+nonzero_div-result c = set_some c.args.set c.from.ensures
+
 pub returns : goal.returns
-returns c = search (rules, bits)
+returns c = bit_is c.args.set c.from.ensures c.args.h

@@ -1,9 +1,11 @@
-use Rattle.std.proofs.Common.{rules}
 use Rattle.collisions.proofs.names.joined.Goals as goal
-use Rattle.collisions.proofs.Laws.Bits.{bits}
+use Rattle.collisions.proofs.Laws.Bits.{joined_already, joined_now, joined_fits}
+
+pub returns-then-has_bit : goal.returns-then-has_bit
+returns-then-has_bit c = joined_already c.args.h c.args.set c.has_bit.ensures c.if-has_bit.true
 
 pub overflow_add-result : goal.overflow_add-result
-overflow_add-result c = search (rules, bits)
+overflow_add-result c = record { fits = joined_fits c.args.h c.args.set c.has_bit.ensures c.if-has_bit.false c.from.ensures c.ranges.h.fits }
 
 pub returns-else-has_bit : goal.returns-else-has_bit
-returns-else-has_bit c = search (rules, bits)
+returns-else-has_bit c = joined_now c.args.h c.args.set c.has_bit.ensures c.if-has_bit.false c.from.ensures

@@ -1,13 +1,16 @@
 use Rattle.std.proofs.Common.{refl}
 use Rattle.collisions.proofs.names.put.Goals as goal
-use Rattle.collisions.proofs.Laws.Names.{put_insertable, put_inserted, put_joined}
+use Rattle.collisions.proofs.Laws.Names.{put_fits, put_insertable, put_inserted, put_joined}
+
+pub overflow_add-at : goal.overflow_add-at
+overflow_add-at c = record { fits = put_fits c.requires.0 c.args.set c.from.ensures c.requires.2 }
 
 pub insert-requires : goal.insert-requires
-insert-requires c = put_insertable c.requires.0 c.args.at c.word.ensures c.in-Err.ensures refl c.requires.2 c.requires.3
+insert-requires c = put_insertable c.requires.0 c.args.at c.word.ensures c.in-Err.ensures refl c.requires.1 c.requires.2
 
 pub returns-in-Ok : goal.returns-in-Ok
-returns-in-Ok c = put_joined c.requires.0 c.args.at c.word.ensures c.in-Ok.ensures refl c.requires.1 c.join.ensures
+returns-in-Ok c = put_joined c.requires.0 c.args.at c.word.ensures c.in-Ok.ensures refl c.args.set c.join.ensures
 
 pub returns-in-Err : goal.returns-in-Err
 returns-in-Err c =
-    put_inserted c.requires.0 c.args.at c.word.ensures c.in-Err.ensures refl c.requires.2 c.requires.3 c.requires.1 c.insert.ensures
+    put_inserted c.requires.0 c.args.at c.word.ensures c.in-Err.ensures refl c.requires.1 c.requires.2 c.args.set c.from.ensures c.insert.ensures

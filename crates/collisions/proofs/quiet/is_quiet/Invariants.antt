@@ -1,7 +1,6 @@
 use Rattle.words.specs.Sheet.{text}
 use mathlib.Core.Bool.{false}
 use Rattle.grammar.specs.Tree.{inner_depth}
-use Rattle.grammar.specs.Words.{words}
 use Rattle.planned.specs.Layout.{meaning}
 use Rattle.collisions.specs.Quiet.{listening}
 use Rattle.collisions.proofs.Laws.Items.{Itemizing}

@@ -3,5 +3,5 @@ use Rattle.compose.proofs.body.begin_rule.Goals as goal
 use Rattle.compose.proofs.Laws.Body.{rule_begun}
 
 -- src/body.rt:19:1
-pub returns : goal.returns
-returns c = search (rules, rule_begun)
+pub returns-clause-moved : goal.returns-clause-moved
+returns-clause-moved c = search (rules, rule_begun)

@@ -8,8 +8,11 @@ write_planned-requires-clause-laid c = search (rules, bodies)
 
 -- src/body.rt:64:5
 pub write_planned-requires-clause-fits : goal.write_planned-requires-clause-fits
-write_planned-requires-clause-fits c = search (rules, bodies)
+write_planned-requires-clause-fits c =
+    let fits = rw c.begin_rule.ensures.same_entries at c.requires.hub_fits in search (rules, bodies)
 
 -- src/body.rt:48:1
-pub returns : goal.returns
-returns c = search (rules, bodies)
+pub returns-clause-drawn : goal.returns-clause-drawn
+returns-clause-drawn c =
+    let fits = rw c.begin_rule.ensures.same_entries at c.requires.hub_fits in
+    rw c.begin_rule.ensures.same_entries (search (rules, bodies))

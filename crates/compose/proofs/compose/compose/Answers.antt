@@ -3,9 +3,9 @@ use Rattle.compose.proofs.compose.compose.Goals as goal
 use Rattle.compose.proofs.Laws.Compose.{composings}
 
 -- src/compose.rt:41:9
-pub compose_rules-w-requires-clause-new_rules_fit :
-    goal.compose_rules-w-requires-clause-new_rules_fit
-compose_rules-w-requires-clause-new_rules_fit c = search (rules, composings)
+pub compose_rules-requires-clause-new_rules_fit :
+    goal.compose_rules-requires-clause-new_rules_fit
+compose_rules-requires-clause-new_rules_fit c = search (rules, composings)
 
 -- src/compose.rt:44:9
 pub write_end-last-requires-clause-bounds : goal.write_end-last-requires-clause-bounds

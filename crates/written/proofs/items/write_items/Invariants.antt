@@ -1,6 +1,10 @@
+use Rattle.std.specs.Prelude.{◌≡◌}
 use Rattle.words.specs.Sheet.{text}
 use Rattle.written.proofs.Laws.Items.{Drawing}
 use Rattle.written.proofs.items.write_items.Given as goal
 
 abbrev pub invariant-loop-i : goal.invariant-loop-i
-invariant-loop-i l = Drawing (text l.s) l.s.end l.depth l.x l.fresh l.initial.work l.initial.trail l.initial.w l.work l.trail l.i l.w
+invariant-loop-i l =
+    let v = l.initial.d in
+    (v.out.ghost_name ≡ l.d.out.ghost_name) × (v.trail.ghost_name ≡ l.d.trail.ghost_name)
+    × Drawing (text l.s) l.s.end l.depth l.x l.fresh v.out.now v.trail.now v.pen l.d.out.now l.d.trail.now l.i l.d.pen

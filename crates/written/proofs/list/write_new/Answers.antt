@@ -1,23 +1,20 @@
 use Rattle.std.proofs.Common.{rules}
 use Rattle.written.proofs.list.write_new.Goals as goal
-use Rattle.written.proofs.Laws.Planned.{new_readable, new_items, new_drawn, news}
+use Rattle.written.proofs.Laws.Planned.{news}
 
--- src/list.rt:85:9
 pub id_at-owner-requires : goal.id_at-owner-requires
-id_at-owner-requires c = search (rules, news, new_readable, new_items, new_drawn)
+id_at-owner-requires c = search (rules, news)
 
--- src/list.rt:86:9
 pub fresh-given-requires : goal.fresh-given-requires
-fresh-given-requires c = search (rules, news, new_readable, new_items, new_drawn)
+fresh-given-requires c = search (rules, news)
 
--- src/list.rt:88:9
-pub begin-inside-requires : goal.begin-inside-requires
-begin-inside-requires c = search (rules, news, new_readable, new_items, new_drawn)
+pub begin-requires-clause-bounds : goal.begin-requires-clause-bounds
+begin-requires-clause-bounds c = search (rules, news)
 
--- src/list.rt:89:5
 pub write_items-requires-clause-readable : goal.write_items-requires-clause-readable
-write_items-requires-clause-readable c = search (rules, news, new_readable, new_items, new_drawn)
+write_items-requires-clause-readable c =
+    let gave = rw c.begin.ensures.same_entries at c.fresh-given.ensures in search (rules, news)
 
--- src/list.rt:70:1
-pub returns : goal.returns
-returns c = search (rules, news, new_readable, new_items, new_drawn)
+pub returns-clause-drawn : goal.returns-clause-drawn
+returns-clause-drawn c =
+    let gave = rw c.begin.ensures.same_entries at c.fresh-given.ensures in search (rules, news)

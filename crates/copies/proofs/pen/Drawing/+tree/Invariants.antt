@@ -1,7 +1,8 @@
+use Rattle.std.specs.Prelude.{◌≡◌}
 use Rattle.words.specs.Sheet.{text}
 use Prim.Native.Nat.{◌+◌, ◌*◌}
 use Rattle.copies.proofs.Laws.Copying.{ElementsCopying, AlternativesCopying}
-use Rattle.copies.proofs.copy.+tree.Given as goal
+use Rattle.copies.proofs.pen.Drawing.+tree.Given as goal
 
 abbrev pub decreases-copy_alternative : goal.decreases-copy_alternative
 decreases-copy_alternative l = l.depth * 4 + 2
@@ -16,7 +17,13 @@ abbrev pub decreases-copy_elements : goal.decreases-copy_elements
 decreases-copy_elements l = l.depth * 4 + 1
 
 abbrev pub invariant-copy_alternatives-loop : goal.invariant-copy_alternatives-loop
-invariant-copy_alternatives-loop l = AlternativesCopying (text l.s) l.s.end l.depth l.n l.at l.initial.out l.initial.trail l.initial.w l.counter l.p l.out l.trail l.w
+invariant-copy_alternatives-loop l =
+    let v = l.initial.self in
+    (v.out.ghost_name ≡ l.self.out.ghost_name) × (v.trail.ghost_name ≡ l.self.trail.ghost_name)
+    × AlternativesCopying (text l.s) l.s.end l.depth l.n l.at v.out.now v.trail.now v.pen l.counter l.p l.self.out.now l.self.trail.now l.self.pen
 
 abbrev pub invariant-copy_elements-loop : goal.invariant-copy_elements-loop
-invariant-copy_elements-loop l = ElementsCopying (text l.s) l.s.end l.depth l.n l.at l.initial.out l.initial.trail l.initial.w l.counter l.p l.out l.trail l.w
+invariant-copy_elements-loop l =
+    let v = l.initial.self in
+    (v.out.ghost_name ≡ l.self.out.ghost_name) × (v.trail.ghost_name ≡ l.self.trail.ghost_name)
+    × ElementsCopying (text l.s) l.s.end l.depth l.n l.at v.out.now v.trail.now v.pen l.counter l.p l.self.out.now l.self.trail.now l.self.pen

@@ -1,5 +1,5 @@
 use Rattle.std.proofs.Common.{rules}
-use Rattle.collisions.proofs.mark.mark_label.Goals as goal
+use Rattle.collisions.proofs.mark.Marker.mark_label.Goals as goal
 use Rattle.collisions.proofs.Laws.Mark.{labels}
 
 -- src/mark.rt:37:9

@@ -1,0 +1,28 @@
+use Rattle.std.proofs.Common.{◌≡◌, ◌+◌, ◌-◌, rules, arith, ◌∙◌}
+use Rattle.collisions.specs.Names.{kept_trans}
+use Rattle.grammar.specs.Laws.Fold.{folding_found, folding_more}
+use Rattle.collisions.proofs.Laws.Mark.{next_room, references_done, same}
+use Rattle.collisions.proofs.mark.Marker.mark_references.Goals as goal
+
+pub mark_reference-requires-clause-bounds : goal.mark_reference-requires-clause-bounds
+mark_reference-requires-clause-bounds c =
+    let room = next_room c.args.self.now.name c.loop.invariant.4 (λ e. absurd (omega arith)) in search (rules, same)
+
+pub mark_reference-requires-clause-found_reference : goal.mark_reference-requires-clause-found_reference
+mark_reference-requires-clause-found_reference c = folding_found c.loop.invariant.4 (λ e. absurd (omega arith))
+
+pub loop-preserved : goal.loop-preserved
+loop-preserved c =
+    let less : c.args.n - c.loop.counter - 1 ≡ c.args.n - (c.loop.counter + 1) = omega arith in
+    let before = c.loop.invariant in
+    let after = c.mark_reference.ensures in
+    let marked = rw (← before.1) at after.marked.1 in (
+      before.0 ∙ after.same_buffer,
+      before.1 ∙ after.same_name,
+      kept_trans before.2 after.marked.0,
+      omega arith,
+      rw (← less) (folding_more before.4 (λ e. absurd (omega arith)) marked),
+    )
+
+pub returns-clause-marked : goal.returns-clause-marked
+returns-clause-marked c = (c.loop.invariant.2, references_done c.loop.invariant.4 (omega arith))

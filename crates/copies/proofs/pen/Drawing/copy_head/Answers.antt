@@ -1,0 +1,7 @@
+use Rattle.std.proofs.Common.{rules}
+use Rattle.copies.proofs.pen.Drawing.copy_head.Goals as goal
+use Rattle.copies.proofs.Laws.Heads.{headings}
+
+-- src/parts.rt:64:1
+pub returns-clause-copied : goal.returns-clause-copied
+returns-clause-copied c = search (rules, headings)
