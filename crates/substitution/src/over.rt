@@ -17,7 +17,7 @@ use planned::list::Listed;
 use splices::bring::hub_in_hand;
 use steps::corner::{Corner, Place, find_corner};
 use steps::decide::Clause;
-use steps::step::{Call, Step, decide};
+use steps::step::{Step, decide};
 use turns::task::Task;
 use turns::turn::{Unplanned, stuck};
 use words::numbers::Block;
@@ -42,15 +42,7 @@ fn look_step(
     if budget == 0 {
         return Unplanned::Declined(Clause::Budget);
     }
-    let i = p.target;
-    let name = task.names[i];
-    let at = index(task.places[i]);
-    let k = Call {
-        index: p.index,
-        name,
-        at,
-        step,
-    };
+    let k = task.call(p, step);
     match decide(task.s, work, h, k) {
         Ok(_) => Unplanned::Overfull,
         Err(clause) => Unplanned::Declined(clause),

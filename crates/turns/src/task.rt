@@ -1,5 +1,10 @@
 // What a substitution is made on, but for its limits.
-use steps::corner::Cycle;
+ghost use Rattle.std.specs.Prelude.{◌≡◌, ◌<◌, length};
+ghost use Rattle.turns.specs.Called.{call_of};
+
+use analysis::names::index;
+use steps::corner::{Cycle, Place};
+use steps::step::{Call, Step};
 use words::sheet::Sheet;
 
 // The sheet, the names and the places of its rules, and a cycle among them with its hub.
@@ -10,4 +15,20 @@ pub struct Task<'a> {
     pub names: &'a [u32],
     pub places: &'a [u32],
     pub c: Cycle,
+}
+
+impl Task<'_> {
+    // The call of the member that is met at a place.
+    pub fn call(&self, p: Place, step: Step) -> Call
+        requires { (p.target < length self.now.names.now) × (p.target < length self.now.places.now) }
+        ensures { result ≡ call_of self.now.names.now self.now.places.now p step }
+    {
+        let i = p.target;
+        Call {
+            index: p.index,
+            name: self.names[i],
+            at: index(self.places[i]),
+            step,
+        }
+    }
 }

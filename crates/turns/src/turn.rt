@@ -16,7 +16,6 @@ ghost use Rattle.words.specs.Sheet.{text};
 use crate::limits::Limits;
 use crate::state::{State, Taken, put_settled, take};
 use crate::task::Task;
-use analysis::names::index;
 use planned::hand::{into_hand, push_split};
 use planned::list::{Listed, Sizes};
 use splices::splice::{Size, push_splice};
@@ -174,15 +173,7 @@ fn step_at(
     ensures { SteppedTo (text task.now.s.now) task.now.s.now.end work.old work.new t.st t.x p.index
         (get_or task.now.places.now p.target 0) (splits by) limits result }
 {
-    let i = p.target;
-    let name = task.names[i];
-    let at = index(task.places[i]);
-    let k = Call {
-        index: p.index,
-        name,
-        at,
-        step: by,
-    };
+    let k = task.call(p, by);
     step(task.s, limits, work, t, k)
 }
 

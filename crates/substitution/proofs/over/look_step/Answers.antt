@@ -5,21 +5,21 @@ use Rattle.substitution.proofs.Laws.Over.{reaching, stepping}
 pub returns-then-budget-eq0 : goal.returns-then-budget-eq0
 returns-then-budget-eq0 c = search (rules, reaching, stepping)
 
-pub bounds-task-i : goal.bounds-task-i
-bounds-task-i c = search (rules, reaching, stepping)
+pub call-k-requires : goal.call-k-requires
+call-k-requires c = search (rules, reaching, stepping)
 
-pub bounds-task-i-2 : goal.bounds-task-i-2
-bounds-task-i-2 c = search (rules, reaching, stepping)
+pub decide-requires-clause-bounds : goal.decide-requires-clause-bounds
+decide-requires-clause-bounds c = rw c.call-k.ensures (search (rules, reaching, stepping))
 
 pub decide-requires-clause-found_rule : goal.decide-requires-clause-found_rule
-decide-requires-clause-found_rule c = search (rules, reaching, stepping)
+decide-requires-clause-found_rule c = rw c.call-k.ensures (search (rules, reaching, stepping))
 
 pub decide-requires-clause-rule_unreferring :
     goal.decide-requires-clause-rule_unreferring
-decide-requires-clause-rule_unreferring c = search (rules, reaching, stepping)
+decide-requires-clause-rule_unreferring c = rw c.call-k.ensures (search (rules, reaching, stepping))
 
 pub returns-in-Ok : goal.returns-in-Ok
-returns-in-Ok c = search (rules, reaching, stepping)
+returns-in-Ok c = let d = rw c.call-k.ensures at c.decide.ensures in search (rules, reaching, stepping)
 
 pub returns-in-Err : goal.returns-in-Err
-returns-in-Err c = search (rules, reaching, stepping)
+returns-in-Err c = let d = rw c.call-k.ensures at c.decide.ensures in search (rules, reaching, stepping)
