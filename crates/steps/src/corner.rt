@@ -45,8 +45,8 @@ pub struct Place {
     pub target: usize,
 }
 
-// What decides of a whole alternative.
-// Stays: each of the four cases has a meaning of its own there, and they are the definition's.
+// What decides about a whole alternative.
+// Stays: each of the four cases has a meaning of its own in SPECIFICATION 8.2 to 8.5, and they are those of the definition.
 #[derive(Clone, Copy, Debug, PartialEq, Eq)]
 pub enum Corner {
     Settled,

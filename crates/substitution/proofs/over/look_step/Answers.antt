@@ -8,9 +8,6 @@ returns-then-budget-eq0 c = search (rules, reaching, stepping)
 pub call-k-requires : goal.call-k-requires
 call-k-requires c = search (rules, reaching, stepping)
 
-pub decide-requires-clause-bounds : goal.decide-requires-clause-bounds
-decide-requires-clause-bounds c = rw c.call-k.ensures (search (rules, reaching, stepping))
-
 pub decide-requires-clause-found_rule : goal.decide-requires-clause-found_rule
 decide-requires-clause-found_rule c = rw c.call-k.ensures (search (rules, reaching, stepping))
 

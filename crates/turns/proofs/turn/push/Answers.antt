@@ -6,9 +6,6 @@ use Rattle.steps.proofs.Laws.Step.{is_split, is_splice}
 pub push_splice-requires-clause-spliceable : goal.push_splice-requires-clause-spliceable
 push_splice-requires-clause-spliceable c = search (rules, pushing, is_splice)
 
-pub push_split-requires-clause-has_room : goal.push_split-requires-clause-has_room
-push_split-requires-clause-has_room c = search (rules, pushing, is_split)
-
 pub returns-in-Split : goal.returns-in-Split
 returns-in-Split c = search (rules, pushing, is_split)
 
