@@ -7,7 +7,7 @@ use run::state::{Ended, Trail};
 use run::unit::run_unit;
 use sheet::Reading;
 use sheet::answer::examine;
-use turns::state::Limits;
+use turns::limits::Limits;
 use words::numbers::{Refusal, UnitKind};
 use words::sheet::Sheet;
 use writing::copy::copy_words;

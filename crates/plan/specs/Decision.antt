@@ -13,7 +13,7 @@ use Rattle.planned.specs.Layout.{settled}
 use Rattle.planned.specs.List.{Laid, AllIn}
 use Rattle.turns.specs.Midway.{limits_of}
 use Rattle.turns.specs.Turn.{UnplannedBy}
-use Rattle.turns.specs.declared.state.Limits.{Limits}
+use Rattle.turns.specs.declared.limits.Limits.{Limits}
 use Rattle.substitution.specs.declared.turning.Done.{Done}
 use Rattle.plan.specs.declared.plan.Plan.{Plan}
 use Rattle.turns.specs.declared.turn.Unplanned.{Unplanned}

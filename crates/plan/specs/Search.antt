@@ -1,5 +1,6 @@
 -- The search for the first cycle with a plan, against the definition (SPECIFICATION 5).
 use Rattle.std.specs.Prelude.{ℕ, ◌<◌, ◌≤◌, ◌≡◌, List, [], Bool, length, get_or, replicate}
+use Rattle.std.specs.Prelude.{Option, Some, None, Result, Ok, Err}
 use Rattle.grammar.specs.Numbers.{rule_limit}
 use Rattle.grammar.specs.Tree.{body_depth, inner_depth}
 use Rattle.reference.specs.Analysis.{left_corner_cycles}
@@ -15,21 +16,21 @@ use Rattle.analysis.specs.declared.rounds.Marks.{Marks}
 use Rattle.hub.specs.Grounds.{Known, rules_of, grammar_at, IsCycle}
 use Rattle.turns.specs.Midway.{limits_of}
 use Rattle.steps.specs.Decide.{DeclinedByNumber}
-use Rattle.turns.specs.declared.state.Limits.{Limits}
+use Rattle.turns.specs.declared.limits.Limits.{Limits}
 use Rattle.plan.specs.declared.search.FoundPlan.{FoundPlan}
-use Rattle.plan.specs.declared.search.Search.{Search}
-use Rattle.plan.specs.declared.search.Search.TheVariants.{NoPlan, Planned, TooLarge}
+use Rattle.words.specs.declared.numbers.Refusal.{Refusal}
+use Rattle.words.specs.declared.numbers.Refusal.TheVariants.{PlanTooLarge}
 use Rattle.plan.specs.declared.search.Found.{Found}
 use Rattle.plan.specs.Decision.{PlanAs}
 
 -- Nothing is found, and nothing was tried.
 pub record IsNone (r : Found) : Type 0 where
-  pub answer : r.answer ≡ NoPlan
+  pub answer : r.answer ≡ Ok None
   pub declined : r.declined ≡ 0
   pub clauses : r.clauses ≡ replicate rule_limit 0
 
 -- The search ends with an answer.
-pub record Ended (answer : Search) (declined : ℕ) (clauses : List ℕ) (r : Found) : Type 0 where
+pub record Ended (answer : Result (Option FoundPlan) Refusal) (declined : ℕ) (clauses : List ℕ) (r : Found) : Type 0 where
   pub is : r.answer ≡ answer
   pub count : r.declined ≡ declined
   pub list : r.clauses ≡ clauses
@@ -68,11 +69,12 @@ module _ {ws : List ℕ} {end : ℕ} {rules : Rules} {past : Bool} {calls corner
       pub all : place ≡ length cycles_of
       pub is : whole_search ≡ no_plan
 
-    -- The cycle at a place passes a limit.
-    pub record FullAt (place : ℕ) : Type 0 where
+    -- The cycle at a place passes a limit, which is refusal 7.
+    pub record FullAt (place : ℕ) (e : Refusal) : Type 0 where
       pub low : place < length cycles_of
       pub over : decision_on (get_or cycles_of place []) ≡ overfull
       pub is : whole_search ≡ too_large
+      pub refusal : e ≡ PlanTooLarge
 
     module _ (bs : List ℕ) where
       -- The cycle at a place, with its plan.
@@ -83,10 +85,10 @@ module _ {ws : List ℕ} {end : ℕ} {rules : Rules} {past : Bool} {calls corner
         pub is_cycle : IsCycle ws end rules x.known.standing (get_or cycles_of place []) p.members
         pub same : PlanAs ws end rules.ids rules.n bs plan p.plan
 
-      abbrev pub AnswerIs : ℕ → Search → Type 0
-      AnswerIs place NoPlan = NothingLeft place
-      AnswerIs place (Planned p) = PlannedAt place p
-      AnswerIs place TooLarge = FullAt place
+      abbrev pub AnswerIs : ℕ → Result (Option FoundPlan) Refusal → Type 0
+      AnswerIs place (Ok None) = NothingLeft place
+      AnswerIs place (Ok (Some p)) = PlannedAt place p
+      AnswerIs place (Err e) = FullAt place e
 
       -- The answer is the definition's; the cycles in front of it were declined by their clauses, with zeros behind them.
       pub record FoundAs (r : Found) : Type 0 where

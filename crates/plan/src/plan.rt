@@ -6,7 +6,6 @@ ghost use Rattle.grammar.specs.Tree.{inner_depth};
 ghost use Rattle.grammar.specs.Found.{FoundRule};
 ghost use Rattle.analysis.specs.Facts.{Standing};
 ghost use Rattle.planned.specs.List.{Laid, AllIn};
-ghost use Rattle.turns.specs.Midway.{LimitsFit};
 ghost use Rattle.plan.specs.Known.{CycleKnown, HubKnown};
 ghost use Rattle.plan.specs.Decision.{TakesArguments, PlanOf, PlanWith, PlanMade, PlanLast};
 ghost use Rattle.words.specs.Sheet.{text};
@@ -23,7 +22,7 @@ use rewritable::judge::judge;
 use steps::corner::Cycle;
 use steps::decide::Clause;
 use substitution::turning::{Done, substitute};
-use turns::state::Limits;
+use turns::limits::Limits;
 use turns::turn::Unplanned;
 use words::sheet::Sheet;
 use words::words::word;
@@ -83,7 +82,7 @@ fn make(
     limits: Limits,
     work: &mut [u8],
 ) -> Result<Plan, Unplanned>
-    requires bounds { (s.now.end ≤ most_words) × (work_bytes ≤ length work.old) × LimitsFit limits }
+    requires bounds { (s.now.end ≤ most_words) × (work_bytes ≤ length work.old) }
     requires hub_known { HubKnown (text s.now) s.now.end f.now.rules f.now.past f.now.calls.now f.now.marks f.now.kept members hub }
     ensures { PlanMade (text s.now) s.now.end f.now.rules f.now.past f.now.calls.now f.now.marks f.now.kept members limits hub
         work.new result }
@@ -117,7 +116,7 @@ fn with_hub(
     limits: Limits,
     work: &mut [u8],
 ) -> Result<Plan, Unplanned>
-    requires bounds { (s.now.end ≤ most_words) × (work_bytes ≤ length work.old) × LimitsFit limits }
+    requires bounds { (s.now.end ≤ most_words) × (work_bytes ≤ length work.old) }
     requires inside { hub < f.now.rules.n }
     requires cycle_known { CycleKnown (text s.now) s.now.end f.now.rules f.now.past f.now.calls.now f.now.marks f.now.kept members }
     ensures { PlanWith (text s.now) s.now.end f.now.rules f.now.past f.now.calls.now f.now.marks f.now.kept members limits hub
@@ -144,7 +143,7 @@ pub fn plan_cycle(
     limits: Limits,
     work: &mut [u8],
 ) -> Result<Plan, Unplanned>
-    requires bounds { (s.now.end ≤ most_words) × (work_bytes ≤ length work.old) × LimitsFit limits }
+    requires bounds { (s.now.end ≤ most_words) × (work_bytes ≤ length work.old) }
     requires cycle_known { CycleKnown (text s.now) s.now.end f.now.rules f.now.past f.now.calls.now f.now.marks f.now.kept members }
     ensures { PlanOf (text s.now) s.now.end f.now.rules f.now.past f.now.calls.now f.now.marks f.now.kept members limits
         work.new result }

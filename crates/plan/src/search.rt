@@ -2,7 +2,6 @@
 // No cycle is looked for before those in front of it are declined.
 ghost use Rattle.std.specs.Prelude.{◌≡◌, ◌≤◌, length};
 ghost use Rattle.grammar.specs.Numbers.{rule_limit, most_words, work_bytes};
-ghost use Rattle.turns.specs.Midway.{LimitsFit};
 ghost use Rattle.plan.specs.Search.{IsNone, Ended, RulesKnown, FoundOf, JoinedKnown, TriedOf};
 ghost use Rattle.words.specs.Sheet.{text};
 
@@ -11,8 +10,9 @@ use crate::plan::{Plan, plan_cycle};
 use reach::cycles::{joined, next_cycle};
 use reach::reach::loops;
 use reach::rows::Row;
-use turns::state::Limits;
+use turns::limits::Limits;
 use turns::turn::Unplanned;
+use words::numbers::Refusal;
 use words::sheet::Sheet;
 
 // A plan, and the row of its cycle's members.
@@ -22,18 +22,12 @@ pub struct FoundPlan {
     pub members: [u64; Row::WORDS],
 }
 
-// No plan; a plan; or refusal 7.
-#[derive(Clone, Copy, Debug, PartialEq, Eq)]
-pub enum Search {
-    NoPlan,
-    Planned(FoundPlan),
-    TooLarge,
-}
-
-// The answer, how many cycles were declined in front of it, and by which clauses, in the cycles' order; zeros behind.
+// The plan if there is one, or refusal 7; how many cycles were declined in front of it, and by which clauses, in the cycles'
+// order; zeros behind.
+// Stays: the clauses stand in fixed memory with their number beside them, as a caller in another language is told both.
 #[derive(Clone, Copy, Debug, PartialEq, Eq)]
 pub struct Found {
-    pub answer: Search,
+    pub answer: Result<Option<FoundPlan>, Refusal>,
     pub declined: u32,
     pub clauses: [u32; Row::RULES],
 }
@@ -43,14 +37,18 @@ impl Found {
         ensures { IsNone result }
     {
         Found {
-            answer: Search::NoPlan,
+            answer: Ok(None),
             declined: 0,
             clauses: [0; Row::RULES],
         }
     }
 }
 
-fn ended(answer: Search, declined: usize, clauses: [u32; Row::RULES]) -> Found
+fn ended(
+    answer: Result<Option<FoundPlan>, Refusal>,
+    declined: usize,
+    clauses: [u32; Row::RULES],
+) -> Found
     requires { declined ≤ rule_limit }
     ensures { Ended answer declined clauses result }
 {
@@ -69,7 +67,7 @@ fn try_cycles(
     limits: Limits,
     work: &mut [u8],
 ) -> Found
-    requires bounds { (s.now.end ≤ most_words) × (work_bytes ≤ length work.old) × LimitsFit limits }
+    requires bounds { (s.now.end ≤ most_words) × (work_bytes ≤ length work.old) }
     requires closed_len { (length closed.now ≡ rule_limit) × (f.now.rules.n ≤ rule_limit) }
     requires joined_known { JoinedKnown (text s.now) s.now.end f.now.rules f.now.past f.now.calls.now f.now.marks f.now.kept closed.now }
     ensures { TriedOf (text s.now) s.now.end f.now.rules f.now.past f.now.calls.now f.now.marks f.now.kept closed.now limits
@@ -83,22 +81,22 @@ fn try_cycles(
     let mut left = loops(closed, n);
     for k in 0..n {
         let Some(ahead) = next_cycle(closed, &ids, n, left) else {
-            return ended(Search::NoPlan, k, clauses);
+            return ended(Ok(None), k, clauses);
         };
         let members = ahead.members;
         match plan_cycle(s, f, members, limits, work) {
             Ok(plan) => {
-                let answer = Search::Planned(FoundPlan { plan, members });
+                let answer = Ok(Some(FoundPlan { plan, members }));
                 return ended(answer, k, clauses);
             }
             Err(Unplanned::Declined(clause)) => {
                 clauses[k] = u32::from(clause);
                 left = ahead.left;
             }
-            Err(Unplanned::Overfull) => return ended(Search::TooLarge, k, clauses),
+            Err(Unplanned::Overfull) => return ended(Err(Refusal::PlanTooLarge), k, clauses),
         }
     }
-    ended(Search::NoPlan, n, clauses)
+    ended(Ok(None), n, clauses)
 }
 
 // The cycles of the rules, by their left corners.
@@ -110,7 +108,7 @@ pub fn find_plan(
     limits: Limits,
     work: &mut [u8],
 ) -> Found
-    requires bounds { (s.now.end ≤ most_words) × (work_bytes ≤ length work.old) × LimitsFit limits }
+    requires bounds { (s.now.end ≤ most_words) × (work_bytes ≤ length work.old) }
     requires rules_known { RulesKnown (text s.now) s.now.end f.now.rules f.now.past f.now.calls.now corners.now f.now.marks f.now.kept }
     ensures { FoundOf (text s.now) s.now.end f.now.rules f.now.past f.now.calls.now corners.now f.now.marks f.now.kept limits
         work.new result }

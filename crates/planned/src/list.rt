@@ -5,6 +5,8 @@ ghost use Rattle.planned.specs.Moves.{IsEmpty, IsDrained, Took, Settled};
 use crate::record::{record_at, write_record};
 
 // Both ends, each of alternatives, elements and options: how many are settled, and where the stack begins.
+// Stays: that it lies in the work area is a clause, of a list as of one of its alternatives. Other lists share that buffer, and it is
+// written between, so a value that kept the fact would have to borrow the whole of it.
 #[derive(Clone, Copy, Debug, PartialEq, Eq)]
 pub struct Sizes {
     pub outa: usize,
@@ -63,6 +65,7 @@ impl Mark {
 }
 
 // A planned alternative: the slot that it fills, where it was taken from last, and where its elements and options are listed.
+// Stays: that it is listed is a clause, as with `Sizes`.
 #[derive(Clone, Copy, Debug, PartialEq, Eq)]
 pub struct Listed {
     pub slot: u16,

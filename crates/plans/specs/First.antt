@@ -1,5 +1,6 @@
 -- The search for the first plan of rules against the definition (SPECIFICATION 5), and its numbers.
 use Rattle.std.specs.Prelude.{ℕ, ◌<◌, ◌≤◌, ◌≡◌, List, [], ◌∷◌, Bool, length, get_or}
+use Rattle.std.specs.Prelude.{Option, Some, None, Result, Ok, Err}
 use Rattle.grammar.specs.Tree.{Rule, body_depth, inner_depth}
 use Rattle.grammar.specs.Corners.{Corners}
 use Rattle.reference.specs.Analysis.{grammar_of}
@@ -14,8 +15,7 @@ use Rattle.analysis.specs.Facts.{Standing}
 use Rattle.hub.specs.Preserved.{between}
 use Rattle.steps.specs.Decide.{DeclinedByNumber}
 use Rattle.plan.specs.declared.search.FoundPlan.{FoundPlan}
-use Rattle.plan.specs.declared.search.Search.{Search}
-use Rattle.plan.specs.declared.search.Search.TheVariants.{NoPlan, Planned, TooLarge}
+use Rattle.words.specs.declared.numbers.Refusal.{Refusal}
 use Rattle.plan.specs.declared.search.Found.{Found}
 use Rattle.plan.specs.Decision.{PlanAs}
 use Rattle.plans.specs.Nth.{capped, cycles_of}
@@ -48,10 +48,10 @@ module _ (limits : Limits) (ws : List ℕ) (end : ℕ) (ids : List ℕ) (n : ℕ
     pub members : RowOf ids n (get_or (cycles_of c rs) place []) p.members
     pub same : PlanAs ws end ids n bs plan p.plan
 
-  abbrev pub SearchAs : ℕ → Search → Type 0
-  SearchAs place NoPlan = NoneFirst place
-  SearchAs place (Planned p) = PlannedFirst place p
-  SearchAs place TooLarge = FullFirst place
+  abbrev pub SearchAs : ℕ → Result (Option FoundPlan) Refusal → Type 0
+  SearchAs place (Ok None) = NoneFirst place
+  SearchAs place (Ok (Some p)) = PlannedFirst place p
+  SearchAs place (Err e) = FullFirst place
 
   -- The cycles in front of the answer's were declined by their clauses, with zeros behind them.
   pub record FirstAs (r : Found) : Type 0 where
@@ -65,19 +65,19 @@ pub record FirstOf (ws : List ℕ) (end to : ℕ) (rules : Rules) (past : Bool) 
       → FirstAs standard ws end rules.ids rules.n bs (reading past) s.rows.found.trees (between ws end to) r
 
 -- In numbers: no refusal, so many cycles were declined, which answer it is; of a plan the hub's place, steps and alternatives.
-abbrev pub search_numbers : ℕ → Search → List ℕ
-search_numbers k NoPlan = 0 ∷ k ∷ 3 ∷ 0 ∷ 0 ∷ 0 ∷ 0 ∷ 0 ∷ []
-search_numbers k (Planned p) =
+abbrev pub search_numbers : ℕ → Result (Option FoundPlan) Refusal → List ℕ
+search_numbers k (Ok None) = 0 ∷ k ∷ 3 ∷ 0 ∷ 0 ∷ 0 ∷ 0 ∷ 0 ∷ []
+search_numbers k (Ok (Some p)) =
     0 ∷ k ∷ 0 ∷ capped p.plan.hub ∷ 0 ∷ capped p.plan.steps ∷ capped p.plan.l.outa ∷ 0 ∷ []
-search_numbers k TooLarge = 0 ∷ k ∷ 2 ∷ 0 ∷ 0 ∷ 0 ∷ 0 ∷ 0 ∷ []
+search_numbers k (Err e) = 0 ∷ k ∷ 2 ∷ 0 ∷ 0 ∷ 0 ∷ 0 ∷ 0 ∷ []
 
 -- The members of the cycle, and the rules that may go.
-abbrev pub search_cycle : Search → List ℕ
-search_cycle NoPlan = 0 ∷ 0 ∷ []
-search_cycle (Planned p) = p.members
-search_cycle TooLarge = 0 ∷ 0 ∷ []
+abbrev pub search_cycle : Result (Option FoundPlan) Refusal → List ℕ
+search_cycle (Ok None) = 0 ∷ 0 ∷ []
+search_cycle (Ok (Some p)) = p.members
+search_cycle (Err e) = 0 ∷ 0 ∷ []
 
-abbrev pub search_row : Search → List ℕ
-search_row NoPlan = 0 ∷ 0 ∷ []
-search_row (Planned p) = p.plan.removable
-search_row TooLarge = 0 ∷ 0 ∷ []
+abbrev pub search_row : Result (Option FoundPlan) Refusal → List ℕ
+search_row (Ok None) = 0 ∷ 0 ∷ []
+search_row (Ok (Some p)) = p.plan.removable
+search_row (Err e) = 0 ∷ 0 ∷ []

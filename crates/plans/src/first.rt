@@ -10,10 +10,11 @@ use crate::nth::capped;
 use plan::facts::Facts;
 use plan::ground::find_out;
 use plan::plan::Plan;
-use plan::search::{Found, Search, find_plan};
+use plan::search::{Found, FoundPlan, find_plan};
 use reach::rows::Row;
 use records::rules::Rules;
-use turns::state::Limits;
+use turns::limits::Limits;
+use words::numbers::Refusal;
 use words::sheet::Sheet;
 
 // Numbers, the row of a cycle's members, and that of the rules that may go.
@@ -47,11 +48,11 @@ pub fn decide_first(s: &Sheet, to: usize, rules: Rules, past: bool, work: &mut [
 }
 
 // A search in numbers, where so many cycles were declined.
-pub fn tell_search(declined: u32, answer: Search) -> FirstTold
+pub fn tell_search(declined: u32, answer: Result<Option<FoundPlan>, Refusal>) -> FirstTold
     ensures { (result.numbers ≡ search_numbers declined answer) × (result.cycle ≡ search_cycle answer) × (result.row ≡ search_row answer) }
 {
     match answer {
-        Search::Planned(f) => {
+        Ok(Some(f)) => {
             let p = f.plan;
             let l = p.l;
             let cycle = f.members;
@@ -71,12 +72,12 @@ pub fn tell_search(declined: u32, answer: Search) -> FirstTold
                 row,
             }
         }
-        Search::TooLarge => FirstTold {
+        Err(_) => FirstTold {
             numbers: [0, declined, 2, 0, 0, 0, 0, 0],
             cycle: [0; Row::WORDS],
             row: [0; Row::WORDS],
         },
-        Search::NoPlan => FirstTold {
+        Ok(None) => FirstTold {
             numbers: [0, declined, 3, 0, 0, 0, 0, 0],
             cycle: [0; Row::WORDS],
             row: [0; Row::WORDS],

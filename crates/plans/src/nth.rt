@@ -12,7 +12,7 @@ use plan::plan::{Plan, plan_cycle};
 use reach::cycles::list_cycles;
 use reach::rows::Row;
 use records::rules::Rules;
-use turns::state::Limits;
+use turns::limits::Limits;
 use turns::turn::Unplanned;
 use words::sheet::Sheet;
 use words::words::clear;

@@ -10,7 +10,7 @@ use Rattle.reference.specs.Run.{planned, find_plan, eliminate_mutual_left_recurs
 use Rattle.writing.specs.declared.counters.Counters.{Counters}
 use Rattle.records.specs.declared.rules.Rules.{Rules}
 use Rattle.analysis.specs.Survey.{reading}
-use Rattle.turns.specs.declared.state.Limits.{Limits}
+use Rattle.turns.specs.declared.limits.Limits.{Limits}
 use Rattle.plan.specs.declared.plan.Plan.{Plan}
 use Rattle.plan.specs.Decision.{PlanAs}
 use Rattle.apply.specs.declared.apply.Applied.{Applied}

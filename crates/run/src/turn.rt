@@ -4,7 +4,7 @@ ghost use Rattle.grammar.specs.Numbers.{rule_limit, most_words, work_bytes, word
 ghost use Rattle.grammar.specs.Words.{words};
 ghost use Rattle.words.specs.Room.{Room};
 ghost use Rattle.renew.specs.Renewed.{Renewable};
-ghost use Rattle.turns.specs.Midway.{LimitsFit, limits_of};
+ghost use Rattle.turns.specs.Midway.{limits_of};
 ghost use Rattle.apply.specs.Applied.{Buffers};
 ghost use Rattle.run.specs.Midst.{Going};
 ghost use Rattle.run.specs.Turn.{Small, UpToDate, Advancing, AdvancedOf, TurnedOf};
@@ -13,10 +13,10 @@ use crate::state::State;
 use apply::apply::{Applied, apply};
 use plan::facts::Facts;
 use plan::plan::Plan;
-use plan::search::{Search, find_plan};
+use plan::search::find_plan;
 use reach::rows::Row;
 use renew::renew::{Renewed, renew};
-use turns::state::Limits;
+use turns::limits::Limits;
 use words::numbers::Refusal;
 use words::sheet::Sheet;
 
@@ -109,7 +109,7 @@ pub fn take_turn(
     room: usize,
     st: State,
 ) -> Result<Option<State>, Refusal>
-    requires buffers { Buffers res.old trail.old work.old × LimitsFit limits × Small limits × (room ≡ most_words) }
+    requires buffers { Buffers res.old trail.old work.old × Small limits × (room ≡ most_words) }
     requires lengths { (length calls.old ≡ rule_limit) × (length corners.old ≡ rule_limit) }
     requires going { Going (limits_of limits) past res.old trail.old calls.old corners.old st }
     ensures turned_of { TurnedOf (limits_of limits) past res.old trail.old calls.old
@@ -134,14 +134,10 @@ pub fn take_turn(
         kept,
     };
     let found = find_plan(&s, &facts, corners, limits, work);
-    let answer = found.answer;
-    match answer {
-        Search::NoPlan => Ok(None),
-        Search::TooLarge => Err(Refusal::PlanTooLarge),
-        Search::Planned(f) => {
-            let p = f.plan;
-            let next = advance(res, trail, work, calls, corners, limits, past, room, st, p)?;
-            Ok(Some(next))
-        }
-    }
+    let Some(f) = found.answer? else {
+        return Ok(None);
+    };
+    let p = f.plan;
+    let next = advance(res, trail, work, calls, corners, limits, past, room, st, p)?;
+    Ok(Some(next))
 }

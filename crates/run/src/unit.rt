@@ -1,7 +1,7 @@
 // The run of one unit: plans until no cycle has one (SPECIFICATION 5.2, 5.4).
 ghost use Rattle.std.specs.Prelude.{◌≡◌, length};
 ghost use Rattle.grammar.specs.Numbers.{most_words};
-ghost use Rattle.turns.specs.Midway.{LimitsFit, limits_of};
+ghost use Rattle.turns.specs.Midway.{limits_of};
 ghost use Rattle.apply.specs.Applied.{Buffers};
 ghost use Rattle.run.specs.Midst.{Begun};
 ghost use Rattle.run.specs.Turn.{Small, RunOf};
@@ -11,7 +11,7 @@ use crate::turn::take_turn;
 use plan::ground::find_out;
 use reach::rows::Row;
 use records::rules::Rules;
-use turns::state::Limits;
+use turns::limits::Limits;
 use words::numbers::Refusal;
 use words::sheet::Sheet;
 use writing::counters::Counters;
@@ -31,7 +31,7 @@ pub fn run_unit(
     room: usize,
     recorded: Trail,
 ) -> Result<Ended, Refusal>
-    requires buffers { Buffers res.old trail.old work.old × LimitsFit limits × Small limits × (room ≡ most_words)
+    requires buffers { Buffers res.old trail.old work.old × Small limits × (room ≡ most_words)
         × (recorded.entries ≡ 0) }
     requires begun { Begun res.old end to rules counters }
     ensures run_of { RunOf (limits_of limits) past res.old end to rules counters res.new trail.new result }

@@ -14,6 +14,13 @@ use Rattle.steps.specs.Decide.{DeclinedBy, Around, Searchable, Unreferring, Smal
 use Rattle.steps.specs.declared.decide.Clause.{Clause}
 use Rattle.splices.specs.declared.splice.Size.{Size}
 use Rattle.steps.specs.declared.step.Prepared.{Prepared}
+use Rattle.steps.specs.declared.step.Step.{Step}
+use Rattle.steps.specs.declared.step.Step.TheVariants.{Split, Splice}
+
+-- Whether a step splits the alternative.
+abbrev pub splits : Step → Bool
+splits Split = true
+splits Splice = false
 
 -- The rule that stands at a place: its name; and that it refers to nothing.
 pub record RuleNamed (ws : List ℕ) (end d at name : ℕ) : Type 0 where

@@ -7,6 +7,7 @@ ghost use Rattle.grammar.specs.Found.{FoundElement, HeadAt};
 ghost use Rattle.analysis.specs.Names.{Told};
 ghost use Rattle.planned.specs.List.{Located, ListedIn};
 ghost use Rattle.steps.specs.Corner.{bare_at, quantifier_at, met_member, CallMet, ItemMet, CornerAt};
+ghost use Rattle.words.specs.Kinds.{quantifier_number};
 ghost use Rattle.words.specs.Sheet.{text};
 
 use analysis::names::scan;
@@ -27,6 +28,7 @@ pub struct Cycle {
 }
 
 // What is met at one element: nothing that counts; or what decides, of a member its place.
+// Stays: each of the five cases has a meaning of its own in SPECIFICATION 8.2 to 8.5, and an Option of a Result would name none.
 #[derive(Clone, Copy, Debug, PartialEq, Eq)]
 pub enum Met {
     Silent,
@@ -43,6 +45,8 @@ pub struct Place {
     pub target: usize,
 }
 
+// What decides about a whole alternative.
+// Stays: each of the four cases has a meaning of its own in SPECIFICATION 8.2 to 8.5, and they are those of the definition.
 #[derive(Clone, Copy, Debug, PartialEq, Eq)]
 pub enum Corner {
     Settled,
@@ -60,31 +64,21 @@ fn is_bare(s: &[u8], at: usize, payload: usize) -> bool
 }
 
 // A call of the member t: split, left as it is, spliced, or in the way.
-fn meet_member(bare: bool, quantifier: u32, t: usize, hub: usize) -> Met
-    ensures { result ≡ met_member bare quantifier t hub }
+fn meet_member(bare: bool, quantifier: Quantifier, t: usize, hub: usize) -> Met
+    ensures { result ≡ met_member bare (quantifier_number quantifier) t hub }
 {
-    if quantifier == u32::from(Quantifier::OptionalGreedy) {
-        if bare {
-            return Met::Optional(t);
-        }
-        return Met::Blocked;
+    match quantifier {
+        Quantifier::OptionalGreedy if bare => Met::Optional(t),
+        Quantifier::Once if t == hub => Met::Settled,
+        Quantifier::Once if bare => Met::Satellite(t),
+        _ => Met::Blocked,
     }
-    if quantifier != u32::from(Quantifier::Once) {
-        return Met::Blocked;
-    }
-    if t == hub {
-        return Met::Settled;
-    }
-    if bare {
-        return Met::Satellite(t);
-    }
-    Met::Blocked
 }
 
 // A call of a name; one of no rule, or of a rule outside the cycle, is settled.
-fn meet_call(names: &[u32], c: Cycle, name: u32, bare: bool, quantifier: u32) -> Met
+fn meet_call(names: &[u32], c: Cycle, name: u32, bare: bool, quantifier: Quantifier) -> Met
     requires { (c.n ≤ rule_limit) × Told names.now c.n }
-    ensures { CallMet names.now c name bare quantifier result }
+    ensures { CallMet names.now c name bare (quantifier_number quantifier) result }
 {
     let members = c.members;
     match scan(names, c.n, name) {
@@ -94,14 +88,16 @@ fn meet_call(names: &[u32], c: Cycle, name: u32, bare: bool, quantifier: u32) ->
 }
 
 // The quantifier of an element of the list.
-fn quantifier_of(s: &[u8], x: Item) -> u32
-    requires { 4 * (x.at + 6) ≤ length s.now }
-    ensures { result ≡ quantifier_at (words s.now) x.at x.plain }
+fn quantifier_of(s: &Sheet, x: Item) -> Quantifier
+    requires bounds { x.at + 6 ≤ s.now.end }
+    requires found_element { FoundElement (text s.now) s.now.end inner_depth x.at }
+    ensures { quantifier_number result ≡ quantifier_at (text s.now) x.at x.plain }
 {
     if x.plain {
-        return u32::from(Quantifier::Once);
+        return Quantifier::Once;
     }
-    word(s, x.at + 2) / Kind::END
+    let number = word(s.bytes, x.at + 2) / Kind::END;
+    Quantifier::try_from(number).unwrap()
 }
 
 // One element of the list.
@@ -117,7 +113,7 @@ fn meet_item(s: &Sheet, names: &[u32], c: Cycle, x: Item) -> Met
         Kind::Epsilon | Kind::Action | Kind::Predicate => Met::Silent,
         Kind::Call => {
             let bare = is_bare(s.bytes, x.at, payload);
-            let quantifier = quantifier_of(s.bytes, x);
+            let quantifier = quantifier_of(s, x);
             meet_call(names, c, word(s.bytes, payload), bare, quantifier)
         }
         Kind::Token | Kind::Terminal | Kind::Block | Kind::EndOfInput => Met::Settled,

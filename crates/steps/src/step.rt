@@ -5,7 +5,7 @@ ghost use Rattle.grammar.specs.Tree.{inner_depth};
 ghost use Rattle.grammar.specs.Found.{FoundRule};
 ghost use Rattle.planned.specs.Layout.{meaning};
 ghost use Rattle.planned.specs.List.{Located, InHand, ListedIn};
-ghost use Rattle.steps.specs.Step.{RuleNamed, RuleUnreferring, PreparedFor, DecidedAt};
+ghost use Rattle.steps.specs.Step.{splits, RuleNamed, RuleUnreferring, PreparedFor, DecidedAt};
 ghost use Rattle.words.specs.Sheet.{text};
 
 use crate::decide::{Clause, splice_size};
@@ -43,34 +43,41 @@ fn prepare(s: &Sheet, work: &mut [u8], h: Listed, index: usize, name: u32) -> Pr
     }
 }
 
-// What takes the place of the element at an index of the alternative in hand, a call of the rule at `at`: how much would be pushed, or
-// the clause of a decline.
-pub fn decide(
-    s: &Sheet,
-    work: &mut [u8],
-    h: Listed,
-    index: usize,
-    name: u32,
-    at: usize,
-    optional: bool,
-) -> Result<Size, Clause>
-    requires bounds { (s.now.end ≤ most_words) × Located work.old h × InHand h × (index < h.ne) }
+// What a step does: the alternative is split at an optional call, or the alternatives of a satellite come in place of its call.
+#[derive(Clone, Copy, Debug, PartialEq, Eq)]
+pub enum Step {
+    Split,
+    Splice,
+}
+
+// A call at which a step is made: its index among the elements of the alternative, and the name and the place of the rule.
+#[derive(Clone, Copy, Debug, PartialEq, Eq)]
+pub struct Call {
+    pub index: usize,
+    pub name: u32,
+    pub at: usize,
+    pub step: Step,
+}
+
+// What takes the place of a call in the alternative in hand: how much would be pushed, or the clause of a decline.
+pub fn decide(s: &Sheet, work: &mut [u8], h: Listed, k: Call) -> Result<Size, Clause>
+    requires bounds { (s.now.end ≤ most_words) × Located work.old h × InHand h × (k.index < h.ne) }
     requires listed_in { ListedIn (text s.now) s.now.end inner_depth work.old h }
-    requires found_rule { FoundRule (text s.now) s.now.end at × (at + 4 ≤ s.now.end)
-        × RuleNamed (text s.now) s.now.end inner_depth at name }
-    requires rule_unreferring { optional ≡ false → RuleUnreferring (text s.now) s.now.end inner_depth at }
-    ensures { DecidedAt (text s.now) s.now.end inner_depth at work.old work.new h index optional result }
+    requires found_rule { FoundRule (text s.now) s.now.end k.at × (k.at + 4 ≤ s.now.end)
+        × RuleNamed (text s.now) s.now.end inner_depth k.at k.name }
+    requires rule_unreferring { splits k.step ≡ false → RuleUnreferring (text s.now) s.now.end inner_depth k.at }
+    ensures { DecidedAt (text s.now) s.now.end inner_depth k.at work.old work.new h k.index (splits k.step) result }
 {
-    let p = prepare(s, work, h, index, name);
+    let p = prepare(s, work, h, k.index, k.name);
     if p.dangling {
         return Err(Clause::DanglingReference);
     }
-    if optional {
-        return Ok(Size {
+    match k.step {
+        Step::Split => Ok(Size {
             a: 2,
             e: 2 * h.ne - 1,
             o: 2 * h.no,
-        });
+        }),
+        Step::Splice => splice_size(s, work, p.quiet, h, k.at),
     }
-    splice_size(s, work, p.quiet, h, at)
 }

@@ -20,7 +20,7 @@ use Rattle.turns.specs.Turns.{Task, Replaced, IsSettled}
 use Rattle.substitution.specs.Run.{MadeOf}
 use Rattle.steps.specs.declared.corner.Cycle.{Cycle}
 use Rattle.steps.specs.declared.corner.Place.{Place}
-use Rattle.turns.specs.declared.state.Limits.{Limits}
+use Rattle.turns.specs.declared.limits.Limits.{Limits}
 use Rattle.steps.specs.declared.decide.Clause.{Clause}
 use Rattle.steps.specs.declared.decide.Clause.TheVariants.{Budget}
 use Rattle.turns.specs.declared.turn.Unplanned.{Unplanned}
@@ -48,21 +48,20 @@ module _ (d left : ℕ) (p : Planned d) (m : Decided (List (Planned d))) where
     pub alternatives : 1 ≤ length ps
     pub options : length p.options ≤ options_all ps
 
-  abbrev pub LookOf : Result (Unit {0}) Unplanned → Type 0
-  LookOf (Ok u) = ⊥
-  LookOf (Err (Declined n)) = Stops n
-  LookOf (Err Overfull) = Grows
+  abbrev pub LookOf : Unplanned → Type 0
+  LookOf (Declined n) = Stops n
+  LookOf Overfull = Grows
 
 module _ {d : ℕ} (t : Task d) (left : ℕ) (p : Planned d) where
   -- An alternative is in need of work.
-  pub record InNeed (r : Result (Unit {0}) Unplanned) : Type 0 where
+  pub record InNeed (r : Unplanned) : Type 0 where
     pub by : Decided (List (Planned d))
     pub replaced : Replaced t p by
     pub to : LookOf d left p by r
 
   abbrev pub LookTo : Result (Unit {0}) Unplanned → Type 0
   LookTo (Ok u) = IsSettled t p
-  LookTo (Err e) = InNeed (Err e)
+  LookTo (Err e) = InNeed e
 
 -- A member is met, and one that is spliced is not the hub.
 pub record Reached (c : Cycle) (n : ℕ) (p : Place) (optional : Bool) : Type 0 where
@@ -71,7 +70,7 @@ pub record Reached (c : Cycle) (n : ℕ) (p : Place) (optional : Bool) : Type 0 
 
 module _ (ws : List ℕ) (end : ℕ) (names places : List ℕ) (c : Cycle) (left : ℕ) where
   -- The step at a member that is met in the alternative in hand.
-  pub record StepLooked (before after : List ℕ) (h : Listed) (p : Place) (optional : Bool) (r : Result (Unit {0}) Unplanned) : Type 0 where
+  pub record StepLooked (before after : List ℕ) (h : Listed) (p : Place) (optional : Bool) (r : Unplanned) : Type 0 where
     pub is : (b : Ground ws end names places c) (a : Among (rules_of ws end b.rules b.standing) p.target)
         → LookOf inner_depth left (meaning ws end inner_depth before h)
         (step_by inner_depth (meaning ws end inner_depth before h) p.index a.rule optional) r

@@ -5,7 +5,8 @@ ghost use Rattle.grammar.specs.Numbers.{most_words, work_bytes};
 ghost use Rattle.grammar.specs.Tree.{inner_depth};
 ghost use Rattle.grammar.specs.Found.{FoundAlternative};
 ghost use Rattle.planned.specs.List.{Located, InHand, ListedIn};
-ghost use Rattle.turns.specs.Ground.{Ground};
+ghost use Rattle.steps.specs.Step.{splits};
+ghost use Rattle.turns.specs.Ground.{Grounded};
 ghost use Rattle.substitution.specs.Over.{Reached, StepLooked, HandLooked, LookedAt, Unstored};
 ghost use Rattle.words.specs.Sheet.{text};
 
@@ -14,9 +15,10 @@ use analysis::names::index;
 use ends::ends::alternative_end;
 use planned::list::Listed;
 use splices::bring::hub_in_hand;
-use steps::corner::{Corner, Cycle, Place, find_corner};
+use steps::corner::{Corner, Place, find_corner};
 use steps::decide::Clause;
-use steps::step::decide;
+use steps::step::{Step, decide};
+use turns::task::Task;
 use turns::turn::{Unplanned, stuck};
 use words::numbers::Block;
 use words::sheet::Sheet;
@@ -24,115 +26,87 @@ use words::words::word;
 
 // A member is met in the alternative in hand: the step is declined, or goes, and leaves the list beyond the limits.
 fn look_step(
-    s: &Sheet,
-    names: &[u32],
-    places: &[u32],
-    c: Cycle,
+    task: &Task,
     budget: usize,
     work: &mut [u8],
     h: Listed,
     p: Place,
-    optional: bool,
-) -> Result<(), Unplanned>
-    requires bounds { (s.now.end ≤ most_words) × Located work.old h × InHand h × Reached c h.ne p optional }
-    requires listed_in { ListedIn (text s.now) s.now.end inner_depth work.old h }
-    requires ground { Ground (text s.now) s.now.end names.now places.now c }
-    ensures { StepLooked (text s.now) s.now.end names.now places.now c budget
-        work.old work.new h p optional result }
+    step: Step,
+) -> Unplanned
+    requires bounds { (task.now.s.now.end ≤ most_words) × Located work.old h × InHand h × Reached task.now.c h.ne p (splits step) }
+    requires listed_in { ListedIn (text task.now.s.now) task.now.s.now.end inner_depth work.old h }
+    requires grounded { Grounded task.now }
+    ensures { StepLooked (text task.now.s.now) task.now.s.now.end task.now.names.now task.now.places.now task.now.c budget
+        work.old work.new h p (splits step) result }
 {
     if budget == 0 {
-        return Err(Unplanned::Declined(Clause::Budget));
+        return Unplanned::Declined(Clause::Budget);
     }
-    let t = p.target;
-    let name = names[t];
-    let at = index(places[t]);
-    decide(s, work, h, p.index, name, at, optional)?;
-    Err(Unplanned::Overfull)
+    let k = task.call(p, step);
+    match decide(task.s, work, h, k) {
+        Ok(_) => Unplanned::Overfull,
+        Err(clause) => Unplanned::Declined(clause),
+    }
 }
 
 // The alternative in hand.
-fn look_hand(
-    s: &Sheet,
-    names: &[u32],
-    places: &[u32],
-    c: Cycle,
-    budget: usize,
-    work: &mut [u8],
-    h: Listed,
-) -> Result<(), Unplanned>
-    requires bounds { (s.now.end ≤ most_words) × Located work.old h × InHand h }
-    requires listed_in { ListedIn (text s.now) s.now.end inner_depth work.old h }
-    requires ground { Ground (text s.now) s.now.end names.now places.now c }
-    ensures { HandLooked (text s.now) s.now.end names.now places.now c budget
+fn look_hand(task: &Task, budget: usize, work: &mut [u8], h: Listed) -> Result<(), Unplanned>
+    requires bounds { (task.now.s.now.end ≤ most_words) × Located work.old h × InHand h }
+    requires listed_in { ListedIn (text task.now.s.now) task.now.s.now.end inner_depth work.old h }
+    requires grounded { Grounded task.now }
+    ensures { HandLooked (text task.now.s.now) task.now.s.now.end task.now.names.now task.now.places.now task.now.c budget
         work.old work.new h result }
 {
-    match find_corner(s, names, c, work, h) {
+    match find_corner(task.s, task.names, task.c, work, h) {
         Corner::Settled => Ok(()),
         Corner::Blocked => Err(Unplanned::Declined(stuck(budget))),
-        Corner::Optional(p) => look_step(s, names, places, c, budget, work, h, p, true),
-        Corner::Satellite(p) => look_step(s, names, places, c, budget, work, h, p, false),
+        Corner::Optional(p) => Err(look_step(task, budget, work, h, p, Step::Split)),
+        Corner::Satellite(p) => Err(look_step(task, budget, work, h, p, Step::Splice)),
     }
 }
 
 // The hub's alternative at `at`.
-fn look_at(
-    s: &Sheet,
-    names: &[u32],
-    places: &[u32],
-    c: Cycle,
-    budget: usize,
-    work: &mut [u8],
-    at: usize,
-) -> Result<(), Unplanned>
-    requires bounds { (s.now.end ≤ most_words) × (work_bytes ≤ length work.old) }
-    requires found_alternative { FoundAlternative (text s.now) s.now.end inner_depth at }
-    requires ground { Ground (text s.now) s.now.end names.now places.now c }
-    ensures { LookedAt (text s.now) s.now.end names.now places.now c budget at
+fn look_at(task: &Task, budget: usize, work: &mut [u8], at: usize) -> Result<(), Unplanned>
+    requires bounds { (task.now.s.now.end ≤ most_words) × (work_bytes ≤ length work.old) }
+    requires found_alternative { FoundAlternative (text task.now.s.now) task.now.s.now.end inner_depth at }
+    requires grounded { Grounded task.now }
+    ensures { LookedAt (text task.now.s.now) task.now.s.now.end task.now.names.now task.now.places.now task.now.c budget at
         work.old work.new result }
 {
-    let h = hub_in_hand(s, Block::DEPTH, at, work);
-    look_hand(s, names, places, c, budget, work, h)
+    let h = hub_in_hand(task.s, Block::DEPTH, at, work);
+    look_hand(task, budget, work, h)
 }
 
 // The rule at `at` is the hub: its first alternative that is in need of work decides.
 fn look_all(
-    s: &Sheet,
-    names: &[u32],
-    places: &[u32],
-    c: Cycle,
+    task: &Task,
     budget: usize,
     work: &mut [u8],
     at: usize,
 ) -> Result<Option<Done>, Unplanned>
-    requires bounds { (s.now.end ≤ most_words) × (work_bytes ≤ length work.old) }
-    requires at_value { (at ≡ get_or places.now c.hub 0) × (at + 4 ≤ s.now.end) }
-    requires ground { Ground (text s.now) s.now.end names.now places.now c }
-    ensures { Unstored (text s.now) s.now.end names.now places.now c budget
+    requires bounds { (task.now.s.now.end ≤ most_words) × (work_bytes ≤ length work.old) }
+    requires at_value { (at ≡ get_or task.now.places.now task.now.c.hub 0) × (at + 4 ≤ task.now.s.now.end) }
+    requires grounded { Grounded task.now }
+    ensures { Unstored (text task.now.s.now) task.now.s.now.end task.now.names.now task.now.places.now task.now.c budget
         work.new result }
 {
+    let s = task.s;
     let n = word(s.bytes, at + 3);
     let mut p = at + 4;
     for _ in 0..n {
-        look_at(s, names, places, c, budget, work, p)?;
+        look_at(task, budget, work, p)?;
         p = alternative_end(s, Block::DEPTH, p);
     }
     Ok(None)
 }
 
 // The hub of a cycle.
-pub fn unstored(
-    s: &Sheet,
-    names: &[u32],
-    places: &[u32],
-    c: Cycle,
-    budget: usize,
-    work: &mut [u8],
-) -> Result<Option<Done>, Unplanned>
-    requires bounds { (s.now.end ≤ most_words) × (work_bytes ≤ length work.old) }
-    requires ground { Ground (text s.now) s.now.end names.now places.now c }
-    ensures { Unstored (text s.now) s.now.end names.now places.now c budget
+pub fn unstored(task: &Task, budget: usize, work: &mut [u8]) -> Result<Option<Done>, Unplanned>
+    requires bounds { (task.now.s.now.end ≤ most_words) × (work_bytes ≤ length work.old) }
+    requires grounded { Grounded task.now }
+    ensures { Unstored (text task.now.s.now) task.now.s.now.end task.now.names.now task.now.places.now task.now.c budget
         work.new result }
 {
-    let hub = c.hub;
-    look_all(s, names, places, c, budget, work, index(places[hub]))
+    let c = task.c;
+    look_all(task, budget, work, index(task.places[c.hub]))
 }

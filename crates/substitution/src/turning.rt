@@ -1,8 +1,8 @@
 // The substitution in a hub's alternatives (SPECIFICATION 8): a loop that counts steps against the budget.
 ghost use Rattle.std.specs.Prelude.{◌+◌, ◌≤◌, length, get_or};
 ghost use Rattle.grammar.specs.Numbers.{most_words, work_bytes};
-ghost use Rattle.turns.specs.Ground.{Ground};
-ghost use Rattle.turns.specs.Midway.{LimitsFit, Shut, Ready, NextIs, Begun};
+ghost use Rattle.turns.specs.Ground.{Ground, Grounded};
+ghost use Rattle.turns.specs.Midway.{Shut, Ready, NextIs, Begun};
 ghost use Rattle.substitution.specs.Run.{Going, MadeOf};
 ghost use Rattle.words.specs.Sheet.{text};
 
@@ -13,13 +13,15 @@ use planned::list::{Sizes, is_drained};
 use records::rules::Rules;
 use splices::splice::Size;
 use steps::corner::Cycle;
-use turns::state::{Limits, State};
+use turns::limits::Limits;
+use turns::state::State;
+use turns::task::Task;
 use turns::turn::{Unplanned, is_within, take_turn};
 use words::sheet::Sheet;
 use words::words::word;
 
 // The list that is left, and the steps that it took.
-#[derive(Clone, Copy)]
+#[derive(Clone, Copy, Debug, PartialEq, Eq)]
 pub struct Done {
     pub l: Sizes,
     pub steps: usize,
@@ -49,24 +51,23 @@ fn begin(s: &Sheet, at: usize, all: Size, budget: usize) -> State
 
 // The list is within the limits from the first, and stored: turns until nothing is left to look at, or one ends it.
 fn stored(
-    s: &Sheet,
-    names: &[u32],
-    places: &[u32],
-    c: Cycle,
+    task: &Task,
     limits: Limits,
     budget: usize,
     first: State,
     work: &mut [u8],
 ) -> Result<Option<Done>, Unplanned>
-    requires bounds { (s.now.end ≤ most_words) × LimitsFit limits }
-    requires shut { Shut (Ready (text s.now) s.now.end work.old first 0 0 0) }
-    requires shut_ground { Shut (Ground (text s.now) s.now.end names.now places.now c) }
-    requires shut_3 { Shut (Going (text s.now) s.now.end names.now places.now c limits budget work.old first) }
-    ensures { MadeOf (text s.now) s.now.end names.now places.now c limits budget work.new result }
+    requires bounds { task.now.s.now.end ≤ most_words }
+    requires shut { Shut (Ready (text task.now.s.now) task.now.s.now.end work.old first 0 0 0) }
+    requires grounded { Shut (Grounded task.now) }
+    requires going { Shut (Going (text task.now.s.now) task.now.s.now.end task.now.names.now task.now.places.now task.now.c limits
+        budget work.old first) }
+    ensures { MadeOf (text task.now.s.now) task.now.s.now.end task.now.names.now task.now.places.now task.now.c limits
+        budget work.new result }
 {
     let mut st = first;
     while has_next(st) {
-        st = take_turn(s, names, places, c, limits, work, st)?;
+        st = take_turn(task, limits, work, st)?;
     }
     let l = st.l;
     let steps = st.steps;
@@ -75,26 +76,24 @@ fn stored(
 
 // The hub's own list is stored if it is within the limits.
 fn run(
-    s: &Sheet,
-    names: &[u32],
-    places: &[u32],
-    c: Cycle,
+    task: &Task,
     limits: Limits,
     budget: usize,
     work: &mut [u8],
 ) -> Result<Option<Done>, Unplanned>
-    requires bounds { (s.now.end ≤ most_words) × (work_bytes ≤ length work.old) × LimitsFit limits }
-    requires shut { Shut (Ground (text s.now) s.now.end names.now places.now c) }
-    ensures { MadeOf (text s.now) s.now.end names.now places.now c limits budget work.new result }
+    requires bounds { (task.now.s.now.end ≤ most_words) × (work_bytes ≤ length work.old) }
+    requires grounded { Shut (Grounded task.now) }
+    ensures { MadeOf (text task.now.s.now) task.now.s.now.end task.now.names.now task.now.places.now task.now.c limits
+        budget work.new result }
 {
-    let i = c.hub;
-    let at = index(places[i]);
-    let z = hub_size(s, at);
+    let c = task.c;
+    let at = index(task.places[c.hub]);
+    let z = hub_size(task.s, at);
     if is_within(limits, z) {
-        let st = begin(s, at, z, budget);
-        return stored(s, names, places, c, limits, budget, st, work);
+        let st = begin(task.s, at, z, budget);
+        return stored(task, limits, budget, st, work);
     }
-    unstored(s, names, places, c, budget, work)
+    unstored(task, budget, work)
 }
 
 // The substitution in the alternatives of the hub, with so many steps allowed: a list without work left; or none, since nothing was in
@@ -107,11 +106,17 @@ pub fn substitute(
     budget: usize,
     work: &mut [u8],
 ) -> Result<Option<Done>, Unplanned>
-    requires bounds { (s.now.end ≤ most_words) × (work_bytes ≤ length work.old) × LimitsFit limits }
+    requires bounds { (s.now.end ≤ most_words) × (work_bytes ≤ length work.old) }
     requires ground { Ground (text s.now) s.now.end rules.names rules.places c }
     ensures { MadeOf (text s.now) s.now.end rules.names rules.places c limits budget work.new result }
 {
     let names = rules.names;
     let places = rules.places;
-    run(s, &names, &places, c, limits, budget, work)
+    let task = Task {
+        s,
+        names: &names,
+        places: &places,
+        c,
+    };
+    run(&task, limits, budget, work)
 }

@@ -1,3 +1,5 @@
+pub mod Limits
+pub mod Called
 pub mod Turns
 pub mod Ground
 pub mod Midway

@@ -2,7 +2,6 @@
 use Rattle.std.specs.Prelude.{ℕ, ◌+◌, ◌≤◌, ◌<◌, ◌^◌, ◌≡◌, List, ◌∷◌, ◌++◌, Bool, true, false, ◌&&◌, length, leb}
 use Rattle.grammar.specs.Tree.{inner_depth}
 use Rattle.grammar.specs.Found.{FoundAlternatives}
-use Rattle.grammar.specs.Numbers.{most_words}
 use Rattle.reference.specs.Numbers.{most_alternatives, most_elements, most_options}
 use Rattle.reference.specs.Substitute.{Planned}
 use Rattle.reference.specs.Substitute as R
@@ -15,7 +14,7 @@ use Rattle.planned.specs.declared.list.Listed.{Listed}
 use Rattle.splices.specs.declared.splice.Size.{Size}
 use Rattle.turns.specs.Turns.{Task, IsSettled, Substituting}
 use Rattle.steps.specs.Decide.{SmallSize}
-use Rattle.turns.specs.declared.state.Limits.{Limits}
+use Rattle.turns.specs.declared.limits.Limits.{Limits}
 use Rattle.turns.specs.declared.state.State.{State}
 use Rattle.turns.specs.declared.state.Taken.{Taken}
 
@@ -23,17 +22,9 @@ use Rattle.turns.specs.declared.state.Taken.{Taken}
 abbrev pub limits_of : Limits → R.Limits
 limits_of x = record { budget_floor = x.floor; alternatives = x.alternatives; elements = x.elements; options = x.options }
 
--- They leave what is within them room in the work area, and no sheet has more elements than they allow.
-pub record LimitsFit (x : Limits) : Type 0 where
-  pub alternatives : x.alternatives ≤ most_alternatives
-  pub elements : x.elements ≤ most_elements
-  pub options : x.options ≤ most_options
-  pub sheet : most_words ≤ x.elements
-
 -- They are the definition's.
 pub record IsStandard (x : Limits) : Type 0 where
   pub is : limits_of x ≡ R.standard
-  pub fits : LimitsFit x
 
 -- A size is within them.
 abbrev pub within_limits : Limits → Size → Bool

@@ -13,7 +13,7 @@ use Rattle.turns.specs.Ground.{Ground, task_of}
 use Rattle.turns.specs.Midway.{Ready, With, Midway, Holding, limits_of, pending_count}
 use Rattle.steps.specs.declared.corner.Cycle.{Cycle}
 use Rattle.steps.specs.declared.corner.Place.{Place}
-use Rattle.turns.specs.declared.state.Limits.{Limits}
+use Rattle.turns.specs.declared.limits.Limits.{Limits}
 use Rattle.turns.specs.declared.state.State.{State}
 use Rattle.steps.specs.declared.decide.Clause.{Clause}
 use Rattle.steps.specs.declared.decide.Clause.TheVariants.{Budget, BlockedCorner}

@@ -1,5 +1,7 @@
 // One turn of the substitution (SPECIFICATION 8.1, 8.10): the next alternative is taken, and settled, or a step is made on it.
 #![tactic(auto)]
 
+pub mod limits;
 pub mod state;
+pub mod task;
 pub mod turn;

@@ -7,6 +7,7 @@ ghost use Rattle.planned.specs.Moves.{IsDrained};
 ghost use Rattle.turns.specs.Midway.{IsStandard, Shut, Ready, HasNext, StackTaken, TakenFrom, PutSettled};
 ghost use Rattle.words.specs.Sheet.{text};
 
+use crate::limits::Limits;
 use ends::ends::alternative_end;
 use planned::list::{Listed, Sizes, is_drained, settle, take_top};
 use splices::bring::hub_in_hand;
@@ -14,15 +15,7 @@ use splices::splice::Size;
 use words::numbers::Block;
 use words::sheet::Sheet;
 
-// The least budget, and how large a planned list may be after a step.
-#[derive(Clone, Copy, Debug, PartialEq, Eq)]
-pub struct Limits {
-    pub floor: usize,
-    pub alternatives: usize,
-    pub elements: usize,
-    pub options: usize,
-}
-
+// Here and not beside the struct, since what `standard` promises names the struct, and what its ghost field rests on may not.
 impl Limits {
     // The least number of steps that a substitution may take (SPECIFICATION 8.10).
     pub const LEAST_BUDGET: usize = 64;
@@ -42,7 +35,7 @@ impl Limits {
 
 // The list, how many of the hub's alternatives are still in the sheet and where the first stands, how large all of it is, and
 // the steps that are left and made.
-#[derive(Clone, Copy)]
+#[derive(Clone, Copy, Debug, PartialEq, Eq)]
 pub struct State {
     pub l: Sizes,
     pub left: u32,
@@ -53,7 +46,7 @@ pub struct State {
 }
 
 // An alternative that was taken, whether it is in hand, and what is left.
-#[derive(Clone, Copy)]
+#[derive(Clone, Copy, Debug, PartialEq, Eq)]
 pub struct Taken {
     pub x: Listed,
     pub hand: bool,

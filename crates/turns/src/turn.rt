@@ -7,20 +7,21 @@ ghost use Rattle.words.specs.Room.{Room};
 ghost use Rattle.planned.specs.List.{Laid, Located, Movable, InHand, InList, HasRoom};
 ghost use Rattle.splices.specs.Splice.{HandIn};
 ghost use Rattle.steps.specs.Decide.{SmallSize};
-ghost use Rattle.turns.specs.Ground.{Ground};
-ghost use Rattle.steps.specs.Step.{Goable, PushedBy};
+ghost use Rattle.turns.specs.Ground.{Grounded};
+ghost use Rattle.steps.specs.Step.{splits, Goable, PushedBy};
 ghost use Rattle.turns.specs.Turn.{Called, CalledAt, SteppedTo, StuckAt, ActedOn, TurnedTo};
-ghost use Rattle.turns.specs.Midway.{Shut, Ready, HasNext, With, within_limits, LimitsFit, Held, CanReplace, SizeAfter};
+ghost use Rattle.turns.specs.Midway.{Shut, Ready, HasNext, With, within_limits, Held, CanReplace, SizeAfter};
 ghost use Rattle.words.specs.Sheet.{text};
 
-use crate::state::{Limits, State, Taken, put_settled, take};
-use analysis::names::index;
+use crate::limits::Limits;
+use crate::state::{State, Taken, put_settled, take};
+use crate::task::Task;
 use planned::hand::{into_hand, push_split};
 use planned::list::{Listed, Sizes};
 use splices::splice::{Size, push_splice};
-use steps::corner::{Corner, Cycle, Place, find_corner};
+use steps::corner::{Corner, Place, find_corner};
 use steps::decide::Clause;
-use steps::step::decide;
+use steps::step::{Call, Step, decide};
 use words::sheet::Sheet;
 
 // The alternative that was taken comes into the hand.
@@ -57,25 +58,16 @@ fn size_after(all: Size, h: Listed, z: Size) -> Size
 }
 
 // What was decided is put on the stack.
-fn push(
-    s: &Sheet,
-    work: &mut [u8],
-    l: Sizes,
-    h: Listed,
-    index: usize,
-    at: usize,
-    z: Size,
-    optional: bool,
-) -> Sizes
-    requires bounds { (s.now.end ≤ most_words) × (at + 4 ≤ s.now.end) × FoundRule (text s.now) s.now.end at }
-    requires laid { Laid work.old l × HasRoom l z.a z.e z.o × HandIn (text s.now) s.now.end inner_depth h index work.old }
-    requires goable { Goable (text s.now) s.now.end inner_depth at work.old h index optional z }
-    ensures { PushedBy (text s.now) s.now.end inner_depth at work.old work.new l result h index optional z }
+fn push(s: &Sheet, work: &mut [u8], l: Sizes, h: Listed, k: Call, z: Size) -> Sizes
+    requires bounds { (s.now.end ≤ most_words) × (k.at + 4 ≤ s.now.end) × FoundRule (text s.now) s.now.end k.at }
+    requires laid { Laid work.old l × HasRoom l z.a z.e z.o × HandIn (text s.now) s.now.end inner_depth h k.index work.old }
+    requires goable { Goable (text s.now) s.now.end inner_depth k.at work.old h k.index (splits k.step) z }
+    ensures { PushedBy (text s.now) s.now.end inner_depth k.at work.old work.new l result h k.index (splits k.step) z }
 {
-    if optional {
-        return push_split(work, l, h, index);
+    match k.step {
+        Step::Split => push_split(work, l, h, k.index),
+        Step::Splice => push_splice(s, work, l, h, k.index, k.at, z),
     }
-    push_splice(s, work, l, h, index, at, z)
 }
 
 // Why there is no plan: a decline by its clause; or refusal 7, a list beyond the limits.
@@ -102,17 +94,15 @@ fn advance(
     work: &mut [u8],
     st: State,
     h: Listed,
-    index: usize,
-    at: usize,
+    k: Call,
     z: Size,
-    optional: bool,
 ) -> Result<State, Unplanned>
-    requires bounds { (s.now.end ≤ most_words) × LimitsFit limits × SmallSize z }
+    requires bounds { (s.now.end ≤ most_words) × SmallSize z }
     requires fact { (st.budget ≡ 0 → ⊥) × (st.steps + st.budget < 2 ^ 64) }
-    requires shut { Shut (With (text s.now) s.now.end work.old st h) × InHand h × (index < h.ne) }
-    requires at_bound { (at + 4 ≤ s.now.end) × FoundRule (text s.now) s.now.end at }
-    requires goable { Goable (text s.now) s.now.end inner_depth at work.old h index optional z }
-    ensures { SteppedTo (text s.now) s.now.end work.old work.new st h index at optional limits result }
+    requires shut { Shut (With (text s.now) s.now.end work.old st h) × InHand h × (k.index < h.ne) }
+    requires at_bound { (k.at + 4 ≤ s.now.end) × FoundRule (text s.now) s.now.end k.at }
+    requires goable { Goable (text s.now) s.now.end inner_depth k.at work.old h k.index (splits k.step) z }
+    ensures { SteppedTo (text s.now) s.now.end work.old work.new st h k.index k.at (splits k.step) limits result }
 {
     let budget = st.budget - 1;
     let steps = st.steps + 1;
@@ -120,7 +110,7 @@ fn advance(
     let l = st.l;
     let more = size_after(all, h, z);
     if is_within(limits, more) {
-        let l = push(s, work, l, h, index, at, z, optional);
+        let l = push(s, work, l, h, k, z);
         return Ok(State {
             l,
             all: more,
@@ -139,68 +129,52 @@ fn step_in_hand(
     work: &mut [u8],
     st: State,
     h: Listed,
-    index: usize,
-    name: u32,
-    at: usize,
-    optional: bool,
+    k: Call,
 ) -> Result<State, Unplanned>
-    requires bounds { (s.now.end ≤ most_words) × LimitsFit limits × (st.budget ≡ 0 → ⊥) × (index < h.ne) }
+    requires bounds { (s.now.end ≤ most_words) × (st.budget ≡ 0 → ⊥) × (k.index < h.ne) }
     requires shut { Shut (With (text s.now) s.now.end work.old st h) × InHand h × Located work.old h }
-    requires called { Called (text s.now) s.now.end work.old h index name at optional }
-    ensures { SteppedTo (text s.now) s.now.end work.old work.new st h index at optional limits result }
+    requires called { Called (text s.now) s.now.end work.old h k.index k.name k.at (splits k.step) }
+    ensures { SteppedTo (text s.now) s.now.end work.old work.new st h k.index k.at (splits k.step) limits result }
 {
-    let z = decide(s, work, h, index, name, at, optional)?;
-    advance(s, limits, work, st, h, index, at, z, optional)
+    let z = decide(s, work, h, k)?;
+    advance(s, limits, work, st, h, k, z)
 }
 
 // A step on the alternative that was taken; the one beyond the budget is not looked at.
-fn step(
-    s: &Sheet,
-    limits: Limits,
-    work: &mut [u8],
-    t: Taken,
-    index: usize,
-    name: u32,
-    at: usize,
-    optional: bool,
-) -> Result<State, Unplanned>
-    requires bounds { (s.now.end ≤ most_words) × LimitsFit limits × (index < t.x.ne) }
+fn step(s: &Sheet, limits: Limits, work: &mut [u8], t: Taken, k: Call) -> Result<State, Unplanned>
+    requires bounds { (s.now.end ≤ most_words) × (k.index < t.x.ne) }
     requires shut { Shut (With (text s.now) s.now.end work.old t.st t.x) }
     requires in_hand { (t.hand ≡ true → InHand t.x) × (t.hand ≡ false → InList t.x) }
-    requires called { Called (text s.now) s.now.end work.old t.x index name at optional }
-    ensures { SteppedTo (text s.now) s.now.end work.old work.new t.st t.x index
-        at optional limits result }
+    requires called { Called (text s.now) s.now.end work.old t.x k.index k.name k.at (splits k.step) }
+    ensures { SteppedTo (text s.now) s.now.end work.old work.new t.st t.x k.index k.at (splits k.step) limits result }
 {
     let st = t.st;
     if st.budget == 0 {
         return Err(Unplanned::Declined(Clause::Budget));
     }
     let h = hold(work, t);
-    step_in_hand(s, limits, work, st, h, index, name, at, optional)
+    step_in_hand(s, limits, work, st, h, k)
 }
 
 // A step at a member of the cycle that is called.
 fn step_at(
-    s: &Sheet,
-    names: &[u32],
-    places: &[u32],
+    task: &Task,
     limits: Limits,
     work: &mut [u8],
     t: Taken,
     p: Place,
-    optional: bool,
+    by: Step,
 ) -> Result<State, Unplanned>
-    requires bounds { (s.now.end ≤ most_words) × LimitsFit limits }
-    requires shut { Shut (With (text s.now) s.now.end work.old t.st t.x) }
+    requires bounds { task.now.s.now.end ≤ most_words }
+    requires shut { Shut (With (text task.now.s.now) task.now.s.now.end work.old t.st t.x) }
     requires in_hand { (t.hand ≡ true → InHand t.x) × (t.hand ≡ false → InList t.x) }
-    requires called_at { CalledAt (text s.now) s.now.end work.old names.now places.now t.x p optional }
-    ensures { SteppedTo (text s.now) s.now.end work.old work.new t.st t.x p.index
-        (get_or places.now p.target 0) optional limits result }
+    requires called_at { CalledAt (text task.now.s.now) task.now.s.now.end work.old task.now.names.now task.now.places.now
+        t.x p (splits by) }
+    ensures { SteppedTo (text task.now.s.now) task.now.s.now.end work.old work.new t.st t.x p.index
+        (get_or task.now.places.now p.target 0) (splits by) limits result }
 {
-    let i = p.target;
-    let name = names[i];
-    let at = index(places[i]);
-    step(s, limits, work, t, p.index, name, at, optional)
+    let k = task.call(p, by);
+    step(task.s, limits, work, t, k)
 }
 
 // The clause by which a corner that is in the way declines: the budget is asked first.
@@ -214,48 +188,37 @@ pub fn stuck(budget: usize) -> Clause
 }
 
 // What was taken is settled, or a step is made on it.
-fn act(
-    s: &Sheet,
-    names: &[u32],
-    places: &[u32],
-    c: Cycle,
-    limits: Limits,
-    work: &mut [u8],
-    t: Taken,
-) -> Result<State, Unplanned>
-    requires bounds { (s.now.end ≤ most_words) × LimitsFit limits }
-    requires shut { Shut (With (text s.now) s.now.end work.old t.st t.x) }
+fn act(task: &Task, limits: Limits, work: &mut [u8], t: Taken) -> Result<State, Unplanned>
+    requires bounds { task.now.s.now.end ≤ most_words }
+    requires shut { Shut (With (text task.now.s.now) task.now.s.now.end work.old t.st t.x) }
     requires in_hand { (t.hand ≡ true → InHand t.x) × (t.hand ≡ false → InList t.x) }
-    requires shut_ground { Shut (Ground (text s.now) s.now.end names.now places.now c) }
-    ensures { ActedOn (text s.now) s.now.end names.now places.now c limits
+    requires grounded { Shut (Grounded task.now) }
+    ensures { ActedOn (text task.now.s.now) task.now.s.now.end task.now.names.now task.now.places.now task.now.c limits
         work.old work.new t.st t.x result }
 {
     let x = t.x;
     let st = t.st;
-    match find_corner(s, names, c, work, x) {
+    match find_corner(task.s, task.names, task.c, work, x) {
         Corner::Settled => Ok(put_settled(work, st, x)),
         Corner::Blocked => Err(Unplanned::Declined(stuck(st.budget))),
-        Corner::Optional(p) => step_at(s, names, places, limits, work, t, p, true),
-        Corner::Satellite(p) => step_at(s, names, places, limits, work, t, p, false),
+        Corner::Optional(p) => step_at(task, limits, work, t, p, Step::Split),
+        Corner::Satellite(p) => step_at(task, limits, work, t, p, Step::Splice),
     }
 }
 
 // The next alternative is taken, and settled, or a step is made on it.
 pub fn take_turn(
-    s: &Sheet,
-    names: &[u32],
-    places: &[u32],
-    c: Cycle,
+    task: &Task,
     limits: Limits,
     work: &mut [u8],
     st: State,
 ) -> Result<State, Unplanned>
-    requires bounds { (s.now.end ≤ most_words) × LimitsFit limits × HasNext st }
-    requires shut { Shut (Ready (text s.now) s.now.end work.old st 0 0 0) }
-    requires shut_ground { Shut (Ground (text s.now) s.now.end names.now places.now c) }
-    ensures { TurnedTo (text s.now) s.now.end names.now places.now c limits
+    requires bounds { (task.now.s.now.end ≤ most_words) × HasNext st }
+    requires shut { Shut (Ready (text task.now.s.now) task.now.s.now.end work.old st 0 0 0) }
+    requires grounded { Shut (Grounded task.now) }
+    ensures { TurnedTo (text task.now.s.now) task.now.s.now.end task.now.names.now task.now.places.now task.now.c limits
         work.old work.new st result }
 {
-    let t = take(s, work, st);
-    act(s, names, places, c, limits, work, t)
+    let t = take(task.s, work, st);
+    act(task, limits, work, t)
 }

@@ -45,7 +45,7 @@ use Rattle.run.specs.Midst.{Begun}
 use Rattle.run.specs.Turn.{Small, RunOf}
 use Rattle.run.specs.declared.state.Ended.{Ended}
 use Rattle.turns.specs.Midway.{limits_of, IsStandard}
-use Rattle.turns.specs.declared.state.Limits.{Limits}
+use Rattle.turns.specs.declared.limits.Limits.{Limits}
 use Rattle.pass.specs.Handed.{Answered, Lent, WasSheet}
 
 -- The parser's kind alone has its number.

@@ -21,7 +21,7 @@ use Rattle.analysis.specs.Facts.{Among, Standing, FactsOf}
 use Rattle.hub.specs.Grounds.{rules_of, grammar_at}
 use Rattle.analysis.specs.declared.rounds.Marks.{Marks}
 use Rattle.analysis.proofs.Laws.Standing.{key_at, all_rules, id_at, rule_of}
-use Rattle.turns.specs.declared.state.Limits.{Limits}
+use Rattle.turns.specs.declared.limits.Limits.{Limits}
 use Rattle.plan.specs.declared.search.Found.{Found}
 use Rattle.plan.specs.Search.{RulesKnown, FoundOf, cycles_of, JoinedKnown, TriedOf}
 

@@ -4,21 +4,11 @@ use mathlib.Core.List.{List}
 use mathlib.Core.Bool.{Bool}
 use Rattle.grammar.specs.Numbers.{most_words}
 use Rattle.records.specs.declared.rules.Rules.{Rules}
-use Rattle.reach.specs.Rows.{RowOf}
 use Rattle.analysis.specs.Facts.{Standing, FactsFound}
 use Rattle.analysis.specs.declared.rounds.Marks.{Marks}
 use Rattle.hub.specs.Preserved.{between}
 use Rattle.plan.specs.Search.{RulesKnown}
-use Rattle.plan.specs.Ground.{KeptAt, KeptOf}
-
-pub kept_order : {bs : List ℕ} {from to : ℕ} → KeptAt bs from to → from ≤ to
-kept_order k = k.order
-
-pub kept_row : {ws : List ℕ} {from to : ℕ} {rules : Rules} {r : List ℕ} → RowOf rules.ids rules.n (between ws from to) r
-    → KeptOf ws from to rules r
-kept_row r = record { row = r }
-
-pub ruleset grounds = (kept_order, kept_row)
+use Rattle.plan.specs.Ground.{KeptOf}
 
 unfoldable pub ground_known : {ws : List ℕ} {end to : ℕ} {rules : Rules} {past : Bool} {calls corners : List (List ℕ)} {marks : Marks} {kept : List ℕ}
     → FactsFound ws end rules past calls corners marks → KeptOf ws end to rules kept → end ≤ most_words

@@ -25,7 +25,7 @@ use Rattle.planned.specs.List.{Laid, AllIn}
 use Rattle.turns.specs.Ground.{Ground}
 use Rattle.turns.specs.Midway.{limits_of}
 use Rattle.substitution.specs.Run.{MadeTo, MadeOf}
-use Rattle.turns.specs.declared.state.Limits.{Limits}
+use Rattle.turns.specs.declared.limits.Limits.{Limits}
 use Rattle.substitution.specs.declared.turning.Done.{Done}
 use Rattle.std.specs.Prelude.{Option, Some, None, Result, Ok, Err}
 use Rattle.steps.specs.declared.decide.Clause.TheVariants.{NoSteps}

@@ -23,15 +23,16 @@ use Rattle.analysis.specs.declared.rounds.Marks.{Marks}
 use Rattle.hub.specs.Grounds.{IsCycle}
 use Rattle.hub.proofs.Laws.Cycle.{listed_cycle}
 use Rattle.steps.specs.Decide.{clause_of, DeclinedByNumber}
-use Rattle.turns.specs.declared.state.Limits.{Limits}
+use Rattle.turns.specs.declared.limits.Limits.{Limits}
 use Rattle.plan.specs.declared.plan.Plan.{Plan}
 use Rattle.reference.specs.Substitute.{clause_number}
 use Rattle.std.specs.Prelude.{Option, Some, None, Result, Ok, Err}
 use Rattle.steps.specs.declared.decide.Clause.{Clause}
 use Rattle.turns.specs.declared.turn.Unplanned.{Unplanned}
 use Rattle.turns.specs.declared.turn.Unplanned.TheVariants.{Declined, Overfull}
-use Rattle.plan.specs.declared.search.Search.{Search}
-use Rattle.plan.specs.declared.search.Search.TheVariants.{NoPlan, Planned, TooLarge}
+use Rattle.words.specs.declared.numbers.Refusal.{Refusal}
+use Rattle.words.specs.declared.numbers.Refusal.TheVariants.{PlanTooLarge}
+use Rattle.plan.specs.declared.search.FoundPlan.{FoundPlan}
 use Rattle.plan.specs.declared.search.Found.{Found}
 use Rattle.plan.specs.Known.{CycleKnown}
 use Rattle.plan.specs.Decision.{DecidedAs, PlanOf}
@@ -86,7 +87,7 @@ module _ {ws : List ℕ} {end : ℕ} {rules : Rules} {past : Bool} {calls : List
 
   module _ {n k : ℕ} {left clauses : List ℕ} (g : Trying ws end rules past calls marks kept closed limits n k left clauses) where
     -- The answer at hand, behind those that were declined.
-    tried : {f : Found} {answer : Search} {bs : List ℕ} → Ended answer k clauses f
+    tried : {f : Found} {answer : Result (Option FoundPlan) Refusal} {bs : List ℕ} → Ended answer k clauses f
         → ((x : JoinedKnown ws end rules past calls marks kept closed) → AnswerIs x.known limits bs k answer)
         → TriedOf ws end rules past calls marks kept closed limits bs f
     tried e y =
@@ -101,7 +102,7 @@ module _ {ws : List ℕ} {end : ℕ} {rules : Rules} {past : Bool} {calls : List
         }
 
     no_more : {f : Found} (bs : List ℕ) → ((x : JoinedKnown ws end rules past calls marks kept closed) → length (all x) ≤ k)
-        → Ended NoPlan k clauses f → TriedOf ws end rules past calls marks kept closed limits bs f
+        → Ended (Ok None) k clauses f → TriedOf ws end rules past calls marks kept closed limits bs f
     unfolding search_cycles
     no_more bs l e =
         tried e λ x.
@@ -112,7 +113,7 @@ module _ {ws : List ℕ} {end : ℕ} {rules : Rules} {past : Bool} {calls : List
         }
 
     -- As many were declined as there are rules.
-    pub try_full : {f : Found} (bs : List ℕ) → n ≤ k → Ended NoPlan n clauses f
+    pub try_full : {f : Found} (bs : List ℕ) → n ≤ k → Ended (Ok None) n clauses f
         → TriedOf ws end rules past calls marks kept closed limits bs f
     try_full bs l e =
         let z : n ≡ k = let h = g.low in omega arith in
@@ -123,7 +124,7 @@ module _ {ws : List ℕ} {end : ℕ} {rules : Rules} {past : Bool} {calls : List
       ids x = rw g.size (graph_ids x)
 
       -- None is left.
-      pub try_done : {f : Found} (bs : List ℕ) → o ≡ None → Ended NoPlan k clauses f
+      pub try_done : {f : Found} (bs : List ℕ) → o ≡ None → Ended (Ok None) k clauses f
           → TriedOf ws end rules past calls marks kept closed limits bs f
       try_done bs d e =
           no_more bs
@@ -212,7 +213,7 @@ module _ {ws : List ℕ} {end : ℕ} {rules : Rules} {past : Bool} {calls : List
               }
 
           pub try_planned : {f : Found} {plan : Plan} → t ≡ Ok plan
-              → Ended (Planned (record { plan = plan; members = r.members })) k clauses f
+              → Ended (Ok (Some (record { plan = plan; members = r.members }))) k clauses f
               → TriedOf ws end rules past calls marks kept closed limits bs f
           unfolding search_cycles
           try_planned z e =
@@ -226,10 +227,10 @@ module _ {ws : List ℕ} {end : ℕ} {rules : Rules} {past : Bool} {calls : List
                 same = h.same;
               }
 
-          pub try_overfull : {f : Found} → t ≡ Err Overfull → Ended TooLarge k clauses f
+          pub try_overfull : {f : Found} → t ≡ Err Overfull → Ended (Err PlanTooLarge) k clauses f
               → TriedOf ws end rules past calls marks kept closed limits bs f
           unfolding search_cycles
           try_overfull z e =
-              tried e λ x. record { low = inside x; over = here x z; is = next x ∙ rw (here x z, search_cycles) refl }
+              tried e λ x. record { low = inside x; over = here x z; is = next x ∙ rw (here x z, search_cycles) refl; refusal = refl }
 
 pub ruleset trying = (try_all, try_next, try_planned, try_overfull)

@@ -20,7 +20,7 @@ use Rattle.hub.specs.Hub.{HubIs, Chosen}
 use Rattle.hub.specs.Inlinable.{AllInlinable}
 use Rattle.hub.proofs.Laws.Grounds.{at_place, with_id}
 use Rattle.turns.specs.Midway.{limits_of}
-use Rattle.turns.specs.declared.state.Limits.{Limits}
+use Rattle.turns.specs.declared.limits.Limits.{Limits}
 use Rattle.std.specs.Prelude.{Option, Some, None, Result, Err}
 use Rattle.steps.specs.declared.decide.Clause.TheVariants.{NoHub, HubWithArguments, SatelliteNotInlinable}
 use Rattle.turns.specs.declared.turn.Unplanned.{Unplanned}

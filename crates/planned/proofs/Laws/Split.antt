@@ -1,38 +1,21 @@
 -- The alternative in hand, split into two.
 use Prim.Native.Nat.{ℕ, ◌+◌, ◌-◌, ◌*◌, ◌<◌, ◌≤◌}
-use mathlib.Core.Path.{◌≡◌, refl, sym, ◌∙◌}
+use mathlib.Core.Path.{◌≡◌, refl, ◌∙◌}
 use mathlib.Core.List.{List}
 use native.Mathlib.Omega.{arith}
 use Rattle.grammar.specs.Tree.{Element, Block}
 use Rattle.reference.specs.Substitute.{split_optional, without, with_plain}
-use Rattle.planned.specs.Layout.{marked, place_of, meaning}
+use Rattle.planned.specs.Layout.{place_of, meaning}
 use Rattle.planned.specs.List.{alternatives_in, elements_in, options_in, InHand, ListedIn, CallAt}
 use Rattle.planned.specs.Moves.{Pushed, PushedSplit}
-use Rattle.planned.specs.Split.{MadePlain, BareOf, with_other, SameHand, PushedAbsent, PushedPresent}
+use Rattle.planned.specs.Split.{BareOf, with_other, SameHand, PushedAbsent, PushedPresent}
 use Rattle.planned.specs.Laws.Parts.{Copied, meaning_copied, listed_copied}
-use Rattle.planned.specs.Laws.Items.{unmarked_place, is_marked_lem, marked_place}
+use Rattle.planned.specs.Laws.Items.{unmarked_place}
 use Rattle.planned.specs.Laws.Kept.{pushed_then}
 use Rattle.planned.proofs.Laws.Absent.{pushed_absent}
 use Rattle.planned.proofs.Laws.Present.{wrote_present, present_writable, pushed_present}
 use Rattle.planned.specs.declared.list.Sizes.{Sizes}
 use Rattle.planned.specs.declared.list.Listed.{Listed}
-
--- A half with its mark, and without it.
-module _ {h : ℕ} where
-  pub place_low : h < marked → h ≡ place_of h
-  place_low l = sym (unmarked_place l)
-
-  pub place_high : marked ≤ h → h - marked ≡ place_of h
-  place_high l = sym (marked_place l)
-
-  pub plain_low : h < marked → MadePlain h (h + marked)
-  plain_low l =
-      let m : marked ≤ h + marked = omega arith in
-      let e : h + marked - marked ≡ h = omega arith in
-      record { made = is_marked_lem m; place = marked_place m ∙ e ∙ sym (unmarked_place l) }
-
-  pub plain_high : marked ≤ h → MadePlain h h
-  plain_high l = record { made = is_marked_lem l; place = refl }
 
 module _ {h x : Listed} (b : BareOf h x) where
   bare_place : place_of x.slot ≡ place_of h.slot
@@ -118,7 +101,5 @@ module _ {b₀ b₁ b₂ : List ℕ} {l m r : Sizes} {h x : Listed} {index : ℕ
         };
         long = q.hand.long ∙ p.hand.long;
       }
-
-pub ruleset marks = (place_low, place_high, plain_low, plain_high)
 
 pub ruleset splitting = (pushed_absent, wrote_present, present_writable, pushed_present, split_done)

@@ -10,9 +10,10 @@ use Rattle.analysis.specs.Facts.{Standing, FactsFound}
 use Rattle.analysis.specs.declared.rounds.Marks.{Marks}
 use Rattle.hub.specs.Preserved.{between}
 use Rattle.turns.specs.Midway.{limits_of, IsStandard}
-use Rattle.turns.specs.declared.state.Limits.{Limits}
-use Rattle.plan.specs.declared.search.Search.{Search}
-use Rattle.plan.specs.declared.search.Search.TheVariants.{NoPlan, Planned, TooLarge}
+use Rattle.turns.specs.declared.limits.Limits.{Limits}
+use Rattle.std.specs.Prelude.{Option, Some, None, Result, Ok, Err}
+use Rattle.words.specs.declared.numbers.Refusal.{Refusal}
+use Rattle.plan.specs.declared.search.FoundPlan.{FoundPlan}
 use Rattle.plan.specs.declared.search.Found.{Found}
 use Rattle.plan.specs.Search.{AnswerIs, FoundOf}
 use Rattle.plan.specs.Ground.{KeptOf}
@@ -22,13 +23,13 @@ use Rattle.plans.specs.First.{SearchAs, FirstAs, FirstOf}
 module _ {ws : List ℕ} {end to : ℕ} {rules : Rules} {past : Bool} {calls corners : List (List ℕ)} {marks : Marks} {kept : List ℕ}
     (f : FactsFound ws end rules past calls corners marks) (k : KeptOf ws end to rules kept) (small : end ≤ most_words) where
   module _ (limits : Limits) (bs : List ℕ) where
-    answer_as : (s : Standing ws end rules) (place : ℕ) (a : Search) → AnswerIs (ground_known f k small s) limits bs place a
+    answer_as : (s : Standing ws end rules) (place : ℕ) (a : Result (Option FoundPlan) Refusal) → AnswerIs (ground_known f k small s) limits bs place a
         → SearchAs (limits_of limits) ws end rules.ids rules.n bs (reading past) s.rows.found.trees (between ws end to) place a
     unfolding ground_known
-    answer_as s place NoPlan x = record { all = x.all; is = x.is }
-    answer_as s place (Planned p) x =
+    answer_as s place (Ok None) x = record { all = x.all; is = x.is }
+    answer_as s place (Ok (Some p)) x =
         record { plan = x.plan; low = x.low; is = x.is; members = x.is_cycle.row; same = x.same }
-    answer_as s place TooLarge x = record { low = x.low; over = x.over; is = x.is }
+    answer_as s place (Err e) x = record { low = x.low; over = x.over; is = x.is }
 
   module _ {limits : Limits} {bs : List ℕ} {r : Found} where
     pub first_found : IsStandard limits → FoundOf ws end rules past calls corners marks kept limits bs r → FirstOf ws end to rules past bs r

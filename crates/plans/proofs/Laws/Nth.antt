@@ -18,8 +18,8 @@ use Rattle.analysis.specs.Survey.{reading}
 use Rattle.analysis.specs.Facts.{Standing, FactsFound}
 use Rattle.analysis.specs.declared.rounds.Marks.{Marks}
 use Rattle.hub.specs.Preserved.{between}
-use Rattle.turns.specs.Midway.{LimitsFit, IsStandard}
-use Rattle.turns.specs.declared.state.Limits.{Limits}
+use Rattle.turns.specs.Midway.{IsStandard}
+use Rattle.turns.specs.declared.limits.Limits.{Limits}
 use Rattle.std.specs.Prelude.{Some, None, Result}
 use Rattle.turns.specs.declared.turn.Unplanned.{Unplanned}
 use Rattle.plan.specs.declared.plan.Plan.{Plan}
@@ -35,9 +35,6 @@ capped_low n l = omega arith
 
 pub capped_high : (n : ℕ) → word_end - 1 ≤ n → word_end - 1 ≡ capped n
 capped_high n l = omega arith
-
-pub standard_fits : {l : Limits} → IsStandard l → LimitsFit l
-standard_fits s = s.fits
 
 module _ {ws : List ℕ} {end to : ℕ} {rules : Rules} {past : Bool} {calls corners : List (List ℕ)} {marks : Marks} {kept : List ℕ}
     (f : FactsFound ws end rules past calls corners marks) (k : KeptOf ws end to rules kept) (small : end ≤ most_words) where
@@ -110,4 +107,4 @@ module _ {ws : List ℕ} {end to : ℕ} {rules : Rules} {past : Bool} {calls cor
                 };
           }
 
-pub ruleset nths = (capped_low, capped_high, standard_fits, nth_none, nth_known, nth_some)
+pub ruleset nths = (capped_low, capped_high, nth_none, nth_known, nth_some)

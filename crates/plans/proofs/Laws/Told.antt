@@ -24,8 +24,7 @@ use Rattle.std.specs.Prelude.{Option, Some, None, Result, Ok, Err}
 use Rattle.turns.specs.declared.turn.Unplanned.{Unplanned}
 use Rattle.turns.specs.declared.turn.Unplanned.TheVariants.{Declined, Overfull}
 use Rattle.plan.specs.declared.plan.Plan.{Plan}
-use Rattle.plan.specs.declared.search.Search.{Search}
-use Rattle.plan.specs.declared.search.Search.TheVariants as S
+use Rattle.plan.specs.declared.search.FoundPlan.{FoundPlan}
 use Rattle.plans.specs.declared.nth.Nth.{Nth}
 use Rattle.plans.specs.Nth.{ChoiceAs, NthAs, NthOf, choice_numbers, nth_numbers, nth_row, left_by}
 use Rattle.plans.specs.Told.{Cleared, NthToldOf, NthTold, FirstToldOf, FirstTold}
@@ -83,12 +82,12 @@ module _ (ws : List ℕ) (end : ℕ) (ids : List ℕ) (n : ℕ) (list : List ℕ
         choice = choice_left nth t.cycles t.choice (e ∙ ap (λ l. left_by l list) f) h.choice;
       }
 
-  search_left : (place : ℕ) (x : Search) → after ≡ left_by (search_numbers place x) list → SearchAs standard ws end ids n list c rs ps place x
+  search_left : (place : ℕ) (x : Result (Option FoundPlan) Refusal) → after ≡ left_by (search_numbers place x) list → SearchAs standard ws end ids n list c rs ps place x
       → SearchAs standard ws end ids n after c rs ps place x
   unfolding left_by
-  search_left place S.NoPlan e h = record { all = h.all; is = h.is }
-  search_left place (S.Planned p) e h = subst (λ b. SearchAs standard ws end ids n b c rs ps place (S.Planned p)) (sym e) h
-  search_left place S.TooLarge e h = record { low = h.low; over = h.over; is = h.is }
+  search_left place (Ok None) e h = record { all = h.all; is = h.is }
+  search_left place (Ok (Some p)) e h = subst (λ b. SearchAs standard ws end ids n b c rs ps place (Ok (Some p))) (sym e) h
+  search_left place (Err f) e h = record { low = h.low; over = h.over; is = h.is }
 
   first_left : {t : Found} {numbers : List ℕ} → numbers ≡ search_numbers t.declined t.answer → after ≡ left_by numbers list
       → FirstAs standard ws end ids n list c rs ps t → FirstAs standard ws end ids n after c rs ps t

@@ -15,10 +15,11 @@ use Rattle.laws.specs.Running.Midway.{SoFar, midway_so_far, midway_next}
 use Rattle.words.specs.Room.{Room}
 use Rattle.analysis.specs.Survey.{reading}
 use Rattle.turns.specs.Midway.{limits_of}
-use Rattle.turns.specs.declared.state.Limits.{Limits}
+use Rattle.turns.specs.declared.limits.Limits.{Limits}
 use Rattle.plan.specs.declared.plan.Plan.{Plan}
-use Rattle.plan.specs.declared.search.Search.{Search}
-use Rattle.plan.specs.declared.search.Search.TheVariants.{NoPlan, Planned, TooLarge}
+use Rattle.std.specs.Prelude.{Option, Some, None, Result, Ok, Err}
+use Rattle.words.specs.declared.numbers.Refusal.{Refusal}
+use Rattle.words.specs.declared.numbers.Refusal.TheVariants.{PlanTooLarge}
 use Rattle.plan.specs.declared.search.Found.{Found}
 use Rattle.plan.specs.declared.search.FoundPlan.{FoundPlan}
 use Rattle.plan.specs.Search.{RulesKnown, FoundOf, AnswerIs}
@@ -62,18 +63,22 @@ module _ {limits : R.Limits} {past : Bool} {s : Sheet} {result trail : List ℕ}
 module _ {lim : Limits} {past : Bool} {s : Sheet} {result trail : List ℕ} {calls corners : List (List ℕ)} {st : State}
     (m : Midst (limits_of lim) past s result trail calls corners st) {bs : List ℕ} {r : Found}
     (o : FoundOf (words result) st.at.end st.at.rules past calls corners st.marks st.kept lim bs r) where
-  pub answer_at : {a : Search} → r.answer ≡ a → AnswerIs (midst_known m) lim bs r.declined a
+  pub answer_at : {a : Result (Option FoundPlan) Refusal} → r.answer ≡ a → AnswerIs (midst_known m) lim bs r.declined a
   answer_at e = subst (λ a. AnswerIs (midst_known m) lim bs r.declined a) e (o.is (midst_known m)).answer
 
-  pub found_none : r.answer ≡ NoPlan → find_plan (limits_of lim) (reading past) s.preserved m.now.rules ≡ no_plan
+  pub found_none : r.answer ≡ Ok None → find_plan (limits_of lim) (reading past) s.preserved m.now.rules ≡ no_plan
   unfolding midst_known held_standing
   found_none e = (answer_at e).is
 
-  pub found_large : r.answer ≡ TooLarge → find_plan (limits_of lim) (reading past) s.preserved m.now.rules ≡ too_large
-  unfolding midst_known held_standing
-  found_large e = (answer_at e).is
+  module _ {f : Refusal} (e : r.answer ≡ Err f) where
+    pub found_large : find_plan (limits_of lim) (reading past) s.preserved m.now.rules ≡ too_large
+    unfolding midst_known held_standing
+    found_large = (answer_at e).is
 
-  unfoldable pub found_planned : {f : FoundPlan} {p : Plan} → r.answer ≡ Planned f → p ≡ f.plan
+    pub found_refusal : f ≡ PlanTooLarge
+    found_refusal = (answer_at e).refusal
+
+  unfoldable pub found_planned : {f : FoundPlan} {p : Plan} → r.answer ≡ Ok (Some f) → p ≡ f.plan
       → Advancing (limits_of lim) past result trail bs calls corners st p
   unfolding midst_known held_standing
   found_planned {f} {p} e g =

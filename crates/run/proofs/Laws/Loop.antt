@@ -13,8 +13,8 @@ use Rattle.records.specs.declared.rules.Rules.{Rules}
 use Rattle.analysis.specs.Facts.{FactsFound}
 use Rattle.analysis.specs.declared.rounds.Marks.{Marks}
 use Rattle.reference.specs.Substitute as R
-use Rattle.turns.specs.Midway.{LimitsFit, limits_of}
-use Rattle.turns.specs.declared.state.Limits.{Limits}
+use Rattle.turns.specs.Midway.{limits_of}
+use Rattle.turns.specs.declared.limits.Limits.{Limits}
 use Rattle.plan.specs.Ground.{KeptOf}
 use Rattle.apply.specs.Applied.{Buffers}
 use Rattle.run.specs.declared.state.State.{State}
@@ -37,7 +37,6 @@ module _ (lim : Limits) (past : Bool) (room : ℕ) (result₀ : List ℕ) (end t
     (result trail work : List ℕ) (calls corners : List (List ℕ)) (st : State) where
   pub record Looping : Type 0 where
     pub lent : Buffers result trail work
-    pub fit : LimitsFit lim
     pub small : Small lim
     pub most : room ≡ most_words
     pub calls_long : length calls ≡ rule_limit
@@ -49,17 +48,16 @@ module _ (lim : Limits) (past : Bool) (room : ℕ) (result₀ : List ℕ) (end t
 module _ {lim : Limits} {past : Bool} {room : ℕ} {result₀ : List ℕ} {end to : ℕ} {rules : Rules} {counters : Counters} where
   -- The trail has no entries yet, and the work area is as long as it was lent.
   pub looping_start : {trail work work₀ : List ℕ} {calls corners : List (List ℕ)} {marks : Marks} {kept : List ℕ} {recorded : ℕ} {st : State}
-      → Buffers result₀ trail work₀ → LimitsFit lim → Small lim → room ≡ most_words → recorded ≡ 0 → Begun result₀ end to rules counters
+      → Buffers result₀ trail work₀ → Small lim → room ≡ most_words → recorded ≡ 0 → Begun result₀ end to rules counters
       → FactsFound (words result₀) end rules past calls corners marks → KeptOf (words result₀) end to rules kept
       → length calls ≡ rule_limit → length corners ≡ rule_limit → length work ≡ length work₀
       → st ≡ at_start rules marks kept counters end to recorded
       → Looping lim past room result₀ end to st.at.rules st.at.counters result₀ trail work calls corners st
-  looping_start {trail} {work} {work₀} {calls} {corners} b f s m z x g k lc lo w e =
+  looping_start {trail} {work} {work₀} {calls} {corners} b s m z x g k lc lo w e =
       let o = onward_begin trail z g k in
       subst (λ y. Looping lim past room result₀ end to y.at.rules y.at.counters result₀ trail work calls corners y) (sym e)
       (record {
         lent = buffers_same b refl refl w;
-        fit = f;
         small = s;
         most = m;
         calls_long = lc;
@@ -81,7 +79,6 @@ module _ {lim : Limits} {past : Bool} {room : ℕ} {result₀ : List ℕ} {end t
             let o = onward_more l.onward t in
             record {
               lent = buffers_same l.lent i j k;
-              fit = l.fit;
               small = l.small;
               most = l.most;
               calls_long = lc;

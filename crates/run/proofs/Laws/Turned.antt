@@ -6,31 +6,29 @@ use mathlib.Core.List.{List}
 use mathlib.Core.Bool.{Bool}
 use Rattle.grammar.specs.Words.{words}
 use Rattle.turns.specs.Midway.{limits_of}
-use Rattle.turns.specs.declared.state.Limits.{Limits}
+use Rattle.turns.specs.declared.limits.Limits.{Limits}
 use Rattle.plan.specs.declared.plan.Plan.{Plan}
-use Rattle.plan.specs.declared.search.Search.TheVariants.{NoPlan, Planned, TooLarge}
 use Rattle.plan.specs.declared.search.Found.{Found}
 use Rattle.plan.specs.declared.search.FoundPlan.{FoundPlan}
 use Rattle.plan.specs.Search.{FoundOf}
 use Rattle.run.specs.declared.state.State.{State}
 use Rattle.words.specs.declared.numbers.Refusal.{Refusal}
-use Rattle.words.specs.declared.numbers.Refusal.TheVariants.{PlanTooLarge}
 use Rattle.run.specs.Midst.{Going}
 use Rattle.run.specs.Turn.{Advancing, AdvancedOf, TurnedOf}
-use Rattle.run.proofs.Laws.Known.{midst_room, midst_small, midst_known, found_none, found_large, found_planned}
+use Rattle.run.proofs.Laws.Known.{midst_room, midst_small, midst_known, found_none, found_large, found_refusal, found_planned}
 use Rattle.run.proofs.Laws.Over.{turned_none, turned_large}
 
 module _ {lim : Limits} {past : Bool} {result trail : List ℕ} {calls corners : List (List ℕ)} {st : State} {bs : List ℕ} {r : Found}
     (o : FoundOf (words result) st.at.end st.at.rules past calls corners st.marks st.kept lim bs r) where
-  pub turn_none : r.answer ≡ NoPlan
+  pub turn_none : r.answer ≡ Ok None
       → TurnedOf (limits_of lim) past result trail calls corners st result trail calls corners (Ok None)
   turn_none e = record { is = λ s m. turned_none m (found_none m o e) }
 
-  pub turn_large : r.answer ≡ TooLarge
-      → TurnedOf (limits_of lim) past result trail calls corners st result trail calls corners (Err PlanTooLarge)
-  turn_large e = record { is = λ s m. turned_large m (found_large m o e) }
+  pub turn_large : {f : Refusal} → r.answer ≡ Err f
+      → TurnedOf (limits_of lim) past result trail calls corners st result trail calls corners (Err f)
+  turn_large e = record { is = λ s m. rw (found_refusal m o e) (turned_large m (found_large m o e)) }
 
-  module _ {f : FoundPlan} {p : Plan} (e : r.answer ≡ Planned f) (i : p ≡ f.plan) where
+  module _ {f : FoundPlan} {p : Plan} (e : r.answer ≡ Ok (Some f)) (i : p ≡ f.plan) where
     pub turn_advancing : Going (limits_of lim) past result trail calls corners st
         → Advancing (limits_of lim) past result trail bs calls corners st p
     turn_advancing g = found_planned g.midst o e i

@@ -7,15 +7,15 @@ use mathlib.Core.Bool.{Bool, true, false, ◌&&◌}
 use native.Mathlib.Omega.{arith}
 use lib.ListN.{length, get_or}
 use lib.Dec.{eqb, leb, eqb-suc-zero}
-use borrow.Author.Tests.{eqb-true, eqb-false, eq-eqb, ne_eqb, leb-true}
-use Rattle.grammar.specs.Numbers.{rule_limit, once, optional_greedy, call_kind, kind_end}
+use borrow.Author.Tests.{eqb-true, eqb-false, ne_eqb, leb-true, le-leb}
+use Rattle.grammar.specs.Numbers.{rule_limit, once, optional_greedy, one_or_more_nongreedy, call_kind, kind_end}
 use Rattle.grammar.specs.Tree.{Label, unlabelled, labelled, OptionDecl, ElementHead, Call, Leaf, epsilon, action, predicate, call, token}
 use Rattle.grammar.specs.Tree.{terminal, end_of_input, Element, leaf, Block}
 use Rattle.grammar.specs.Stands.{Spans}
 use Rattle.grammar.specs.Encode.{encode_leaf, leaf_kind, label_name}
 use Rattle.grammar.specs.Valid.{ok_leaf, ok_head, ok_label}
 use Rattle.grammar.specs.Lists.{member, is_empty}
-use Rattle.grammar.specs.Found.{HeadAt}
+use Rattle.grammar.specs.Found.{FoundElement, HeadAt}
 use Rattle.grammar.specs.Laws.Stands.{stands_head}
 use Rattle.grammar.specs.Laws.Parse.{either, left_true, right_true}
 use Rattle.grammar.specs.Laws.Complete.{leaf_kind_lem}
@@ -27,33 +27,16 @@ use Rattle.reference.specs.Substitute.{plain_head}
 use Rattle.reach.specs.Rows.{bit}
 use Rattle.analysis.specs.Names.{IsTarget}
 use Rattle.std.specs.Prelude as P
+use Rattle.std.specs.Prelude.{is_ok, Result, Ok}
+use Rattle.words.specs.Kinds.{Names, quantifier_number}
+use Rattle.words.specs.Laws.Kinds.{quantifier_named}
+use Rattle.words.specs.declared.numbers.Quantifier.{Quantifier}
+use Rattle.words.specs.declared.numbers.Unnamed.{Unnamed}
 use Rattle.planned.specs.Layout.{made_if}
 use Rattle.steps.specs.Corner.{CycleBy, bare_at, quantifier_at, met_corner, MetIn, met_by, met_member, CallMet, ItemMet}
 use Rattle.steps.specs.declared.corner.Cycle.{Cycle}
 use Rattle.steps.specs.declared.corner.Met.{Met}
-use Rattle.steps.specs.declared.corner.Met.TheVariants.{Silent, Settled, Blocked, Optional, Satellite}
-
--- What is met at a call of a member, test by test.
-module _ (bare : Bool) {q : ℕ} (t hub : ℕ) where
-  pub met_optional : q ≡ optional_greedy → bare ≡ true → Optional t ≡ met_member bare q t hub
-  met_optional e b = rw (e, b) refl
-
-  pub met_labelled : q ≡ optional_greedy → bare ≡ false → Blocked ≡ met_member bare q t hub
-  met_labelled e b = rw (e, b) refl
-
-  pub met_repeated : (q ≡ optional_greedy → ⊥) → (q ≡ once → ⊥) → Blocked ≡ met_member bare q t hub
-  met_repeated a b = rw (ne_eqb q optional_greedy a, ne_eqb q once b) refl
-
-  pub met_hub : q ≡ once → t ≡ hub → Settled ≡ met_member bare q t hub
-  met_hub a b = rw (a, eq-eqb t hub b) refl
-
-  pub met_satellite : q ≡ once → (t ≡ hub → ⊥) → bare ≡ true → Satellite t ≡ met_member bare q t hub
-  met_satellite a b c = rw (a, ne_eqb t hub b, c) refl
-
-  pub met_blocked : q ≡ once → (t ≡ hub → ⊥) → bare ≡ false → Blocked ≡ met_member bare q t hub
-  met_blocked a b c = rw (a, ne_eqb t hub b, c) refl
-
-pub ruleset members = (met_optional, met_labelled, met_repeated, met_hub, met_satellite, met_blocked)
+use Rattle.steps.specs.declared.corner.Met.TheVariants.{Silent, Settled}
 
 -- The definition by the same tests.
 abbrev corner_to : (is_optional bare is_once of_hub : Bool) → ℕ → PlannedCorner
@@ -154,22 +137,26 @@ target_low a {i} e l = let b = (a.rule i e).below in omega arith
 
 pub ruleset calls = (call_unknown, call_outside, call_member, target_low)
 
--- Whether a call is bare, word by word.
-module _ (ws : List ℕ) (at p : ℕ) {l : ℕ} (e : l ≡ get_or ws (at + 4) 0) where
-  pub bare_labelled : (l ≡ 0 → ⊥) → false ≡ bare_at ws at p
-  bare_labelled f = rw (← e, ne_eqb l 0 f) refl
+-- The quantifier of an element that stands in a sheet is one of the seven.
+module _ (d : ℕ) {ws : List ℕ} {end at : ℕ} (f : FoundElement ws end d at) {w : ℕ} (g : w ≡ get_or ws (at + 2) 0)
+    (r : Result Quantifier Unnamed) (m : Names quantifier_number (w / kind_end) r) where
+  most : w / kind_end ≤ one_or_more_nongreedy
+  unfolding ok_head
+  most = go (opened f.tree f.spans)
+    where
+      go : {e : Element (Block d)} → Opened ws end d at f.next e → w / kind_end ≤ one_or_more_nongreedy
+      go (opened_leaf {h = h} {l = l} p o s) =
+          let x = (leaf_kind_lem l).under in
+          let y = o.packed in
+          let z = leb-true h.quantifier one_or_more_nongreedy (left_true (leb h.quantifier one_or_more_nongreedy) _ o.fine) in
+          omega arith
+      go (opened_block {h = h} p o s) =
+          let y = o.packed in
+          let z = leb-true h.quantifier one_or_more_nongreedy (left_true (leb h.quantifier one_or_more_nongreedy) _ o.fine) in
+          omega arith
 
-  module _ (z : l ≡ 0) {a : ℕ} (f : a ≡ get_or ws (p + 1) 0) where
-    pub bare_given : (a ≡ 0 → ⊥) → false ≡ bare_at ws at p
-    bare_given g = rw (← e, z, ← f, ne_eqb a 0 g) refl
-
-    pub bare_all : a ≡ 0 → {o : ℕ} → o ≡ get_or ws (at + 5) 0 → eqb o 0 ≡ bare_at ws at p
-    bare_all g h = rw (← e, z, ← f, g, ← h) refl
-
-pub ruleset bareness = (bare_labelled, bare_given, bare_all)
-
-pub quantifier_word : (ws : List ℕ) (at : ℕ) {w : ℕ} (made : Bool) → w ≡ get_or ws (at + 2) 0 → made ≡ false → w / kind_end ≡ quantifier_at ws at made
-quantifier_word ws at made e f = rw (e, f) refl
+  pub quantifier_known : is_ok r ≡ true
+  quantifier_known = quantifier_named (w / kind_end) r m ∙ le-leb (w / kind_end) one_or_more_nongreedy most
 
 -- The words of a call say whether it is bare.
 module _ {ws : List ℕ} {end at p q kind : ℕ} {h : ElementHead} (w : HeadWords ws end at h kind p) (k : Call)

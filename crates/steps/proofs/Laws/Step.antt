@@ -20,11 +20,13 @@ use Rattle.collisions.specs.Quiet.{is_quiet}
 use Rattle.collisions.specs.Mark.{MarkedAround}
 use Rattle.collisions.proofs.Laws.Silent.{quiet_silent}
 use Rattle.steps.specs.Decide.{DeclinedBy, SmallSize, HandFits, RuleSized}
-use Rattle.steps.specs.Step.{RuleNamed, RuleUnreferring, step_by, GoesTo, DecisionOf, PreparedFor, DecidedAt}
+use Rattle.steps.specs.Step.{splits, RuleNamed, RuleUnreferring, step_by, GoesTo, DecisionOf, PreparedFor, DecidedAt}
 use Rattle.std.specs.Prelude.{Result, Ok, Err}
 use Rattle.steps.specs.declared.decide.Clause.{Clause}
 use Rattle.steps.specs.declared.decide.Clause.TheVariants.{DanglingReference}
 use Rattle.steps.specs.declared.step.Prepared.{Prepared}
+use Rattle.steps.specs.declared.step.Step.{Step}
+use Rattle.steps.specs.declared.step.Step.TheVariants.{Split, Splice}
 
 false_true : {b : Bool} → b ≡ true → b ≡ false → ⊥
 false_true e f = let z : ◌≡◌ {A = ℕ} 0 1 = let g : true ≡ false = sym e ∙ f in cc in omega arith
@@ -52,6 +54,13 @@ module _ {ws : List ℕ} {end : ℕ} (d : ℕ) {es : List (Element (Block d))} {
       }
 
 pub ruleset preparing = (prepared_quiet, prepared_marked)
+
+module _ {k : Step} where
+  pub is_split : k ≡ Split → splits k ≡ true
+  is_split e = ap splits e
+
+  pub is_splice : k ≡ Splice → splits k ≡ false
+  is_splice e = ap splits e
 
 pub hand_fits : {h : Listed} {index : ℕ} → InHand h → index < h.ne → HandFits h
 hand_fits i l = let f = i.fit in record { some = omega arith; few_elements = omega arith; few_options = omega arith }
@@ -153,4 +162,4 @@ module _ {ws : List ℕ} {end d at : ℕ} {before after : List ℕ} {h : Listed}
               options = let x = w.options in omega arith;
             }
 
-pub ruleset steps = (hand_fits, step_dangling, step_split, step_splice)
+pub ruleset steps = (is_split, is_splice, hand_fits, step_dangling, step_split, step_splice)

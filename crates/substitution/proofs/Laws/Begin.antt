@@ -23,10 +23,10 @@ use Rattle.splices.specs.declared.splice.Size.{Size}
 use Rattle.turns.specs.Turns.{Substituting, substitution}
 use Rattle.substitution.specs.Size.{RuleCounted}
 use Rattle.turns.specs.Ground.{Ground, task_of}
-use Rattle.turns.specs.Midway.{Shut, shut, opened, Ready, Begun, LimitsFit, within_limits, limits_of}
+use Rattle.turns.specs.Midway.{Shut, shut, opened, Ready, Begun, within_limits, limits_of}
 use Rattle.substitution.specs.Run.{Going}
 use Rattle.steps.specs.declared.corner.Cycle.{Cycle}
-use Rattle.turns.specs.declared.state.Limits.{Limits}
+use Rattle.turns.specs.declared.limits.Limits.{Limits}
 use Rattle.turns.specs.declared.state.State.{State}
 use Rattle.turns.proofs.Laws.Midway.{retold}
 use Rattle.turns.proofs.Laws.Advance.{midway_same}
@@ -50,8 +50,7 @@ module _ {ws : List ℕ} {end : ℕ} {names places : List ℕ} {c : Cycle} (b : 
     pub hub_room : at + 4 ≤ end
     hub_room = target_room (opened b) low e
 
-    module _ {limits : Limits} {bs : List ℕ} {budget : ℕ} {z : Size} {st : State} {k : Bool} (fit : LimitsFit limits)
-        (large : work_bytes ≤ length bs) (counted : RuleCounted ws end at z)
+    module _ (limits : Limits) {bs : List ℕ} {budget : ℕ} {z : Size} {st : State} {k : Bool} (large : work_bytes ≤ length bs) (counted : RuleCounted ws end at z)
         (within : k ≡ within_limits limits z) (yes : k ≡ true) (begun : Begun (get_or ws (at + 3) 0) (at + 4) z budget st) where
       unfoldable ready : budget < 2 ^ 64 → Ready ws end bs st 0 0 0
       unfolding as_they_are
@@ -63,9 +62,9 @@ module _ {ws : List ℕ} {end : ℕ} {names places : List ℕ} {c : Cycle} (b : 
           let u = right_true (leb z.a limits.alternatives) _ t in
           let y = leb-true z.e limits.elements (left_true (leb z.e limits.elements) _ u) in
           let v = leb-true z.o limits.options (right_true (leb z.e limits.elements) _ u) in
-          let fa = fit.alternatives in
-          let fe = fit.elements in
-          let fo = fit.options in
+          let fa = limits.fit.few_alternatives in
+          let fe = limits.fit.few_elements in
+          let fo = limits.fit.few_options in
           let na = begun.empty.none.0 in
           let ne = begun.empty.none.1 in
           let no' = begun.empty.none.2 in
@@ -131,6 +130,3 @@ module _ {ws : List ℕ} {end : ℕ} {names places : List ℕ} {c : Cycle} (b : 
               }
 
 pub ruleset beginning = (hub_place, ground_open, hub_stands, hub_room, begun_ready, begun_going)
-
-pub ground_shut : {ws : List ℕ} {end : ℕ} {names places : List ℕ} {c : Cycle} → Ground ws end names places c → Shut (Ground ws end names places c)
-ground_shut b = shut b

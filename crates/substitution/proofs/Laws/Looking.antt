@@ -33,7 +33,7 @@ use Rattle.turns.specs.Turns.{Task, Replaced, IsSettled, substitution, Substitut
 use Rattle.substitution.specs.Run.{Untouched, MadeOf}
 use Rattle.substitution.specs.Over.{HubBeyond, InNeed, LookedAt, Unstored}
 use Rattle.steps.specs.declared.corner.Cycle.{Cycle}
-use Rattle.turns.specs.declared.state.Limits.{Limits}
+use Rattle.turns.specs.declared.limits.Limits.{Limits}
 use Rattle.std.specs.Prelude.{Option, None, Result, Ok, Err}
 use Rattle.steps.specs.declared.decide.Clause.{Clause}
 use Rattle.turns.specs.Turn.{UnplannedBy}
@@ -47,7 +47,7 @@ use Rattle.turns.proofs.Laws.Turns.{substituted, substitute_spent, settle_one, s
 
 -- The first that is in need of work ends the substitution.
 module _ {d : ℕ} {t : Task d} {start out : List (Planned d)} {p : Planned d} {ps : List (Planned d)} where
-  need_declines : {n : Clause} (left : ℕ) → Substituting t left start left 0 out (p ∷ ps) → InNeed t left p (Err (Declined n))
+  need_declines : {n : Clause} (left : ℕ) → Substituting t left start left 0 out (p ∷ ps) → InNeed t left p (Declined n)
       → DeclinedBy (substitution t left 0 start) n
   need_declines zero s k = rw (k.to.spent refl) (record { is = (substitute_spent s k.replaced refl).is })
   need_declines (suc left) s k =
@@ -55,7 +55,7 @@ module _ {d : ℕ} {t : Task d} {start out : List (Planned d)} {p : Planned d} {
       let v = k.to.declines some in
       record { is = (substitute_declined s (subst (Replaced t p) v.is k.replaced) some).is }
 
-  need_goes : (left : ℕ) → Substituting t left start left 0 out (p ∷ ps) → InNeed t left p (Err Overfull)
+  need_goes : (left : ℕ) → Substituting t left start left 0 out (p ∷ ps) → InNeed t left p Overfull
       → (t.limits.alternatives < length (out ++ (p ∷ ps))) ⊎ (t.limits.options < options_all (out ++ (p ∷ ps)))
       → substitution t left 0 start ≡ overfull
   need_goes left s k b =
@@ -87,18 +87,18 @@ module _ {t : Task inner_depth} {left : ℕ} {start : List (Planned inner_depth)
           run = settle_one k.run i;
         }
 
-    behind_declines : {n : Clause} → InNeed t left (as_it_is a) (Err (Declined n)) → DeclinedBy (substitution t left 0 start) n
+    behind_declines : {n : Clause} → InNeed t left (as_it_is a) (Declined n) → DeclinedBy (substitution t left 0 start) n
     unfolding as_they_are
     behind_declines n = need_declines left k.run n
 
-    behind_goes : InNeed t left (as_it_is a) (Err Overfull) → (t.limits.alternatives < length start) ⊎ (t.limits.options < options_all start)
+    behind_goes : InNeed t left (as_it_is a) Overfull → (t.limits.alternatives < length start) ⊎ (t.limits.options < options_all start)
         → substitution t left 0 start ≡ overfull
     unfolding as_they_are
     behind_goes n b =
         need_goes left k.run n
         (subst (λ ps. (t.limits.alternatives < length ps) ⊎ (t.limits.options < options_all ps)) (sym k.whole) b)
 
-    behind_ends : (e : Unplanned) → InNeed t left (as_it_is a) (Err e)
+    behind_ends : (e : Unplanned) → InNeed t left (as_it_is a) e
         → (t.limits.alternatives < length start) ⊎ (t.limits.options < options_all start)
         → UnplannedBy (substitution t left 0 start) e
     behind_ends (Declined n) i b = behind_declines i

@@ -21,8 +21,7 @@ use Rattle.splices.specs.declared.splice.Size.{Size}
 use Rattle.steps.specs.Corner.{CornerAt}
 use Rattle.steps.specs.Step.{RuleNamed, RuleUnreferring, DecidedAt}
 use Rattle.turns.specs.Ground.{Ground, task_of}
-use Rattle.turns.specs.Turns.{Task}
-use Rattle.substitution.specs.Over.{Stops, InNeed, LookTo, Reached, StepLooked, HandLooked, LookedAt}
+use Rattle.substitution.specs.Over.{Stops, LookTo, Reached, StepLooked, HandLooked, LookedAt}
 use Rattle.steps.specs.declared.corner.Cycle.{Cycle}
 use Rattle.steps.specs.declared.corner.Place.{Place}
 use Rattle.steps.specs.declared.corner.Corner.{Corner}
@@ -70,13 +69,13 @@ reached_index r = r.member.index
 
 -- The step.
 module _ {ws : List ℕ} {end : ℕ} {names places : List ℕ} {c : Cycle} {left : ℕ} (h : Listed) (p : Place) (optional : Bool) where
-  pub step_spent : (bs : List ℕ) → left ≡ 0 → StepLooked ws end names places c left bs bs h p optional (Err (Declined Budget))
+  pub step_spent : (bs : List ℕ) → left ≡ 0 → StepLooked ws end names places c left bs bs h p optional (Declined Budget)
   step_spent bs e = record { is = λ b a. record { spent = λ z. refl; declines = λ f. absurd (f e) }; long = refl }
 
   module _ {before after : List ℕ} {at : ℕ} {k : Result Size Clause} (f : left ≡ 0 → ⊥) (r : Reached c h.ne p optional)
       (e : at ≡ get_or places p.target 0) (v : DecidedAt ws end inner_depth at before after h p.index optional k) where
     pub step_declined : {n : Clause} → k ≡ Err n
-        → StepLooked ws end names places c left before after h p optional (Err (Declined n))
+        → StepLooked ws end names places c left before after h p optional (Declined n)
     step_declined g =
         record {
           is = λ b a.
@@ -85,7 +84,7 @@ module _ {ws : List ℕ} {end : ℕ} {names places : List ℕ} {c : Cycle} {left
           long = v.list.long;
         }
 
-    pub step_goes : {z : Size} → k ≡ Ok z → StepLooked ws end names places c left before after h p optional (Err Overfull)
+    pub step_goes : {z : Size} → k ≡ Ok z → StepLooked ws end names places c left before after h p optional Overfull
     step_goes g =
         record {
           is = λ b a.
@@ -108,10 +107,6 @@ pub ruleset reaching = (reached_name, reached_place, reached_found, reached_room
 pub ruleset stepping = (step_spent, step_declined, step_goes)
 
 -- The alternative that came into the hand.
-in_need : {d : ℕ} {t : Task d} {left : ℕ} {p : Planned d} (k : Result (Unit {0}) Unplanned) → InNeed t left p k → LookTo t left p k
-in_need (Ok u) n = absurd n.to
-in_need (Err e) n = n
-
 module _ {ws : List ℕ} {end : ℕ} {names : List ℕ} {c : Cycle} {bs : List ℕ} {h : Listed} {r : Corner} {p : Place}
     (w : CornerAt names c ws end inner_depth bs h r) where
   pub reached_optional : r ≡ C.Optional p → Reached c h.ne p true
@@ -139,24 +134,24 @@ module _ {ws : List ℕ} {end : ℕ} {names places : List ℕ} {c : Cycle} {left
         long = refl;
       }
 
-  module _ {after : List ℕ} {p : Place} (k : Result (Unit {0}) Unplanned) where
+  module _ {after : List ℕ} {p : Place} (k : Unplanned) where
     pub look_optional : r ≡ C.Optional p → StepLooked ws end names places c left bs after h p true k
-        → HandLooked ws end names places c left bs after h k
+        → HandLooked ws end names places c left bs after h (Err k)
     look_optional e m =
         record {
           is = λ b limits.
               let a = target_among b (reached_optional w e).member.rule refl in
-              in_need k (record { by = _; replaced = optional_corner b limits a (rw e at w); to = m.is b a });
+              record { by = _; replaced = optional_corner b limits a (rw e at w); to = m.is b a };
           long = m.long;
         }
 
     pub look_satellite : r ≡ C.Satellite p → StepLooked ws end names places c left bs after h p false k
-        → HandLooked ws end names places c left bs after h k
+        → HandLooked ws end names places c left bs after h (Err k)
     look_satellite e m =
         record {
           is = λ b limits.
               let a = target_among b (reached_satellite w e).member.rule refl in
-              in_need k (record { by = _; replaced = satellite_corner b limits a (rw e at w); to = m.is b a });
+              record { by = _; replaced = satellite_corner b limits a (rw e at w); to = m.is b a };
           long = m.long;
         }
 

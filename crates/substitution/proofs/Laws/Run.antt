@@ -2,41 +2,22 @@
 use Prim.Native.Nat.{ℕ, ◌<◌}
 use mathlib.Core.Path.{◌≡◌, refl, ap₂, ◌∙◌}
 use mathlib.Core.List.{List, [], ◌∷◌, ◌++◌}
-use mathlib.Core.Bool.{Bool, true, false, not}
+use mathlib.Core.Bool.{Bool, true, false}
 use native.Mathlib.Omega.{arith}
 use lib.ListN.{length}
 use Rattle.grammar.specs.Tree.{Alternative, inner_depth}
 use Rattle.reference.specs.Plan.{as_they_are}
 use Rattle.planned.specs.Layout.{stack}
-use Rattle.planned.specs.Moves.{IsDrained}
 use Rattle.turns.specs.Midway.{Shut, shut, opened, Ready, HasNext, NextIs}
 use Rattle.turns.specs.Turn.{TurnedTo, turns_left}
 use Rattle.substitution.specs.Run.{MadeOf, Going}
 use Rattle.steps.specs.declared.corner.Cycle.{Cycle}
-use Rattle.turns.specs.declared.state.Limits.{Limits}
+use Rattle.turns.specs.declared.limits.Limits.{Limits}
 use Rattle.turns.specs.declared.state.State.{State}
 use Rattle.std.specs.Prelude.{Some, Result, Ok, Err}
 use Rattle.turns.specs.declared.turn.Unplanned.{Unplanned}
 use Rattle.turns.proofs.Laws.Turns.{substituted}
 use Rattle.turns.proofs.Laws.Midway.{retold}
-
-pub next_left : {st : State} → (st.left ≡ 0 → ⊥) → NextIs st true
-next_left h = record { more = λ e. record { top = λ z. absurd (h z) }; left = λ e. absurd (never e); drained = λ e. absurd (never e) }
-  where
-    never : true ≡ false → ⊥
-    never e = let z : ◌≡◌ {A = ℕ} 0 1 = cc in omega arith
-
-pub next_stack : {st : State} (r : Bool) → st.left ≡ 0 → IsDrained st.l r → NextIs st (not r)
-next_stack true z d =
-    record { more = λ e. absurd (let y : ◌≡◌ {A = ℕ} 0 1 = cc in omega arith); left = λ e. z; drained = λ e. d }
-next_stack false z d =
-    record {
-      more = λ e. record { top = λ y. d.more refl };
-      left = λ e. z;
-      drained = λ e. absurd (let y : ◌≡◌ {A = ℕ} 0 1 = cc in omega arith);
-    }
-
-pub ruleset nexts = (next_left, next_stack)
 
 module _ {ws : List ℕ} {end : ℕ} {names places : List ℕ} {c : Cycle} {limits : Limits} {most : ℕ} where
   module _ {bs : List ℕ} {st : State} (r : Shut (Ready ws end bs st 0 0 0)) (g : Shut (Going ws end names places c limits most bs st)) where

@@ -25,12 +25,12 @@ use Rattle.steps.specs.Corner.{CornerAt}
 use Rattle.steps.specs.Step.{step_by}
 use Rattle.turns.specs.Ground.{Ground, task_of}
 use Rattle.turns.specs.Midway.{Shut, opened, With, limits_of, PutSettled}
-use Rattle.turns.specs.Turn.{Called, called, CalledAt, SteppedTo, StuckAt, ActedOn}
+use Rattle.turns.specs.Turn.{called, CalledAt, SteppedTo, StuckAt, ActedOn}
 use Rattle.steps.specs.declared.corner.Cycle.{Cycle}
 use Rattle.steps.specs.declared.corner.Place.{Place}
 use Rattle.steps.specs.declared.corner.Corner.{Corner}
 use Rattle.steps.specs.declared.corner.Corner.TheVariants as C
-use Rattle.turns.specs.declared.state.Limits.{Limits}
+use Rattle.turns.specs.declared.limits.Limits.{Limits}
 use Rattle.turns.specs.declared.state.State.{State}
 use Rattle.std.specs.Prelude.{Result, Ok, Err}
 use Rattle.steps.specs.declared.decide.Clause.{Clause}
@@ -43,27 +43,6 @@ use Rattle.turns.proofs.Laws.Ground.{names_told}
 use Rattle.turns.proofs.Laws.Advance.{midway_same}
 use Rattle.turns.proofs.Laws.Replaced.{settled_corner, blocked_corner_lem, optional_corner, satellite_corner, call_in, target_among}
 use Rattle.turns.proofs.Laws.Replaced.{target_found, target_room, target_spans, target_named, target_unreferring}
-
--- The member's name and place are looked up.
-pub called_of : {ws : List ℕ} {end : ℕ} {bs names places : List ℕ} {x : Listed} {p : Place} {optional : Bool}
-    → CalledAt ws end bs names places x p optional → {name at : ℕ} → name ≡ get_or names p.target 0 → at ≡ get_or places p.target 0
-    → Called ws end bs x p.index name at optional
-called_of c e f = rw (e, f) c.is
-
-pub stepped_place : {ws : List ℕ} {end : ℕ} {before after : List ℕ} {st : State} {x : Listed} {index at place : ℕ}
-    {optional : Bool} {limits : Limits} {r : Result State Unplanned} → SteppedTo ws end before after st x index at optional limits r → at ≡ place
-    → SteppedTo ws end before after st x index place optional limits r
-stepped_place s e = rw (← e) s
-
-pub ruleset calling = (called_of, stepped_place)
-
-pub stuck_spent : {budget : ℕ} → budget ≡ 0 → StuckAt budget Budget
-stuck_spent e = record { spent = λ z. refl; blocked = λ h. absurd (h e) }
-
-pub stuck_blocked : {budget : ℕ} → (budget ≡ 0 → ⊥) → StuckAt budget BlockedCorner
-stuck_blocked h = record { spent = λ z. absurd (h z); blocked = λ z. refl }
-
-pub ruleset stucks = (stuck_spent, stuck_blocked)
 
 module _ {ws : List ℕ} {end : ℕ} {bs : List ℕ} {st : State} {x : Listed} (w : Shut (With ws end bs st x)) where
   pub taken_room : HasRoom st.l 1 x.ne x.no

@@ -1,5 +1,5 @@
 -- A step done: the list is beyond the limits, or the substitution goes on.
-use Prim.Native.Nat.{ℕ, ◌+◌, ◌-◌, ◌<◌, ◌^◌}
+use Prim.Native.Nat.{ℕ, ◌+◌, ◌-◌, ◌<◌}
 use mathlib.Core.Path.{◌≡◌, refl, sym, ap, ap₂, ◌∙◌}
 use mathlib.Core.List.{List, [], ◌∷◌, ◌++◌, append_assoc}
 use mathlib.Core.Option.{some}
@@ -32,10 +32,10 @@ use Rattle.splices.specs.declared.splice.Size.{Size}
 use Rattle.turns.specs.Turns.{Task, Replaced}
 use Rattle.steps.specs.Decide.{SmallSize}
 use Rattle.steps.specs.Step.{step_by, GoesTo, Goable, PushedBy}
-use Rattle.turns.specs.Midway.{Ready, pending, With, Midway, limits_of, LimitsFit, within_limits, CanReplace, SizeAfter}
+use Rattle.turns.specs.Midway.{Ready, pending, With, Midway, limits_of, within_limits, CanReplace, SizeAfter}
 use Rattle.turns.specs.Midway.{Shut, opened}
 use Rattle.turns.specs.Turn.{SteppedTo}
-use Rattle.turns.specs.declared.state.Limits.{Limits}
+use Rattle.turns.specs.declared.limits.Limits.{Limits}
 use Rattle.turns.specs.declared.state.State.{State}
 use Rattle.std.specs.Prelude.{Ok, Err}
 use Rattle.turns.specs.declared.turn.Unplanned.TheVariants.{Overfull}
@@ -132,8 +132,8 @@ module _ {ws : List ℕ} {end : ℕ} {bs : List ℕ} (limits : Limits) (st : Sta
     unfolding is_within
     within_is = rw (count_whole, elements_whole, options_whole) refl
 
-  room_for : {b : Bool} → b ≡ within_limits limits r → b ≡ true → LimitsFit limits → HasRoom st.l z.a z.e z.o
-  room_for e f fit =
+  room_for : {b : Bool} → b ≡ within_limits limits r → b ≡ true → HasRoom st.l z.a z.e z.o
+  room_for e f =
       let t = sym e ∙ f in
       let x = leb-true r.a limits.alternatives (left_true (leb r.a limits.alternatives) _ t) in
       let u = right_true (leb r.a limits.alternatives) _ t in
@@ -145,9 +145,9 @@ module _ {ws : List ℕ} {end : ℕ} {bs : List ℕ} (limits : Limits) (st : Sta
       let ra = w.ready.alternatives in
       let re = w.ready.elements in
       let ro = w.ready.options in
-      let fa = fit.alternatives in
-      let fe = fit.elements in
-      let fo = fit.options in
+      let fa = limits.fit.few_alternatives in
+      let fe = limits.fit.few_elements in
+      let fo = limits.fit.few_options in
       record { alternatives = omega arith; elements = omega arith; options = omega arith }
 
 -- The definition's step is what was decided.
@@ -175,7 +175,7 @@ module _ {ws : List ℕ} {end : ℕ} {before : List ℕ} (limits : Limits) (st :
       }
 
   module _ {after : List ℕ} {l : Sizes} (shut_with : Shut (With ws end before st h)) (found : FoundRule ws end at)
-      (p : PushedBy ws end inner_depth at before after st.l l h index optional z) (fit : LimitsFit limits) {b : Bool}
+      (p : PushedBy ws end inner_depth at before after st.l l h index optional z) {b : Bool}
       (e : b ≡ within_limits limits more) (f : b ≡ true) where
     w : With ws end before st h
     w = opened shut_with
@@ -204,9 +204,9 @@ module _ {ws : List ℕ} {end : ℕ} {before : List ℕ} (limits : Limits) (st :
         let ra = r.alternatives in
         let re = r.elements in
         let ro = r.options in
-        let fa = fit.alternatives in
-        let fe = fit.elements in
-        let fo = fit.options in
+        let fa = limits.fit.few_alternatives in
+        let fe = limits.fit.few_elements in
+        let fo = limits.fit.few_options in
         let c = r.counted in
         record {
           laid = p.laid;
@@ -250,9 +250,6 @@ module _ {ws : List ℕ} {end : ℕ} {bs : List ℕ} {st : State} {h : Listed} (
   pub hand_in : {index : ℕ} → InHand h → index < h.ne → HandIn ws end inner_depth h index bs
   hand_in i l = record { below = l; in_hand = i; located = (opened w).located; listed = (opened w).listed }
 
-  pub steps_low : st.steps + st.budget < 2 ^ 64
-  steps_low = (opened w).ready.counted
-
   pub can_replace : {z : Size} → SmallSize z → CanReplace st.all h z
   can_replace y =
       let r = (opened w).ready in
@@ -271,7 +268,7 @@ module _ {ws : List ℕ} {end : ℕ} {bs : List ℕ} {st : State} {h : Listed} (
       }
 
   pub advance_room : (limits : Limits) {z r : Size} → SizeAfter st.all h z r → {b : Bool} → b ≡ within_limits limits r → b ≡ true
-      → LimitsFit limits → HasRoom st.l z.a z.e z.o
-  advance_room limits a e f fit = room_for limits st (opened w) a e f fit
+      → HasRoom st.l z.a z.e z.o
+  advance_room limits a e f = room_for limits st (opened w) a e f
 
 pub ruleset advancing = (hand_in, with_laid, can_replace, advance_room, advance_over, advance_on)

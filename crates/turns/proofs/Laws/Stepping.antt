@@ -25,7 +25,7 @@ use Rattle.steps.specs.declared.decide.Clause.{Clause}
 use Rattle.steps.specs.declared.decide.Clause.TheVariants.{Budget}
 use Rattle.turns.specs.declared.turn.Unplanned.{Unplanned}
 use Rattle.turns.specs.declared.turn.Unplanned.TheVariants.{Declined}
-use Rattle.turns.specs.declared.state.Limits.{Limits}
+use Rattle.turns.specs.declared.limits.Limits.{Limits}
 use Rattle.turns.specs.declared.state.State.{State}
 use Rattle.turns.proofs.Laws.Turns.{substitute_spent, substitute_declined}
 use Rattle.turns.proofs.Laws.Midway.{retold, with_laid, with_located, with_listed, with_movable}

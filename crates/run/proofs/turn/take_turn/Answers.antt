@@ -1,8 +1,8 @@
-use Rattle.std.proofs.Common.{rules, refl}
+use Rattle.std.proofs.Common.{rules, refl, ap, ◌∙◌, Ok}
 use Rattle.std.proofs.lemmas.Result.{err_from_is_err_and}
 use Rattle.run.proofs.turn.take_turn.Goals as goal
 use Rattle.run.proofs.Laws.Known.{midst_room}
-use Rattle.run.proofs.Laws.Turned.{turnings, turn_advancing, turn_planned, turn_refused}
+use Rattle.run.proofs.Laws.Turned.{turnings, turn_none, turn_large, turn_advancing, turn_planned, turn_refused}
 
 pub invariant_of-s : goal.invariant_of-s
 invariant_of-s c = record { room = midst_room c.requires.going.midst }
@@ -19,20 +19,18 @@ find_plan-found-requires-clause-rules_known c = search (rules, turnings)
 pub advance-requires-clause-advancing : goal.advance-requires-clause-advancing
 advance-requires-clause-advancing c = search (rules, turnings, turn_advancing)
 
--- src/turn.rt:119:1
-pub returns-in-NoPlan-clause-turned_of : goal.returns-in-NoPlan-clause-turned_of
-returns-in-NoPlan-clause-turned_of c = search (rules, turnings)
-
--- src/turn.rt:119:1
-pub returns-in-TooLarge-clause-turned_of : goal.returns-in-TooLarge-clause-turned_of
-returns-in-TooLarge-clause-turned_of c = search (rules, turnings)
-
--- src/turn.rt:131:24
-pub returns-in_err-next-in-Planned-clause-turned_of : goal.returns-in_err-next-in-Planned-clause-turned_of
-returns-in_err-next-in-Planned-clause-turned_of c =
+pub returns-in_err-f-clause-turned_of : goal.returns-in_err-f-clause-turned_of
+returns-in_err-f-clause-turned_of c =
     let p = err_from_is_err_and c.from_residual.result c.from_residual.ensures.1 in
-    rw (p.1, p.2) (turn_refused c.find_plan-found.ensures c.in-Planned.is refl c.in_err-next-in-Planned.ensures.advanced_of)
+    rw (p.1, p.2) (turn_large c.find_plan-found.ensures c.in_err-f.was)
 
--- src/turn.rt:99:1
-pub returns-in_ok-next-in-Planned-clause-turned_of : goal.returns-in_ok-next-in-Planned-clause-turned_of
-returns-in_ok-next-in-Planned-clause-turned_of c = turn_planned c.find_plan-found.ensures c.in-Planned.is refl c.in_ok-next-in-Planned.ensures.advanced_of
+pub returns-in_default-clause-turned_of : goal.returns-in_default-clause-turned_of
+returns-in_default-clause-turned_of c = turn_none c.find_plan-found.ensures (c.in_ok-f.was ∙ ap Ok c.in_default.is)
+
+pub returns-in_err-next-clause-turned_of : goal.returns-in_err-next-clause-turned_of
+returns-in_err-next-clause-turned_of c =
+    let p = err_from_is_err_and c.from_residual-in_err-next.result c.from_residual-in_err-next.ensures.1 in
+    rw (p.1, p.2) (turn_refused c.find_plan-found.ensures (c.in_ok-f.was ∙ ap Ok c.in-Some.is) refl c.in_err-next.ensures.advanced_of)
+
+pub returns-clause-turned_of : goal.returns-clause-turned_of
+returns-clause-turned_of c = turn_planned c.find_plan-found.ensures (c.in_ok-f.was ∙ ap Ok c.in-Some.is) refl c.in_ok-next.ensures.advanced_of

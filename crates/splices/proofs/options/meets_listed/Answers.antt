@@ -1,6 +1,5 @@
 use Rattle.words.specs.Sheet.{text}
 use Rattle.std.proofs.Common.{rules}
-use Rattle.grammar.specs.Words.{words}
 use Rattle.planned.specs.Laws.Parts.{options_count}
 use Rattle.splices.proofs.options.meets_listed.Goals as goal
 use Rattle.splices.proofs.Laws.Options.{listed_at}

@@ -1,6 +1,5 @@
 use Rattle.words.specs.Sheet.{text}
 use Rattle.std.proofs.Common.{rules}
-use Rattle.grammar.specs.Words.{words}
 use Rattle.splices.proofs.options.meets_standing.Goals as goal
 use Rattle.splices.proofs.Laws.Options.{standing_at, standing_count}
 

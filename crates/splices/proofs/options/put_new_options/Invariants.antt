@@ -1,5 +1,4 @@
 use Rattle.words.specs.Sheet.{text}
-use Rattle.grammar.specs.Words.{words}
 use Rattle.splices.proofs.Laws.OptionsPut.{Putting}
 use Rattle.splices.proofs.options.put_new_options.Given as goal
 

@@ -1,5 +1,4 @@
 use Rattle.words.specs.Sheet.{text}
-use Rattle.grammar.specs.Words.{words}
 use Rattle.splices.proofs.Laws.Places.{Placing}
 use Rattle.splices.proofs.places.put_places.Given as goal
 

@@ -1,5 +1,4 @@
 use Rattle.words.specs.Sheet.{text}
-use Rattle.grammar.specs.Words.{words}
 use Rattle.splices.proofs.Laws.SpliceAll.{Splicing}
 use Rattle.splices.proofs.splice.put_all.Given as goal
 

@@ -1,6 +1,5 @@
 use Rattle.words.specs.Sheet.{text}
 use Rattle.grammar.specs.Tree.{inner_depth}
-use Rattle.grammar.specs.Words.{words}
 use Rattle.steps.proofs.Laws.Seeking.{Seeking}
 use Rattle.steps.proofs.corner.find_corner.Given as goal
 

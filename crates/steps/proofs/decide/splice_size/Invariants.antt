@@ -1,6 +1,5 @@
 use Rattle.words.specs.Sheet.{text}
 use Rattle.grammar.specs.Tree.{inner_depth}
-use Rattle.grammar.specs.Words.{words}
 use Rattle.steps.proofs.Laws.Sizing.{Sizing}
 use Rattle.steps.proofs.decide.splice_size.Given as goal
 

@@ -1,6 +1,5 @@
 use Rattle.words.specs.Sheet.{text}
 use Rattle.grammar.specs.Tree.{inner_depth}
-use Rattle.grammar.specs.Words.{words}
 use Rattle.substitution.proofs.Laws.Size.{Counting}
 use Rattle.substitution.proofs.size.hub_size.Given as goal
 

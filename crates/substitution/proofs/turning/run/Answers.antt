@@ -3,9 +3,8 @@ use Rattle.substitution.proofs.turning.run.Goals as goal
 use Rattle.substitution.proofs.Laws.Begin.{begun_ready, begun_going, beginning}
 use Rattle.substitution.proofs.Laws.Looking.{unstored}
 
--- src/turning.rt:109:20
-pub bounds-places-i : goal.bounds-places-i
-bounds-places-i c = search (rules, beginning, unstored, begun_ready, begun_going)
+pub bounds-task-c : goal.bounds-task-c
+bounds-task-c c = search (rules, beginning, unstored, begun_ready, begun_going)
 
 -- src/turning.rt:110:9
 pub hub_size-z-requires-clause-found_rule : goal.hub_size-z-requires-clause-found_rule
@@ -20,5 +19,5 @@ pub stored-requires-clause-shut : goal.stored-requires-clause-shut
 stored-requires-clause-shut c = search (rules, beginning, unstored, begun_ready, begun_going)
 
 -- src/turning.rt:113:9
-pub stored-requires-clause-shut_3 : goal.stored-requires-clause-shut_3
-stored-requires-clause-shut_3 c = search (rules, beginning, unstored, begun_ready, begun_going)
+pub stored-requires-clause-going : goal.stored-requires-clause-going
+stored-requires-clause-going c = search (rules, beginning, unstored, begun_ready, begun_going)
