@@ -12,7 +12,7 @@ use words::numbers::{Block, RuleFlags};
 use words::words::word;
 
 // One row of each array for each rule, zeros behind; a place is counted in words.
-#[derive(Clone, Copy)]
+#[derive(Clone, Copy, Debug, PartialEq, Eq)]
 pub struct Rules {
     pub ids: [u32; 128],
     pub names: [u32; 128],
