@@ -5,7 +5,7 @@ ghost use Rattle.grammar.specs.Numbers.{rule_limit, work_bytes};
 ghost use Rattle.records.specs.Rules.{FoundRows};
 ghost use Rattle.analysis.specs.Names.{Tabled, table_with};
 ghost use Rattle.analysis.specs.Survey.{view_of};
-ghost use Rattle.analysis.specs.Rounds.{Marked, Recording};
+ghost use Rattle.analysis.specs.Rounds.{no_rows, Marked, Recording};
 ghost use Rattle.analysis.specs.Facts.{Standing, FactsFound};
 ghost use Rattle.reach.specs.Rows.{Behind};
 ghost use Rattle.words.specs.Sheet.{text};
@@ -22,6 +22,27 @@ use words::sheet::Sheet;
 pub struct Marks {
     pub nullable: [u64; Row::WORDS],
     pub stops: [u64; Row::WORDS],
+}
+
+// A row of calls and one of left corners for each rule.
+#[derive(Clone, Copy, Debug, PartialEq, Eq)]
+pub struct Rows {
+    pub calls: [[u64; Row::WORDS]; Row::RULES],
+    pub corners: [[u64; Row::WORDS]; Row::RULES],
+    ghost calls_long: { length calls ≡ rule_limit },
+    ghost corners_long: { length corners ≡ rule_limit },
+}
+
+impl Rows {
+    // No rule calls another yet.
+    pub fn empty() -> Rows
+        ensures { (result.calls ≡ no_rows) × (result.corners ≡ no_rows) }
+    {
+        Rows {
+            calls: [[0; Row::WORDS]; Row::RULES],
+            corners: [[0; Row::WORDS]; Row::RULES],
+        }
+    }
 }
 
 // What a round finds beside the rows, and how many rules are nullable by it.
@@ -52,20 +73,12 @@ fn mark(r: Round, i: usize, nullable: bool, stops: bool) -> Round
 }
 
 // Every rule surveyed.
-fn survey_all(
-    s: &Sheet,
-    rules: Rules,
-    known: Known,
-    table: &[u8],
-    calls: &mut [[u64; Row::WORDS]; Row::RULES],
-    corners: &mut [[u64; Row::WORDS]; Row::RULES],
-) -> Round
+fn survey_all(s: &Sheet, rules: Rules, known: Known, table: &[u8], rows: &mut Rows) -> Round
     requires bounds { (known.n ≡ rules.n) × (rules.n ≤ rule_limit) }
     requires tabled { Tabled rules.names known.n table.now }
     requires found_rows { FoundRows (text s.now) s.now.end rules }
-    requires lengths { (length calls.old ≡ rule_limit) × (length corners.old ≡ rule_limit) }
     ensures { Recording (view_of rules.names known) (text s.now) s.now.end rules.places
-        calls.old corners.old rules.n calls.new corners.new result }
+        rows.old.calls rows.old.corners rules.n rows.new.calls rows.new.corners result }
 {
     let names = rules.names;
     let places = rules.places;
@@ -82,8 +95,8 @@ fn survey_all(
         let v = survey_rule(s, &names, known, table, places[i] as usize);
         let c = v.calls;
         let k = v.corners;
-        calls[i] = c;
-        corners[i] = k;
+        rows.calls[i] = c;
+        rows.corners[i] = k;
         let m = mark(r, i, v.nullable, v.stops);
         r = m;
     }
@@ -91,20 +104,12 @@ fn survey_all(
 }
 
 // Rounds until the nullable rules stand, by a table of the names.
-fn rounds(
-    s: &Sheet,
-    rules: Rules,
-    past: bool,
-    table: &[u8],
-    calls: &mut [[u64; Row::WORDS]; Row::RULES],
-    corners: &mut [[u64; Row::WORDS]; Row::RULES],
-) -> Marks
+fn rounds(s: &Sheet, rules: Rules, past: bool, table: &[u8], rows: &mut Rows) -> Marks
     requires bounds { Tabled rules.names rules.n table.now }
     requires standing { Standing (text s.now) s.now.end rules }
-    requires lengths { (length calls.old ≡ rule_limit) × (length corners.old ≡ rule_limit) }
-    ensures facts_found { FactsFound (text s.now) s.now.end rules past calls.new corners.new result }
-    ensures behind { Behind rules.n calls.old calls.new
-        × Behind rules.n corners.old corners.new }
+    ensures facts_found { FactsFound (text s.now) s.now.end rules past rows.new.calls rows.new.corners result }
+    ensures behind { Behind rules.n rows.old.calls rows.new.calls
+        × Behind rules.n rows.old.corners rows.new.corners }
 {
     let n = rules.n as usize;
     let mut found = [0u64; Row::WORDS];
@@ -115,7 +120,7 @@ fn rounds(
             nullable: found,
             past,
         };
-        let r = survey_all(s, rules, known, table, calls, corners);
+        let r = survey_all(s, rules, known, table, rows);
         let marks = r.marks;
         if r.count == count {
             let stops = marks.stops;
@@ -133,7 +138,7 @@ fn rounds(
         nullable: found,
         past,
     };
-    let r = survey_all(s, rules, known, table, calls, corners);
+    let r = survey_all(s, rules, known, table, rows);
     let marks = r.marks;
     let stops = marks.stops;
     Marks {
@@ -144,24 +149,16 @@ fn rounds(
 
 // The rows of all rules. As many rounds as there are rules find all that is nullable; if one finds no more, it is the last.
 // The table of names is left in the work area.
-pub fn find_rows(
-    s: &Sheet,
-    rules: Rules,
-    past: bool,
-    calls: &mut [[u64; Row::WORDS]; Row::RULES],
-    corners: &mut [[u64; Row::WORDS]; Row::RULES],
-    work: &mut [u8],
-) -> Marks
+pub fn find_rows(s: &Sheet, rules: Rules, past: bool, rows: &mut Rows, work: &mut [u8]) -> Marks
     requires bounds { work_bytes ≤ length work.old }
     requires standing { Standing (text s.now) s.now.end rules }
-    requires lengths { (length calls.old ≡ rule_limit) × (length corners.old ≡ rule_limit) }
-    ensures facts_found { FactsFound (text s.now) s.now.end rules past calls.new corners.new result }
-    ensures behind { Behind rules.n calls.old calls.new
-        × Behind rules.n corners.old corners.new }
+    ensures facts_found { FactsFound (text s.now) s.now.end rules past rows.new.calls rows.new.corners result }
+    ensures behind { Behind rules.n rows.old.calls rows.new.calls
+        × Behind rules.n rows.old.corners rows.new.corners }
     ensures work_after { work.new ≡ table_with rules.names rules.n work.old }
 {
     let names = rules.names;
     let n = rules.n as usize;
     put_names(&names, n, work);
-    rounds(s, rules, past, work, calls, corners)
+    rounds(s, rules, past, work, rows)
 }

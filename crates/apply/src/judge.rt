@@ -1,5 +1,6 @@
 // Whether a plan may be applied (SPECIFICATION 4.8, then 4.9): counters, then words and entries.
 ghost use Rattle.std.specs.Prelude.{◌≡◌, ◌+◌, ◌≤◌, ◌^◌, ltb};
+ghost use Rattle.grammar.specs.Numbers.{most_words};
 ghost use Rattle.reference.specs.Numbers.{counter_end, most_entries};
 ghost use Rattle.sizes.specs.Sized.{tally_of, Under};
 ghost use Rattle.sizes.specs.Tally.{ids_in};
@@ -18,6 +19,9 @@ impl Limit {
     // A counter is below this.
     pub const COUNTER: usize = 4294967296;
 
+    // A sheet has no more words.
+    pub const WORDS: usize = 8192;
+
     // The trail has no more entries.
     pub const ENTRIES: usize = 4096;
 }
@@ -31,6 +35,7 @@ fn lasts(counter: u32, more: usize) -> bool
 }
 
 // Whether all do.
+#[tactic(auto, using(crate::proofs::Laws::Judged::all_last_lem))]
 fn all_last(c: Counters, m: Measure) -> bool
     requires { Under m (2 ^ 27) }
     ensures { AllLast (counters_of c) m result }
@@ -50,21 +55,16 @@ pub fn ids_in(m: Measure) -> usize
     m.alternatives + m.elements + m.labels + m.actions + m.predicates
 }
 
-// Refusal 8 or 9, or none: of the counters, of the words that the new sheet has and may have, and of the entries recorded already.
-pub fn judge(
-    c: Counters,
-    m: Measure,
-    words: usize,
-    room: usize,
-    recorded: usize,
-) -> Result<(), Refusal>
+// Refusal 8 or 9, or none: of the counters, of the words that the new sheet has, and of the entries recorded already.
+#[tactic(auto, using(crate::proofs::Laws::Judged::judgements))]
+pub fn judge(c: Counters, m: Measure, words: usize, recorded: usize) -> Result<(), Refusal>
     requires { Under m (2 ^ 27) × (recorded ≤ most_entries) }
-    ensures { Judged (counters_of c) m words room recorded result }
+    ensures { Judged (counters_of c) m words most_words recorded result }
 {
     if !all_last(c, m) {
         return Err(Refusal::CounterPastEnd);
     }
-    if room < words {
+    if Limit::WORDS < words {
         return Err(Refusal::ResultTooLong);
     }
     if Limit::ENTRIES < recorded + ids_in(m) + 1 {

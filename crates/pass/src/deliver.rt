@@ -3,13 +3,13 @@ ghost use Rattle.std.specs.Prelude.{◌≡◌, length};
 ghost use Rattle.grammar.specs.Laws.Words.{AreBytes};
 ghost use Rattle.pass.specs.Handed.{Lent, Answered, WasSheet};
 
-use run::state::{Ended, Trail};
+use apply::apply::Applied;
+use run::state::Ended;
 use run::unit::run_unit;
 use sheet::Reading;
 use sheet::answer::examine;
 use turns::state::Limits;
 use words::numbers::{Refusal, UnitKind};
-use words::sheet::Sheet;
 use writing::copy::copy_words;
 
 // A sheet that was read is copied to the result, and the run of a parser's unit is made there; other units come back as they are.
@@ -42,20 +42,14 @@ fn deliver_sheet(
     let to = end + parts.count as usize;
     let counters = parts.counters;
     let limits = Limits::standard();
-    let recorded = Trail::empty();
-    run_unit(
-        res,
-        trail,
-        work,
-        end,
-        to,
+    let before = Applied {
         rules,
         counters,
-        limits,
-        past,
-        Sheet::MOST_BYTES / 4,
-        recorded,
-    )
+        end,
+        to,
+        entries: 0,
+    };
+    run_unit(res, trail, work, before, limits, past)
 }
 
 // The refusal of the reader, or what becomes of the sheet that it read. Each item of result and trail is a byte then.
