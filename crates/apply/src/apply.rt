@@ -102,15 +102,16 @@ fn put(
     }
 }
 
-// The plan p for the sheet in the result, with what is known of it before.
+// The plan p for the sheet in the result, with what is known of it before; `room` are the words that the new sheet may have.
 pub fn apply(
     res: &mut [u8],
     trail: &mut [u8],
     work: &mut [u8],
     before: Applied,
+    room: usize,
     p: Plan,
 ) -> Result<Applied, Refusal>
-    requires buffers { Buffers res.old trail.old work.old × (before.entries ≤ most_entries) }
+    requires buffers { Buffers res.old trail.old work.old × (before.entries ≤ most_entries) × (room ≡ most_words) }
     requires applicable { Applicable res.old work.old before.end before.to before.rules p }
     ensures applied_of { AppliedOf res.old work.old before.end before.to before.rules before.counters p before.entries
         res.new trail.old trail.new result }
@@ -125,7 +126,7 @@ pub fn apply(
     let s = Sheet { bytes: res, end };
     let m = measure(&s, work, l);
     let n = words_after(&s, before.to, rules, p, work, m);
-    judge(counters, m, n, recorded)?;
+    judge(counters, m, n, room, recorded)?;
     let entries = recorded + ids_in(m) + 1;
     Ok(put(res, trail, work, before, p, n, entries))
 }

@@ -1,6 +1,5 @@
 // Whether a plan may be applied (SPECIFICATION 4.8, then 4.9): counters, then words and entries.
 ghost use Rattle.std.specs.Prelude.{◌≡◌, ◌+◌, ◌≤◌, ◌^◌, ltb};
-ghost use Rattle.grammar.specs.Numbers.{most_words};
 ghost use Rattle.reference.specs.Numbers.{counter_end, most_entries};
 ghost use Rattle.sizes.specs.Sized.{tally_of, Under};
 ghost use Rattle.sizes.specs.Tally.{ids_in};
@@ -18,9 +17,6 @@ pub struct Limit;
 impl Limit {
     // A counter is below this.
     pub const COUNTER: usize = 4294967296;
-
-    // A sheet has no more words.
-    pub const WORDS: usize = 8192;
 
     // The trail has no more entries.
     pub const ENTRIES: usize = 4096;
@@ -55,16 +51,22 @@ pub fn ids_in(m: Measure) -> usize
     m.alternatives + m.elements + m.labels + m.actions + m.predicates
 }
 
-// Refusal 8 or 9, or none: of the counters, of the words that the new sheet has, and of the entries recorded already.
+// Refusal 8 or 9, or none: of the counters, of the words that the new sheet has and may have, and of the entries recorded already.
 #[tactic(auto, using(crate::proofs::Laws::Judged::judgements))]
-pub fn judge(c: Counters, m: Measure, words: usize, recorded: usize) -> Result<(), Refusal>
+pub fn judge(
+    c: Counters,
+    m: Measure,
+    words: usize,
+    room: usize,
+    recorded: usize,
+) -> Result<(), Refusal>
     requires { Under m (2 ^ 27) × (recorded ≤ most_entries) }
-    ensures { Judged (counters_of c) m words most_words recorded result }
+    ensures { Judged (counters_of c) m words room recorded result }
 {
     if !all_last(c, m) {
         return Err(Refusal::CounterPastEnd);
     }
-    if Limit::WORDS < words {
+    if room < words {
         return Err(Refusal::ResultTooLong);
     }
     if Limit::ENTRIES < recorded + ids_in(m) + 1 {

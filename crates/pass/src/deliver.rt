@@ -4,12 +4,13 @@ ghost use Rattle.grammar.specs.Laws.Words.{AreBytes};
 ghost use Rattle.pass.specs.Handed.{Lent, Answered, WasSheet};
 
 use apply::apply::Applied;
-use run::state::Ended;
+use run::state::{Ended, Trail};
 use run::unit::run_unit;
 use sheet::Reading;
 use sheet::answer::examine;
 use turns::state::Limits;
 use words::numbers::{Refusal, UnitKind};
+use words::sheet::Sheet;
 use writing::copy::copy_words;
 
 // A sheet that was read is copied to the result, and the run of a parser's unit is made there; other units come back as they are.
@@ -42,14 +43,23 @@ fn deliver_sheet(
     let to = end + parts.count as usize;
     let counters = parts.counters;
     let limits = Limits::standard();
+    let recorded = Trail::empty();
     let before = Applied {
         rules,
         counters,
         end,
         to,
-        entries: 0,
+        entries: recorded.entries,
     };
-    run_unit(res, trail, work, before, limits, past)
+    run_unit(
+        res,
+        trail,
+        work,
+        before,
+        limits,
+        past,
+        Sheet::MOST_BYTES / 4,
+    )
 }
 
 // The refusal of the reader, or what becomes of the sheet that it read. Each item of result and trail is a byte then.

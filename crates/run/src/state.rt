@@ -7,6 +7,20 @@ use apply::apply::Applied;
 use plan::ground::Ground;
 use reach::rows::Row;
 
+// How many entries the trail has.
+#[derive(Clone, Copy, Debug, PartialEq, Eq)]
+pub struct Trail {
+    pub entries: usize,
+}
+
+impl Trail {
+    pub fn empty() -> Trail
+        ensures { result.entries ≡ 0 }
+    {
+        Trail { entries: 0 }
+    }
+}
+
 // The sheet in the result with its rules and counters, what is known of the rules, the preserved ones; plans and steps so far.
 #[derive(Clone, Copy, Debug, PartialEq, Eq)]
 pub struct State {

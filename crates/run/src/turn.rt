@@ -1,6 +1,6 @@
 // One turn of the loop over plans (SPECIFICATION 5.2): the first cycle with a plan is joined, and what is known is brought up to date.
 ghost use Rattle.std.specs.Prelude.{◌≡◌, ◌+◌, ◌≤◌, ◌<◌, length};
-ghost use Rattle.grammar.specs.Numbers.{rule_limit, work_bytes, word_end};
+ghost use Rattle.grammar.specs.Numbers.{rule_limit, most_words, work_bytes, word_end};
 ghost use Rattle.grammar.specs.Words.{words};
 ghost use Rattle.words.specs.Room.{Room};
 ghost use Rattle.renew.specs.Renewed.{Renewable};
@@ -75,10 +75,11 @@ fn advance(
     rows: &mut Rows,
     limits: Limits,
     past: bool,
+    room: usize,
     st: State,
     p: Plan,
 ) -> Result<State, Refusal>
-    requires buffers { Buffers res.old trail.old work.old × Small limits }
+    requires buffers { Buffers res.old trail.old work.old × Small limits × (room ≡ most_words) }
     requires advancing { Advancing (limits_of limits) past res.old trail.old work.old rows.old.calls rows.old.corners st p }
     ensures advanced_of { AdvancedOf (limits_of limits) past res.old trail.old work.old rows.old.calls
         rows.old.corners st p res.new trail.new rows.new.calls rows.new.corners result }
@@ -86,7 +87,7 @@ fn advance(
         × (length trail.new ≡ length trail.old) × (length work.new ≡ length work.old) }
 {
     let at = st.at;
-    let a = apply(res, trail, work, at, p)?;
+    let a = apply(res, trail, work, at, room, p)?;
     Ok(bring_up(res, work, rows, past, st, a, p))
 }
 
@@ -98,9 +99,10 @@ pub fn take_turn(
     rows: &mut Rows,
     limits: Limits,
     past: bool,
+    room: usize,
     st: State,
 ) -> Result<Option<State>, Refusal>
-    requires buffers { Buffers res.old trail.old work.old × LimitsFit limits × Small limits }
+    requires buffers { Buffers res.old trail.old work.old × LimitsFit limits × Small limits × (room ≡ most_words) }
     requires going { Going (limits_of limits) past res.old trail.old rows.old.calls rows.old.corners st }
     ensures turned_of { TurnedOf (limits_of limits) past res.old trail.old rows.old.calls
         rows.old.corners st res.new trail.new rows.new.calls rows.new.corners result }
@@ -129,7 +131,7 @@ pub fn take_turn(
         Search::TooLarge => Err(Refusal::PlanTooLarge),
         Search::Planned(f) => {
             let p = f.plan;
-            let next = advance(res, trail, work, rows, limits, past, st, p)?;
+            let next = advance(res, trail, work, rows, limits, past, room, st, p)?;
             Ok(Some(next))
         }
     }

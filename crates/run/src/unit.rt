@@ -1,5 +1,6 @@
 // The run of one unit: plans until no cycle has one (SPECIFICATION 5.2, 5.4).
 ghost use Rattle.std.specs.Prelude.{◌≡◌, length};
+ghost use Rattle.grammar.specs.Numbers.{most_words};
 ghost use Rattle.turns.specs.Midway.{LimitsFit, limits_of};
 ghost use Rattle.apply.specs.Applied.{Buffers};
 ghost use Rattle.run.specs.Midst.{Begun};
@@ -14,8 +15,8 @@ use turns::state::Limits;
 use words::numbers::Refusal;
 use words::sheet::Sheet;
 
-// The sheet stands in the result, where the new one stands then, and the trail has no entries yet. A rule is the hub of at most one
-// plan, so that plans never outnumber rules.
+// The sheet stands in the result, where the new one stands then; `room` are the words that it may have, and the trail has no entries
+// yet. A rule is the hub of at most one plan, so that plans never outnumber rules.
 pub fn run_unit(
     res: &mut [u8],
     trail: &mut [u8],
@@ -23,8 +24,10 @@ pub fn run_unit(
     before: Applied,
     limits: Limits,
     past: bool,
+    room: usize,
 ) -> Result<Ended, Refusal>
-    requires buffers { Buffers res.old trail.old work.old × LimitsFit limits × Small limits × (before.entries ≡ 0) }
+    requires buffers { Buffers res.old trail.old work.old × LimitsFit limits × Small limits × (room ≡ most_words)
+        × (before.entries ≡ 0) }
     requires begun { Begun res.old before.end before.to before.rules before.counters }
     ensures run_of { RunOf (limits_of limits) past res.old before.end before.to before.rules before.counters
         res.new trail.new result }
@@ -38,7 +41,7 @@ pub fn run_unit(
     };
     let ground = find_out(&s, before.to, before.rules, past, &mut rows, work);
     let mut st = State::begin(before, ground);
-    while let Some(next) = take_turn(res, trail, work, &mut rows, limits, past, st)? {
+    while let Some(next) = take_turn(res, trail, work, &mut rows, limits, past, room, st)? {
         st = next;
     }
     let at = st.at;

@@ -6,6 +6,7 @@ use mathlib.Core.List.{List}
 use mathlib.Core.Bool.{Bool}
 use native.Mathlib.Omega.{arith}
 use lib.ListN.{length}
+use Rattle.grammar.specs.Numbers.{most_words}
 use Rattle.grammar.specs.Words.{words}
 use Rattle.writing.specs.declared.counters.Counters.{Counters}
 use Rattle.records.specs.declared.rules.Rules.{Rules}
@@ -31,41 +32,43 @@ buffers_same b i j k =
     let w = b.for_work in
     record { for_result = omega arith; for_trail = omega arith; for_work = omega arith }
 
-module _ (lim : Limits) (past : Bool) (result₀ : List ℕ) (end to : ℕ) (rules : Rules) (counters : Counters)
+module _ (lim : Limits) (past : Bool) (room : ℕ) (result₀ : List ℕ) (end to : ℕ) (rules : Rules) (counters : Counters)
     (result trail work : List ℕ) (calls corners : List (List ℕ)) (st : State) where
   pub record Looping : Type 0 where
     pub lent : Buffers result trail work
     pub fit : LimitsFit lim
     pub small : Small lim
+    pub most : room ≡ most_words
     pub begun : Begun result₀ end to rules counters
     pub going : Going (limits_of lim) past result trail calls corners st
     pub onward : Onward (limits_of lim) past result₀ end to rules counters result trail calls corners st
 
 -- The trail has no entries yet, and the work area is as long as it was lent.
-pub looping_start : {lim : Limits} {past : Bool} {result₀ trail work work₀ : List ℕ} {at : Applied} {calls corners : List (List ℕ)}
-    {found : Ground} {st : State} → Buffers result₀ trail work₀ → LimitsFit lim → Small lim → at.entries ≡ 0
+pub looping_start : {lim : Limits} {past : Bool} {room : ℕ} {result₀ trail work work₀ : List ℕ} {at : Applied} {calls corners : List (List ℕ)}
+    {found : Ground} {st : State} → Buffers result₀ trail work₀ → LimitsFit lim → Small lim → room ≡ most_words → at.entries ≡ 0
     → Begun result₀ at.end at.to at.rules at.counters → FactsFound (words result₀) at.end at.rules past calls corners found.marks
     → KeptOf (words result₀) at.end at.to at.rules found.kept → length work ≡ length work₀ → st ≡ at_start at found
-    → Looping lim past result₀ at.end at.to at.rules at.counters result₀ trail work calls corners st
-looping_start {lim} {past} {result₀} {trail} {work} {work₀} {at} {calls} {corners} b f s z x g k w e =
+    → Looping lim past room result₀ at.end at.to at.rules at.counters result₀ trail work calls corners st
+looping_start {lim} {past} {room} {result₀} {trail} {work} {work₀} {at} {calls} {corners} b f s m z x g k w e =
     let o = onward_begin (limits_of lim) z g k trail in
-    subst (λ y. Looping lim past result₀ at.end at.to at.rules at.counters result₀ trail work calls corners y) (sym e)
-    (record { lent = buffers_same b refl refl w; fit = f; small = s; begun = x; going = onward_going o x; onward = o })
+    subst (λ y. Looping lim past room result₀ at.end at.to at.rules at.counters result₀ trail work calls corners y) (sym e)
+    (record { lent = buffers_same b refl refl w; fit = f; small = s; most = m; begun = x; going = onward_going o x; onward = o })
 
-module _ {lim : Limits} {past : Bool} {result₀ : List ℕ} {end to : ℕ} {rules : Rules} {counters : Counters} where
+module _ {lim : Limits} {past : Bool} {room : ℕ} {result₀ : List ℕ} {end to : ℕ} {rules : Rules} {counters : Counters} where
   module _ {result trail work : List ℕ} {calls corners : List (List ℕ)} {st : State}
-      (l : Looping lim past result₀ end to rules counters result trail work calls corners st) where
+      (l : Looping lim past room result₀ end to rules counters result trail work calls corners st) where
     module _ {result' trail' : List ℕ} {calls' corners' : List (List ℕ)} where
       module _ {next : State}
           (t : TurnedOf (limits_of lim) past result trail calls corners st result' trail' calls' corners' (Ok (Some next))) where
         pub looping_more : {work' : List ℕ} → length result' ≡ length result → length trail' ≡ length trail → length work' ≡ length work
-            → Looping lim past result₀ end to rules counters result' trail' work' calls' corners' next
+            → Looping lim past room result₀ end to rules counters result' trail' work' calls' corners' next
         looping_more i j k =
             let o = onward_more l.onward t in
             record {
               lent = buffers_same l.lent i j k;
               fit = l.fit;
               small = l.small;
+              most = l.most;
               begun = l.begun;
               going = onward_going o l.begun;
               onward = o;

@@ -20,7 +20,7 @@ pub loop-next-init : goal.loop-next-init
 loop-next-init c =
     let b = c.requires.buffers in
     let g = c.find_out-ground.ensures in (
-      looping_start b.0 b.1 b.2 b.3 c.requires.begun g.facts_found g.kept_of (search rules) c.begin-st.ensures,
+      looping_start b.0 b.1 b.2 b.3 b.4 c.requires.begun g.facts_found g.kept_of (search rules) c.begin-st.ensures,
       refl,
       refl,
       refl,
