@@ -92,6 +92,8 @@ fn advance(
 }
 
 // The first cycle with a plan, and the plan applied; none where no cycle has one.
+// Stays: limits, reading and room are three parameters, since each goes to another callee: the limits to the search, the reading to
+// `Facts`, the room to `apply`; a struct of the three would be made in one place and taken apart at once.
 pub fn take_turn(
     res: &mut [u8],
     trail: &mut [u8],
