@@ -1,11 +1,15 @@
 -- One round: every rule surveyed, and what is kept of each.
-use Rattle.std.specs.Prelude.{ℕ, zero, suc, ◌+◌, ◌<◌, ◌≤◌, ◌≡◌, List, [], Bool, true, false, length, get_or}
+use Rattle.std.specs.Prelude.{ℕ, zero, suc, ◌+◌, ◌<◌, ◌≤◌, ◌≡◌, List, [], Bool, true, false, length, get_or, replicate}
 use Rattle.grammar.specs.Numbers.{rule_limit}
 use Rattle.reach.specs.Rows.{bit, AddIf}
 use Rattle.analysis.specs.Survey.{View}
 use Rattle.analysis.specs.Facts.{Surveyed}
 use Rattle.analysis.specs.declared.survey.Survey.{Survey}
 use Rattle.analysis.specs.declared.rounds.Round.{Round}
+
+-- As many rows as there may be rules, zeros all over.
+abbrev pub no_rows : List (List ℕ)
+no_rows = replicate rule_limit (replicate 2 0)
 
 abbrev pub one_if : Bool → ℕ
 one_if true = 1

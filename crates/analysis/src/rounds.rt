@@ -5,7 +5,7 @@ ghost use Rattle.grammar.specs.Numbers.{rule_limit, work_bytes};
 ghost use Rattle.records.specs.Rules.{FoundRows};
 ghost use Rattle.analysis.specs.Names.{Tabled, table_with};
 ghost use Rattle.analysis.specs.Survey.{view_of};
-ghost use Rattle.analysis.specs.Rounds.{Marked, Recording};
+ghost use Rattle.analysis.specs.Rounds.{no_rows, Marked, Recording};
 ghost use Rattle.analysis.specs.Facts.{Standing, FactsFound};
 ghost use Rattle.reach.specs.Rows.{Behind};
 ghost use Rattle.words.specs.Sheet.{text};
@@ -22,6 +22,27 @@ use words::sheet::Sheet;
 pub struct Marks {
     pub nullable: [u64; Row::WORDS],
     pub stops: [u64; Row::WORDS],
+}
+
+// A row of calls and one of left corners for each rule.
+#[derive(Clone, Copy, Debug, PartialEq, Eq)]
+pub struct Rows {
+    pub calls: [[u64; Row::WORDS]; Row::RULES],
+    pub corners: [[u64; Row::WORDS]; Row::RULES],
+    ghost calls_long: { length calls ≡ rule_limit },
+    ghost corners_long: { length corners ≡ rule_limit },
+}
+
+impl Rows {
+    // No rule calls another yet.
+    pub fn empty() -> Rows
+        ensures { (result.calls ≡ no_rows) × (result.corners ≡ no_rows) }
+    {
+        Rows {
+            calls: [[0; Row::WORDS]; Row::RULES],
+            corners: [[0; Row::WORDS]; Row::RULES],
+        }
+    }
 }
 
 // What a round finds beside the rows, and how many rules are nullable by it.
@@ -47,18 +68,11 @@ fn mark(r: Round, i: usize, nullable: bool, stops: bool) -> Round
 }
 
 // Every rule surveyed.
-fn survey_all(
-    s: &Sheet,
-    rules: Rules,
-    v: &Known,
-    calls: &mut [[u64; Row::WORDS]; Row::RULES],
-    corners: &mut [[u64; Row::WORDS]; Row::RULES],
-) -> Round
+fn survey_all(s: &Sheet, rules: Rules, v: &Known, rows: &mut Rows) -> Round
     requires bounds { v.now.n ≡ rules.n }
     requires found_rows { FoundRows (text s.now) s.now.end rules }
-    requires lengths { (length calls.old ≡ rule_limit) × (length corners.old ≡ rule_limit) }
     ensures { Recording (view_of v.now) (text s.now) s.now.end rules.places
-        calls.old corners.old rules.n calls.new corners.new result }
+        rows.old.calls rows.old.corners rules.n rows.new.calls rows.new.corners result }
 {
     let places = rules.places;
     let none = Marks {
@@ -73,28 +87,21 @@ fn survey_all(
         let t = survey_rule(s, v, places[i] as usize);
         let c = t.calls;
         let k = t.corners;
-        calls[i] = c;
-        corners[i] = k;
-        r = mark(r, i, t.nullable, t.stops);
+        rows.calls[i] = c;
+        rows.corners[i] = k;
+        let m = mark(r, i, t.nullable, t.stops);
+        r = m;
     }
     r
 }
 
 // Rounds until the nullable rules stand, by a table of the names.
-fn rounds(
-    s: &Sheet,
-    rules: Rules,
-    past: bool,
-    table: &[u8],
-    calls: &mut [[u64; Row::WORDS]; Row::RULES],
-    corners: &mut [[u64; Row::WORDS]; Row::RULES],
-) -> Marks
+fn rounds(s: &Sheet, rules: Rules, past: bool, table: &[u8], rows: &mut Rows) -> Marks
     requires bounds { Tabled rules.names rules.n table.now }
     requires standing { Standing (text s.now) s.now.end rules }
-    requires lengths { (length calls.old ≡ rule_limit) × (length corners.old ≡ rule_limit) }
-    ensures facts_found { FactsFound (text s.now) s.now.end rules past calls.new corners.new result }
-    ensures behind { Behind rules.n calls.old calls.new
-        × Behind rules.n corners.old corners.new }
+    ensures facts_found { FactsFound (text s.now) s.now.end rules past rows.new.calls rows.new.corners result }
+    ensures behind { Behind rules.n rows.old.calls rows.new.calls
+        × Behind rules.n rows.old.corners rows.new.corners }
 {
     let names = rules.names;
     let n = rules.n as usize;
@@ -108,7 +115,7 @@ fn rounds(
             nullable: found,
             past,
         };
-        let r = survey_all(s, rules, &v, calls, corners);
+        let r = survey_all(s, rules, &v, rows);
         let marks = r.marks;
         if r.count == count {
             let stops = marks.stops;
@@ -128,7 +135,7 @@ fn rounds(
         nullable: found,
         past,
     };
-    let r = survey_all(s, rules, &v, calls, corners);
+    let r = survey_all(s, rules, &v, rows);
     let marks = r.marks;
     let stops = marks.stops;
     Marks {
@@ -139,24 +146,16 @@ fn rounds(
 
 // The rows of all rules. As many rounds as there are rules find all that is nullable; if one finds no more, it is the last.
 // The table of names is left in the work area.
-pub fn find_rows(
-    s: &Sheet,
-    rules: Rules,
-    past: bool,
-    calls: &mut [[u64; Row::WORDS]; Row::RULES],
-    corners: &mut [[u64; Row::WORDS]; Row::RULES],
-    work: &mut [u8],
-) -> Marks
+pub fn find_rows(s: &Sheet, rules: Rules, past: bool, rows: &mut Rows, work: &mut [u8]) -> Marks
     requires bounds { work_bytes ≤ length work.old }
     requires standing { Standing (text s.now) s.now.end rules }
-    requires lengths { (length calls.old ≡ rule_limit) × (length corners.old ≡ rule_limit) }
-    ensures facts_found { FactsFound (text s.now) s.now.end rules past calls.new corners.new result }
-    ensures behind { Behind rules.n calls.old calls.new
-        × Behind rules.n corners.old corners.new }
+    ensures facts_found { FactsFound (text s.now) s.now.end rules past rows.new.calls rows.new.corners result }
+    ensures behind { Behind rules.n rows.old.calls rows.new.calls
+        × Behind rules.n rows.old.corners rows.new.corners }
     ensures work_after { work.new ≡ table_with rules.names rules.n work.old }
 {
     let names = rules.names;
     let n = rules.n as usize;
     put_names(&names, n, work);
-    rounds(s, rules, past, work, calls, corners)
+    rounds(s, rules, past, work, rows)
 }

@@ -2,10 +2,10 @@
 ghost use Rattle.std.specs.Prelude.{◌≡◌, ◌≤◌, length};
 ghost use Rattle.grammar.specs.Numbers.{most_words};
 ghost use Rattle.grammar.specs.Tree.{inner_depth};
-ghost use Rattle.grammar.specs.Words.{words};
 ghost use Rattle.reference.specs.Numbers.{most_entries};
 ghost use Rattle.planned.specs.Layout.{settled};
 ghost use Rattle.sizes.specs.Sized.{Measured};
+ghost use Rattle.words.specs.Sheet.{text};
 ghost use Rattle.apply.specs.Applied.{Buffers, Applicable, AppliedOf, WordsAfter, EntriesAfter, RefusedBy};
 
 use crate::judge::{ids_in, judge};
@@ -24,7 +24,7 @@ use writing::counters::Counters;
 
 // The rules and counters of the sheet in the result, where its rules and its preserved ids end, in words, and how many entries the
 // trail has.
-#[derive(Clone, Copy)]
+#[derive(Clone, Copy, Debug, PartialEq, Eq)]
 pub struct Applied {
     pub rules: Rules,
     pub counters: Counters,
@@ -44,24 +44,16 @@ impl Fixed {
 }
 
 // The words of the new sheet.
-fn words_after(
-    s: &[u8],
-    end: usize,
-    to: usize,
-    rules: Rules,
-    p: Plan,
-    work: &[u8],
-    m: Measure,
-) -> usize
-    requires applicable { Applicable s.now work.now end to rules p }
-    requires measured { Measured inner_depth (settled (words s.now) end inner_depth work.now p.l) m }
-    ensures { WordsAfter s.now work.now end to rules p result }
+fn words_after(s: &Sheet, to: usize, rules: Rules, p: Plan, work: &[u8], m: Measure) -> usize
+    requires applicable { Applicable s.now.bytes.now work.now s.now.end to rules p }
+    requires measured { Measured inner_depth (settled (text s.now) s.now.end inner_depth work.now p.l) m }
+    ensures { WordsAfter s.now.bytes.now work.now s.now.end to rules p result }
 {
     let n = rules.n as usize;
     let row = p.removable;
-    let front = words_left(s, end, rules, row, 0, p.hub);
-    let rest = words_left(s, end, rules, row, p.hub + 1, n);
-    front + (Fixed::RULE + m.words) + rest + (to - end) + Sheet::TRAILER_WORDS
+    let front = words_left(s, rules, row, 0, p.hub);
+    let rest = words_left(s, rules, row, p.hub + 1, n);
+    front + (Fixed::RULE + m.words) + rest + (to - s.end) + Sheet::TRAILER_WORDS
 }
 
 // The new sheet of n words, composed and copied; the trail has so many entries then.
@@ -133,7 +125,7 @@ pub fn apply(
     let l = p.l;
     let s = Sheet { bytes: res, end };
     let m = measure(&s, work, l);
-    let n = words_after(res, end, before.to, rules, p, work, m);
+    let n = words_after(&s, before.to, rules, p, work, m);
     judge(counters, m, n, room, recorded)?;
     let entries = recorded + ids_in(m) + 1;
     Ok(put(res, trail, work, before, p, n, entries))

@@ -31,6 +31,7 @@ fn lasts(counter: u32, more: usize) -> bool
 }
 
 // Whether all do.
+#[tactic(auto, using(crate::proofs::Laws::Judged::all_last_lem))]
 fn all_last(c: Counters, m: Measure) -> bool
     requires { Under m (2 ^ 27) }
     ensures { AllLast (counters_of c) m result }
@@ -51,6 +52,7 @@ pub fn ids_in(m: Measure) -> usize
 }
 
 // Refusal 8 or 9, or none: of the counters, of the words that the new sheet has and may have, and of the entries recorded already.
+#[tactic(auto, using(crate::proofs::Laws::Judged::judgements))]
 pub fn judge(
     c: Counters,
     m: Measure,

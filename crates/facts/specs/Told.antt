@@ -1,6 +1,5 @@
 -- What callers in other languages are told of a sheet: its facts and cycles as numbers and rows (SPECIFICATION 3.10).
 use Rattle.std.specs.Prelude.{ℕ, ◌≡◌, List, [], ◌∷◌, not, length, get_or, replicate, eqb}
-use Rattle.grammar.specs.Numbers.{rule_limit}
 use Rattle.grammar.specs.Tree.{Rule, Sheet, body_depth}
 use Rattle.grammar.specs.Ids.{rule_ids}
 use Rattle.grammar.specs.Reading.{Reading, refused, sheet}
@@ -12,15 +11,12 @@ use Rattle.analysis.specs.Survey.{reading}
 use Rattle.analysis.specs.Facts.{FactsOf, Standing}
 use Rattle.reach.specs.Rows.{Behind}
 use Rattle.reach.specs.Listed.{CycleRows}
+use Rattle.analysis.specs.Rounds.{no_rows}
 use Rattle.analysis.specs.declared.rounds.Marks.{Marks}
 
 -- The reading of left corners: the original's for 0.
 abbrev pub reading_of : ℕ → Corners
 reading_of textbook = reading (not (eqb textbook 0))
-
--- As many rows as there may be rules, zeros all over.
-abbrev pub no_rows : List (List ℕ)
-no_rows = replicate rule_limit (replicate 2 0)
 
 -- Four words as two rows.
 abbrev pub marks_of : List ℕ → Marks

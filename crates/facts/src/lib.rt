@@ -7,10 +7,11 @@ ghost use Rattle.grammar.specs.Numbers.{work_bytes};
 ghost use Rattle.sheet.specs.Answer.{read_lent, work_after};
 ghost use Rattle.analysis.specs.Survey.{reading};
 ghost use Rattle.analysis.specs.Facts.{Standing};
-ghost use Rattle.facts.specs.Told.{no_rows, reading_of, RulesTold, Tells};
+ghost use Rattle.analysis.specs.Rounds.{no_rows};
+ghost use Rattle.facts.specs.Told.{reading_of, RulesTold, Tells};
 ghost use Rattle.words.specs.Sheet.{text};
 
-use analysis::rounds::{Marks, find_rows};
+use analysis::rounds::{Marks, Rows, find_rows};
 use reach::cycles::list_cycles;
 use reach::rows::Row;
 use records::rules::Rules;
@@ -30,21 +31,20 @@ fn tell(
     s: &Sheet,
     rules: Rules,
     past: bool,
-    calls: &mut [[u64; Row::WORDS]; Row::RULES],
-    corners: &mut [[u64; Row::WORDS]; Row::RULES],
+    rows: &mut Rows,
     cycles: &mut [[u64; Row::WORDS]; Row::RULES],
     work: &mut [u8],
 ) -> Told
     requires bounds { work_bytes ≤ length work.old }
     requires standing { Standing (text s.now) s.now.end rules }
-    requires calls_value { (calls.old ≡ no_rows) × (corners.old ≡ no_rows) × (cycles.old ≡ no_rows) }
+    requires none { (rows.old.calls ≡ no_rows) × (rows.old.corners ≡ no_rows) × (cycles.old ≡ no_rows) }
     ensures rules_told { RulesTold (text s.now) s.now.end rules (reading past) result.marks result.cycles
-        calls.new corners.new cycles.new }
+        rows.new.calls rows.new.corners cycles.new }
     ensures work_after { work.new ≡ replicate (length work.old) 0 }
 {
-    let marks = find_rows(s, rules, past, calls, corners, work);
+    let marks = find_rows(s, rules, past, rows, work);
     let ids = rules.ids;
-    let cycles = list_cycles(*corners, ids, rules.n as usize, cycles);
+    let cycles = list_cycles(rows.corners, ids, rules.n as usize, cycles);
     clear(work);
     Told { marks, cycles }
 }
@@ -65,23 +65,26 @@ pub fn find_facts(
         marks.new calls.new corners.new cycles.new }
     ensures work_after { work.new ≡ work_after sheet.now work.old }
 {
-    *calls = [[0; Row::WORDS]; Row::RULES];
-    *corners = [[0; Row::WORDS]; Row::RULES];
     *cycles = [[0; Row::WORDS]; Row::RULES];
     match read(sheet, work) {
         Err(refusal) => {
             *numbers = [u32::from(refusal), 0, 0];
             *marks = [0; 4];
+            *calls = [[0; Row::WORDS]; Row::RULES];
+            *corners = [[0; Row::WORDS]; Row::RULES];
         }
         Ok(r) => {
             let rules = r.rules;
             let end = r.parts.rules_end();
             let s = Sheet { bytes: sheet, end };
-            let t = tell(&s, rules, textbook != 0, calls, corners, cycles, work);
+            let mut rows = Rows::empty();
+            let t = tell(&s, rules, textbook != 0, &mut rows, cycles, work);
             let nullable = t.marks.nullable;
             let stops = t.marks.stops;
             *numbers = [0, rules.n, t.cycles];
             *marks = [nullable[0], nullable[1], stops[0], stops[1]];
+            *calls = rows.calls;
+            *corners = rows.corners;
         }
     }
 }

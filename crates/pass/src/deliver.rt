@@ -3,6 +3,7 @@ ghost use Rattle.std.specs.Prelude.{◌≡◌, length};
 ghost use Rattle.grammar.specs.Laws.Words.{AreBytes};
 ghost use Rattle.pass.specs.Handed.{Lent, Answered, WasSheet};
 
+use apply::apply::Applied;
 use run::state::{Ended, Trail};
 use run::unit::run_unit;
 use sheet::Reading;
@@ -43,18 +44,21 @@ fn deliver_sheet(
     let counters = parts.counters;
     let limits = Limits::standard();
     let recorded = Trail::empty();
+    let before = Applied {
+        rules,
+        counters,
+        end,
+        to,
+        entries: recorded.entries,
+    };
     run_unit(
         res,
         trail,
         work,
-        end,
-        to,
-        rules,
-        counters,
+        before,
         limits,
         past,
         Sheet::MOST_BYTES / 4,
-        recorded,
     )
 }
 

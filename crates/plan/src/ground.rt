@@ -6,7 +6,7 @@ ghost use Rattle.analysis.specs.Facts.{Standing, FactsFound};
 ghost use Rattle.plan.specs.Ground.{KeptAt, KeptOf};
 ghost use Rattle.words.specs.Sheet.{text};
 
-use analysis::rounds::{Marks, find_rows};
+use analysis::rounds::{Marks, Rows, find_rows};
 use hub::preserved::preserved_rows;
 use reach::rows::Row;
 use records::rules::Rules;
@@ -26,19 +26,16 @@ pub fn find_out(
     to: usize,
     rules: Rules,
     past: bool,
-    calls: &mut [[u64; Row::WORDS]; Row::RULES],
-    corners: &mut [[u64; Row::WORDS]; Row::RULES],
+    rows: &mut Rows,
     work: &mut [u8],
 ) -> Ground
     requires bounds { (work_bytes ≤ length work.old) × KeptAt s.now.bytes.now s.now.end to }
     requires standing { Standing (text s.now) s.now.end rules }
-    requires lengths { (length calls.old ≡ rule_limit) × (length corners.old ≡ rule_limit) }
-    ensures facts_found { FactsFound (text s.now) s.now.end rules past calls.new corners.new result.marks }
+    ensures facts_found { FactsFound (text s.now) s.now.end rules past rows.new.calls rows.new.corners result.marks }
     ensures kept_of { KeptOf (text s.now) s.now.end to rules result.kept }
-    ensures lengths_after { (length calls.new ≡ rule_limit) × (length corners.new ≡ rule_limit) }
     ensures work_after { work.new ≡ table_with rules.names rules.n work.old }
 {
-    let marks = find_rows(s, rules, past, calls, corners, work);
+    let marks = find_rows(s, rules, past, rows, work);
     let kept = preserved_rows(s.bytes, rules, s.end, to);
     Ground { marks, kept }
 }

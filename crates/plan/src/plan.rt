@@ -48,7 +48,7 @@ fn finish(
 ) -> Result<Plan, Unplanned>
     requires bounds { Standing (text s.now) s.now.end f.now.rules × (hub < f.now.rules.n) }
     requires laid { Laid work.now done.l × AllIn (text s.now) s.now.end inner_depth work.now done.l }
-    ensures { PlanLast (text s.now) s.now.end f.now.rules f.now.past f.now.calls.now f.now.marks f.now.kept members hub done
+    ensures { PlanLast (text s.now) s.now.end f.now.rules f.now.past f.now.rows.now.calls f.now.marks f.now.kept members hub done
         work.now result }
 {
     if done.steps == 0 {
@@ -64,7 +64,7 @@ fn finish(
         return Err(Unplanned::Declined(Clause::NotDirectlyRewritable));
     };
     let kept = f.kept;
-    let row = removable(f.calls, n, members, kept, planned, hub);
+    let row = removable(&f.rows.calls, n, members, kept, planned, hub);
     Ok(Plan {
         hub,
         l,
@@ -83,8 +83,8 @@ fn make(
     work: &mut [u8],
 ) -> Result<Plan, Unplanned>
     requires bounds { (s.now.end ≤ most_words) × (work_bytes ≤ length work.old) }
-    requires hub_known { HubKnown (text s.now) s.now.end f.now.rules f.now.past f.now.calls.now f.now.marks f.now.kept members hub }
-    ensures { PlanMade (text s.now) s.now.end f.now.rules f.now.past f.now.calls.now f.now.marks f.now.kept members limits hub
+    requires hub_known { HubKnown (text s.now) s.now.end f.now.rules f.now.past f.now.rows.now.calls f.now.marks f.now.kept members hub }
+    ensures { PlanMade (text s.now) s.now.end f.now.rules f.now.past f.now.rows.now.calls f.now.marks f.now.kept members limits hub
         work.new result }
 {
     let rules = f.rules;
@@ -118,8 +118,8 @@ fn with_hub(
 ) -> Result<Plan, Unplanned>
     requires bounds { (s.now.end ≤ most_words) × (work_bytes ≤ length work.old) }
     requires inside { hub < f.now.rules.n }
-    requires cycle_known { CycleKnown (text s.now) s.now.end f.now.rules f.now.past f.now.calls.now f.now.marks f.now.kept members }
-    ensures { PlanWith (text s.now) s.now.end f.now.rules f.now.past f.now.calls.now f.now.marks f.now.kept members limits hub
+    requires cycle_known { CycleKnown (text s.now) s.now.end f.now.rules f.now.past f.now.rows.now.calls f.now.marks f.now.kept members }
+    ensures { PlanWith (text s.now) s.now.end f.now.rules f.now.past f.now.rows.now.calls f.now.marks f.now.kept members limits hub
         work.new result }
 {
     let rules = f.rules;
@@ -144,15 +144,15 @@ pub fn plan_cycle(
     work: &mut [u8],
 ) -> Result<Plan, Unplanned>
     requires bounds { (s.now.end ≤ most_words) × (work_bytes ≤ length work.old) }
-    requires cycle_known { CycleKnown (text s.now) s.now.end f.now.rules f.now.past f.now.calls.now f.now.marks f.now.kept members }
-    ensures { PlanOf (text s.now) s.now.end f.now.rules f.now.past f.now.calls.now f.now.marks f.now.kept members limits
+    requires cycle_known { CycleKnown (text s.now) s.now.end f.now.rules f.now.past f.now.rows.now.calls f.now.marks f.now.kept members }
+    ensures { PlanOf (text s.now) s.now.end f.now.rules f.now.past f.now.rows.now.calls f.now.marks f.now.kept members limits
         work.new result }
 {
     let rules = f.rules;
     let marks = f.marks;
     let nullable = marks.nullable;
     let kept = f.kept;
-    let Some(hub) = choose_hub(s, rules, nullable, f.calls, members, kept) else {
+    let Some(hub) = choose_hub(s, rules, nullable, &f.rows.calls, members, kept) else {
         return Err(Unplanned::Declined(Clause::NoHub));
     };
     with_hub(s, f, members, hub, limits, work)

@@ -69,9 +69,10 @@ fn try_cycles(
 ) -> Found
     requires bounds { (s.now.end ≤ most_words) × (work_bytes ≤ length work.old) }
     requires closed_len { (length closed.now ≡ rule_limit) × (f.now.rules.n ≤ rule_limit) }
-    requires joined_known { JoinedKnown (text s.now) s.now.end f.now.rules f.now.past f.now.calls.now f.now.marks f.now.kept closed.now }
-    ensures { TriedOf (text s.now) s.now.end f.now.rules f.now.past f.now.calls.now f.now.marks f.now.kept closed.now limits
-        work.new result }
+    requires joined_known { JoinedKnown (text s.now) s.now.end f.now.rules f.now.past f.now.rows.now.calls f.now.marks f.now.kept
+        closed.now }
+    ensures { TriedOf (text s.now) s.now.end f.now.rules f.now.past f.now.rows.now.calls f.now.marks f.now.kept
+        closed.now limits work.new result }
 {
     let rules = f.rules;
     let n = rules.n as usize;
@@ -101,19 +102,14 @@ fn try_cycles(
 
 // The cycles of the rules, by their left corners.
 #[tactic(auto, using(crate::proofs::Laws::Cycles::found_of))]
-pub fn find_plan(
-    s: &Sheet,
-    f: &Facts,
-    corners: &[[u64; Row::WORDS]; Row::RULES],
-    limits: Limits,
-    work: &mut [u8],
-) -> Found
+pub fn find_plan(s: &Sheet, f: &Facts, limits: Limits, work: &mut [u8]) -> Found
     requires bounds { (s.now.end ≤ most_words) × (work_bytes ≤ length work.old) }
-    requires rules_known { RulesKnown (text s.now) s.now.end f.now.rules f.now.past f.now.calls.now corners.now f.now.marks f.now.kept }
-    ensures { FoundOf (text s.now) s.now.end f.now.rules f.now.past f.now.calls.now corners.now f.now.marks f.now.kept limits
-        work.new result }
+    requires rules_known { RulesKnown (text s.now) s.now.end f.now.rules f.now.past f.now.rows.now.calls f.now.rows.now.corners
+        f.now.marks f.now.kept }
+    ensures { FoundOf (text s.now) s.now.end f.now.rules f.now.past f.now.rows.now.calls f.now.rows.now.corners
+        f.now.marks f.now.kept limits work.new result }
 {
     let rules = f.rules;
-    let closed = joined(*corners, rules.n as usize);
+    let closed = joined(f.rows.corners, rules.n as usize);
     try_cycles(s, f, &closed, limits, work)
 }

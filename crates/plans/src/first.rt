@@ -7,6 +7,7 @@ ghost use Rattle.plans.specs.First.{FirstOf, search_numbers, search_cycle, searc
 ghost use Rattle.words.specs.Sheet.{text};
 
 use crate::nth::capped;
+use analysis::rounds::Rows;
 use plan::facts::Facts;
 use plan::ground::find_out;
 use plan::plan::Plan;
@@ -31,20 +32,19 @@ pub fn decide_first(s: &Sheet, to: usize, rules: Rules, past: bool, work: &mut [
     requires standing { Standing (text s.now) s.now.end rules }
     ensures { FirstOf (text s.now) s.now.end to rules past work.new result }
 {
-    let mut calls = [[0u64; Row::WORDS]; Row::RULES];
-    let mut corners = [[0u64; Row::WORDS]; Row::RULES];
-    let ground = find_out(s, to, rules, past, &mut calls, &mut corners, work);
+    let mut rows = Rows::empty();
+    let ground = find_out(s, to, rules, past, &mut rows, work);
     let marks = ground.marks;
     let kept = ground.kept;
     let limits = Limits::standard();
     let facts = Facts {
         rules,
         past,
-        calls: &calls,
+        rows: &rows,
         marks,
         kept,
     };
-    find_plan(s, &facts, &corners, limits, work)
+    find_plan(s, &facts, limits, work)
 }
 
 // A search in numbers, where so many cycles were declined.

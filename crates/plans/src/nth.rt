@@ -6,6 +6,7 @@ ghost use Rattle.plan.specs.Ground.{KeptAt};
 ghost use Rattle.plans.specs.Nth.{NthOf, nth_numbers, nth_row, capped, decision_numbers, decision_row, left_by};
 ghost use Rattle.words.specs.Sheet.{text};
 
+use analysis::rounds::Rows;
 use plan::facts::Facts;
 use plan::ground::find_out;
 use plan::plan::{Plan, plan_cycle};
@@ -46,14 +47,13 @@ pub fn decide_nth(s: &Sheet, to: usize, rules: Rules, past: bool, nth: u32, work
     requires standing { Standing (text s.now) s.now.end rules }
     ensures { NthOf (text s.now) s.now.end to rules past nth work.new result }
 {
-    let mut calls = [[0u64; Row::WORDS]; Row::RULES];
-    let mut corners = [[0u64; Row::WORDS]; Row::RULES];
+    let mut rows = Rows::empty();
     let mut cycles = [[0u64; Row::WORDS]; Row::RULES];
-    let ground = find_out(s, to, rules, past, &mut calls, &mut corners, work);
+    let ground = find_out(s, to, rules, past, &mut rows, work);
     let marks = ground.marks;
     let kept = ground.kept;
     let ids = rules.ids;
-    let n = list_cycles(corners, ids, rules.n as usize, &mut cycles);
+    let n = list_cycles(rows.corners, ids, rules.n as usize, &mut cycles);
     if n <= nth {
         return Nth {
             cycles: n,
@@ -65,7 +65,7 @@ pub fn decide_nth(s: &Sheet, to: usize, rules: Rules, past: bool, nth: u32, work
     let facts = Facts {
         rules,
         past,
-        calls: &calls,
+        rows: &rows,
         marks,
         kept,
     };

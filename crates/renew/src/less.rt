@@ -6,6 +6,7 @@ ghost use Rattle.renew.specs.Less.{WordLess, Less};
 use reach::rows::Row;
 
 // A word without its bit k.
+#[tactic(auto, using(crate::proofs::Laws::Words::lesses))]
 fn word_less(w: u64, k: usize) -> u64
     requires { k < 64 }
     ensures { WordLess w k result }

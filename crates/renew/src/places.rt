@@ -6,7 +6,7 @@ ghost use Rattle.renew.specs.Fewer.{PlaceLess, PlaceLessIf, RulesLess};
 
 use crate::less::without_place;
 use crate::renew::Renewed;
-use analysis::rounds::Marks;
+use analysis::rounds::{Marks, Rows};
 use reach::rows::{Row, has};
 
 // Where the rule at place i stood before place k was taken out.
@@ -33,6 +33,7 @@ fn place_after(k: usize, i: usize) -> usize
 }
 
 // Each row without place k, and the row of rule k left out.
+#[tactic(auto, using(crate::proofs::Laws::Less::lessening), unfolding(crate::specs::Less::before))]
 fn rows_less(rows: &mut [[u64; Row::WORDS]; Row::RULES], n: usize, k: usize)
     requires { (k < n) × (n ≤ rule_limit) × (length rows.old ≡ rule_limit) }
     ensures { RowsLess n k rows.old rows.new }
@@ -44,19 +45,12 @@ fn rows_less(rows: &mut [[u64; Row::WORDS]; Row::RULES], n: usize, k: usize)
 }
 
 // All without place k.
-fn place_less(
-    m: Renewed,
-    n: usize,
-    k: usize,
-    calls: &mut [[u64; Row::WORDS]; Row::RULES],
-    corners: &mut [[u64; Row::WORDS]; Row::RULES],
-) -> Renewed
+fn place_less(m: Renewed, n: usize, k: usize, rows: &mut Rows) -> Renewed
     requires k_lt_n { (k < n) × (n ≤ rule_limit) }
-    requires lengths { (length calls.old ≡ rule_limit) × (length corners.old ≡ rule_limit) }
-    ensures { PlaceLess calls.old corners.old m calls.new corners.new result n k }
+    ensures { PlaceLess rows.old.calls rows.old.corners m rows.new.calls rows.new.corners result n k }
 {
-    rows_less(calls, n, k);
-    rows_less(corners, n, k);
+    rows_less(&mut rows.calls, n, k);
+    rows_less(&mut rows.corners, n, k);
     let marks = m.marks;
     let a = marks.nullable;
     let b = marks.stops;
@@ -78,34 +72,25 @@ fn place_less_if(
     m: Renewed,
     n: usize,
     k: usize,
-    calls: &mut [[u64; Row::WORDS]; Row::RULES],
-    corners: &mut [[u64; Row::WORDS]; Row::RULES],
+    rows: &mut Rows,
 ) -> Renewed
     requires k_lt_n { (k < n) × (n ≤ rule_limit) }
-    requires lengths { (length calls.old ≡ rule_limit) × (length corners.old ≡ rule_limit) }
-    ensures { PlaceLessIf calls.old corners.old m calls.new corners.new result gone n k }
+    ensures { PlaceLessIf rows.old.calls rows.old.corners m rows.new.calls rows.new.corners result gone n k }
 {
     if has(gone, k) {
-        return place_less(m, n, k, calls, corners);
+        return place_less(m, n, k, rows);
     }
     m
 }
 
 // All without the places of the rules that are gone.
-pub fn rules_less(
-    gone: [u64; Row::WORDS],
-    m: Renewed,
-    n: usize,
-    calls: &mut [[u64; Row::WORDS]; Row::RULES],
-    corners: &mut [[u64; Row::WORDS]; Row::RULES],
-) -> Renewed
+pub fn rules_less(gone: [u64; Row::WORDS], m: Renewed, n: usize, rows: &mut Rows) -> Renewed
     requires few_rules { n ≤ rule_limit }
-    requires lengths { (length calls.old ≡ rule_limit) × (length corners.old ≡ rule_limit) }
-    ensures { RulesLess calls.old corners.old m calls.new corners.new result gone n }
+    ensures { RulesLess rows.old.calls rows.old.corners m rows.new.calls rows.new.corners result gone n }
 {
     let mut t = m;
     for k in (0..n).rev() {
-        let u = place_less_if(gone, t, n, k, calls, corners);
+        let u = place_less_if(gone, t, n, k, rows);
         t = u;
     }
     t

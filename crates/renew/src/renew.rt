@@ -9,7 +9,7 @@ ghost use Rattle.words.specs.Sheet.{text};
 use crate::places::rules_less;
 use analysis::known::Known;
 use analysis::names::put_names;
-use analysis::rounds::Marks;
+use analysis::rounds::{Marks, Rows};
 use analysis::survey::survey_rule;
 use reach::rows::{Row, add_if, without};
 use records::rules::Rules;
@@ -40,15 +40,13 @@ fn survey_hub(
     past: bool,
     nullable: [u64; Row::WORDS],
     stops: [u64; Row::WORDS],
-    calls: &mut [[u64; Row::WORDS]; Row::RULES],
-    corners: &mut [[u64; Row::WORDS]; Row::RULES],
+    rows: &mut Rows,
     work: &mut [u8],
 ) -> [u64; Row::WORDS]
     requires bounds { (work_bytes ≤ length work.old) × (hub < rules.n) }
     requires standing { Standing (text s.now) s.now.end rules }
-    requires lengths { (length calls.old ≡ rule_limit) × (length corners.old ≡ rule_limit) }
     ensures hub_surveyed { HubSurveyed (text s.now) s.now.end rules hub past nullable
-        calls.old corners.old stops calls.new corners.new result }
+        rows.old.calls rows.old.corners stops rows.new.calls rows.new.corners result }
     ensures work_after { work.new ≡ table_with rules.names rules.n work.old }
 {
     let names = rules.names;
@@ -65,8 +63,8 @@ fn survey_hub(
     let v = survey_rule(s, &known, places[hub] as usize);
     let c = v.calls;
     let k = v.corners;
-    calls[hub] = c;
-    corners[hub] = k;
+    rows.calls[hub] = c;
+    rows.corners[hub] = k;
     put_bit(stops, hub, v.stops)
 }
 
@@ -78,25 +76,22 @@ pub fn renew(
     before: Renewed,
     gone: [u64; Row::WORDS],
     past: bool,
-    calls: &mut [[u64; Row::WORDS]; Row::RULES],
-    corners: &mut [[u64; Row::WORDS]; Row::RULES],
+    rows: &mut Rows,
     work: &mut [u8],
 ) -> Renewed
     requires bounds { work_bytes ≤ length work.old }
-    requires lengths { (length calls.old ≡ rule_limit) × (length corners.old ≡ rule_limit) }
-    requires renewable { Renewable (text s.now) s.now.end rules n before.hub gone past calls.old corners.old
+    requires renewable { Renewable (text s.now) s.now.end rules n before.hub gone past rows.old.calls rows.old.corners
         before.marks before.kept }
     ensures renewed_of { RenewedOf (text s.now) s.now.end rules n before.hub gone past
-        calls.old corners.old before.marks before.kept calls.new corners.new result }
-    ensures lengths_after { (length calls.new ≡ rule_limit) × (length corners.new ≡ rule_limit) }
+        rows.old.calls rows.old.corners before.marks before.kept rows.new.calls rows.new.corners result }
     ensures work_after { work.new ≡ table_with rules.names rules.n work.old }
 {
-    let rest = rules_less(gone, before, n, calls, corners);
+    let rest = rules_less(gone, before, n, rows);
     let known = rest.marks;
     let nullable = known.nullable;
     let c = known.stops;
     let kept = rest.kept;
-    let stops = survey_hub(s, rules, rest.hub, past, nullable, c, calls, corners, work);
+    let stops = survey_hub(s, rules, rest.hub, past, nullable, c, rows, work);
     Renewed {
         marks: Marks { nullable, stops },
         kept,

@@ -16,21 +16,15 @@ use Rattle.records.specs.declared.rules.Rules.{Rules}
 use Rattle.reach.specs.Rows.{RowOf}
 use Rattle.analysis.specs.Survey.{reading}
 use Rattle.analysis.specs.Facts.{FactsOf}
-use Rattle.analysis.specs.declared.rounds.Marks.{Marks}
+use Rattle.plan.specs.declared.ground.Ground.{Ground}
+use Rattle.apply.specs.declared.apply.Applied.{Applied}
 use Rattle.apply.specs.Held.{Held}
 use Rattle.run.specs.declared.state.State.{State}
 use Rattle.run.specs.Ended.{Front}
 
--- Before the first plan, with so many entries in the trail.
-abbrev pub at_start : Rules → Marks → List ℕ → Counters → (end to entries : ℕ) → State
-at_start rules marks kept counters end to entries =
-    record {
-      at = record { rules = rules; counters = counters; end = end; to = to; entries = entries };
-      marks = marks;
-      kept = kept;
-      plans = 0;
-      steps = 0;
-    }
+-- Before the first plan, with what is found out about the rules.
+abbrev pub at_start : Applied → Ground → State
+at_start at found = record { at = at; marks = found.marks; kept = found.kept; plans = 0; steps = 0 }
 
 -- The sheet of a parser's unit in the result, its rules and its counters.
 pub record Begun (result : List ℕ) (end to : ℕ) (rules : Rules) (counters : Counters) : Type 0 where

@@ -4,9 +4,8 @@ ghost use Rattle.run.specs.Midst.{at_start};
 
 use analysis::rounds::Marks;
 use apply::apply::Applied;
+use plan::ground::Ground;
 use reach::rows::Row;
-use records::rules::Rules;
-use writing::counters::Counters;
 
 // How many entries the trail has.
 #[derive(Clone, Copy, Debug, PartialEq, Eq)]
@@ -23,7 +22,7 @@ impl Trail {
 }
 
 // The sheet in the result with its rules and counters, what is known of the rules, the preserved ones; plans and steps so far.
-#[derive(Clone, Copy)]
+#[derive(Clone, Copy, Debug, PartialEq, Eq)]
 pub struct State {
     pub at: Applied,
     pub marks: Marks,
@@ -33,25 +32,12 @@ pub struct State {
 }
 
 impl State {
-    // Before the first plan, with the trail as it is.
-    pub fn begin(
-        rules: Rules,
-        marks: Marks,
-        kept: [u64; Row::WORDS],
-        counters: Counters,
-        end: usize,
-        to: usize,
-        recorded: Trail,
-    ) -> State
-        ensures { result ≡ at_start rules marks kept counters end to recorded.entries }
+    // Before the first plan, with what was found out about the rules.
+    pub fn begin(at: Applied, found: Ground) -> State
+        ensures { result ≡ at_start at found }
     {
-        let at = Applied {
-            rules,
-            counters,
-            end,
-            to,
-            entries: recorded.entries,
-        };
+        let marks = found.marks;
+        let kept = found.kept;
         State {
             at,
             marks,

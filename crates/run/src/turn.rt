@@ -10,11 +10,11 @@ ghost use Rattle.run.specs.Midst.{Going};
 ghost use Rattle.run.specs.Turn.{Small, UpToDate, Advancing, AdvancedOf, TurnedOf};
 
 use crate::state::State;
+use analysis::rounds::Rows;
 use apply::apply::{Applied, apply};
 use plan::facts::Facts;
 use plan::plan::Plan;
 use plan::search::find_plan;
-use reach::rows::Row;
 use renew::renew::{Renewed, renew};
 use turns::limits::Limits;
 use words::numbers::Refusal;
@@ -24,21 +24,18 @@ use words::sheet::Sheet;
 fn bring_up(
     res: &[u8],
     work: &mut [u8],
-    calls: &mut [[u64; Row::WORDS]; Row::RULES],
-    corners: &mut [[u64; Row::WORDS]; Row::RULES],
+    rows: &mut Rows,
     past: bool,
     st: State,
     a: Applied,
     p: Plan,
 ) -> State
     requires bounds { Room res.now a.end × (work_bytes ≤ length work.old) × (st.at.rules.n ≤ rule_limit) }
-    requires lengths { (length calls.old ≡ rule_limit) × (length corners.old ≡ rule_limit) }
     requires plans_bound { (st.plans + 1 < word_end) × (st.steps + p.steps < word_end) }
-    requires renewable { Renewable (words res.now) a.end a.rules st.at.rules.n p.hub p.removable past calls.old
-        corners.old st.marks st.kept }
-    ensures up_to_date { UpToDate (words res.now) past calls.old corners.old st a p
-        calls.new corners.new result }
-    ensures lengths_after { (length calls.new ≡ rule_limit) × (length corners.new ≡ rule_limit) }
+    requires renewable { Renewable (words res.now) a.end a.rules st.at.rules.n p.hub p.removable past rows.old.calls
+        rows.old.corners st.marks st.kept }
+    ensures up_to_date { UpToDate (words res.now) past rows.old.calls rows.old.corners st a p
+        rows.new.calls rows.new.corners result }
 {
     let at = st.at;
     let old = at.rules;
@@ -58,7 +55,7 @@ fn bring_up(
         kept,
         hub: p.hub,
     };
-    let r = renew(&s, rules, n, before, gone, past, calls, corners, work);
+    let r = renew(&s, rules, n, before, gone, past, rows, work);
     let known = r.marks;
     let preserved = r.kept;
     State {
@@ -75,8 +72,7 @@ fn advance(
     res: &mut [u8],
     trail: &mut [u8],
     work: &mut [u8],
-    calls: &mut [[u64; Row::WORDS]; Row::RULES],
-    corners: &mut [[u64; Row::WORDS]; Row::RULES],
+    rows: &mut Rows,
     limits: Limits,
     past: bool,
     room: usize,
@@ -84,39 +80,36 @@ fn advance(
     p: Plan,
 ) -> Result<State, Refusal>
     requires buffers { Buffers res.old trail.old work.old × Small limits × (room ≡ most_words) }
-    requires lengths { (length calls.old ≡ rule_limit) × (length corners.old ≡ rule_limit) }
-    requires advancing { Advancing (limits_of limits) past res.old trail.old work.old calls.old corners.old st p }
-    ensures advanced_of { AdvancedOf (limits_of limits) past res.old trail.old work.old calls.old
-        corners.old st p res.new trail.new calls.new corners.new result }
+    requires advancing { Advancing (limits_of limits) past res.old trail.old work.old rows.old.calls rows.old.corners st p }
+    ensures advanced_of { AdvancedOf (limits_of limits) past res.old trail.old work.old rows.old.calls
+        rows.old.corners st p res.new trail.new rows.new.calls rows.new.corners result }
     ensures lengths_stay { (length res.new ≡ length res.old)
         × (length trail.new ≡ length trail.old) × (length work.new ≡ length work.old) }
-    ensures lengths_after { (length calls.new ≡ rule_limit) × (length corners.new ≡ rule_limit) }
 {
     let at = st.at;
     let a = apply(res, trail, work, at, room, p)?;
-    Ok(bring_up(res, work, calls, corners, past, st, a, p))
+    Ok(bring_up(res, work, rows, past, st, a, p))
 }
 
 // The first cycle with a plan, and the plan applied; none where no cycle has one.
+// Stays: limits, reading and room are three parameters, since each goes to another callee: the limits to the search, the reading to
+// `Facts`, the room to `apply`; a struct of the three would be made in one place and taken apart at once.
 pub fn take_turn(
     res: &mut [u8],
     trail: &mut [u8],
     work: &mut [u8],
-    calls: &mut [[u64; Row::WORDS]; Row::RULES],
-    corners: &mut [[u64; Row::WORDS]; Row::RULES],
+    rows: &mut Rows,
     limits: Limits,
     past: bool,
     room: usize,
     st: State,
 ) -> Result<Option<State>, Refusal>
     requires buffers { Buffers res.old trail.old work.old × Small limits × (room ≡ most_words) }
-    requires lengths { (length calls.old ≡ rule_limit) × (length corners.old ≡ rule_limit) }
-    requires going { Going (limits_of limits) past res.old trail.old calls.old corners.old st }
-    ensures turned_of { TurnedOf (limits_of limits) past res.old trail.old calls.old
-        corners.old st res.new trail.new calls.new corners.new result }
+    requires going { Going (limits_of limits) past res.old trail.old rows.old.calls rows.old.corners st }
+    ensures turned_of { TurnedOf (limits_of limits) past res.old trail.old rows.old.calls
+        rows.old.corners st res.new trail.new rows.new.calls rows.new.corners result }
     ensures lengths_stay { (length res.new ≡ length res.old)
         × (length trail.new ≡ length trail.old) × (length work.new ≡ length work.old) }
-    ensures lengths_after { (length calls.new ≡ rule_limit) × (length corners.new ≡ rule_limit) }
 {
     let at = st.at;
     let rules = at.rules;
@@ -129,15 +122,15 @@ pub fn take_turn(
     let facts = Facts {
         rules,
         past,
-        calls,
+        rows,
         marks,
         kept,
     };
-    let found = find_plan(&s, &facts, corners, limits, work);
+    let found = find_plan(&s, &facts, limits, work);
     let Some(f) = found.answer? else {
         return Ok(None);
     };
     let p = f.plan;
-    let next = advance(res, trail, work, calls, corners, limits, past, room, st, p)?;
+    let next = advance(res, trail, work, rows, limits, past, room, st, p)?;
     Ok(Some(next))
 }

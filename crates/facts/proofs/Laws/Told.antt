@@ -29,7 +29,8 @@ use Rattle.reach.specs.Rows.{holds, Behind}
 use Rattle.analysis.specs.Survey.{reading}
 use Rattle.analysis.specs.Facts.{Among, Standing, FactsOf, FactsFound}
 use Rattle.reach.specs.Listed.{row_at, corner_rows, Numbered, Edges, Ids, CycleRows, CyclesIn}
-use Rattle.facts.specs.Told.{no_rows, TellsRules, RulesTold, TellsSheet, Tells}
+use Rattle.analysis.specs.Rounds.{no_rows}
+use Rattle.facts.specs.Told.{TellsRules, RulesTold, TellsSheet, Tells}
 use Rattle.analysis.specs.declared.rounds.Marks.{Marks}
 use Rattle.reach.proofs.Laws.Rows.{two_words}
 use Rattle.analysis.proofs.Laws.Standing.{key_at, all_rules, id_at, rule_of}

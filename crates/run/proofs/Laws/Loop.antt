@@ -1,24 +1,23 @@
 -- The loop over plans: what holds at each turn, and what the turns make of it.
-use Rattle.std.specs.Prelude.{Some, None, Result, Ok, Err}
+use Rattle.std.specs.Prelude.{Some, None, Ok, Err}
 use Prim.Native.Nat.{ℕ, suc, ◌-◌, ◌<◌}
 use mathlib.Core.Path.{◌≡◌, refl, sym, subst}
 use mathlib.Core.List.{List}
 use mathlib.Core.Bool.{Bool}
 use native.Mathlib.Omega.{arith}
 use lib.ListN.{length}
-use Rattle.grammar.specs.Numbers.{most_words, rule_limit}
+use Rattle.grammar.specs.Numbers.{most_words}
 use Rattle.grammar.specs.Words.{words}
 use Rattle.writing.specs.declared.counters.Counters.{Counters}
 use Rattle.records.specs.declared.rules.Rules.{Rules}
 use Rattle.analysis.specs.Facts.{FactsFound}
-use Rattle.analysis.specs.declared.rounds.Marks.{Marks}
-use Rattle.reference.specs.Substitute as R
 use Rattle.turns.specs.Midway.{limits_of}
 use Rattle.turns.specs.declared.limits.Limits.{Limits}
 use Rattle.plan.specs.Ground.{KeptOf}
+use Rattle.plan.specs.declared.ground.Ground.{Ground}
 use Rattle.apply.specs.Applied.{Buffers}
+use Rattle.apply.specs.declared.apply.Applied.{Applied}
 use Rattle.run.specs.declared.state.State.{State}
-use Rattle.run.specs.declared.state.Ended.{Ended}
 use Rattle.words.specs.declared.numbers.Refusal.{Refusal}
 use Rattle.run.specs.Midst.{at_start, Begun, Going}
 use Rattle.run.specs.Turn.{Small, ended_with, TurnedOf, RunOf, Onward}
@@ -39,50 +38,35 @@ module _ (lim : Limits) (past : Bool) (room : ℕ) (result₀ : List ℕ) (end t
     pub lent : Buffers result trail work
     pub small : Small lim
     pub most : room ≡ most_words
-    pub calls_long : length calls ≡ rule_limit
-    pub corners_long : length corners ≡ rule_limit
     pub begun : Begun result₀ end to rules counters
     pub going : Going (limits_of lim) past result trail calls corners st
     pub onward : Onward (limits_of lim) past result₀ end to rules counters result trail calls corners st
 
-module _ {lim : Limits} {past : Bool} {room : ℕ} {result₀ : List ℕ} {end to : ℕ} {rules : Rules} {counters : Counters} where
-  -- The trail has no entries yet, and the work area is as long as it was lent.
-  pub looping_start : {trail work work₀ : List ℕ} {calls corners : List (List ℕ)} {marks : Marks} {kept : List ℕ} {recorded : ℕ} {st : State}
-      → Buffers result₀ trail work₀ → Small lim → room ≡ most_words → recorded ≡ 0 → Begun result₀ end to rules counters
-      → FactsFound (words result₀) end rules past calls corners marks → KeptOf (words result₀) end to rules kept
-      → length calls ≡ rule_limit → length corners ≡ rule_limit → length work ≡ length work₀
-      → st ≡ at_start rules marks kept counters end to recorded
-      → Looping lim past room result₀ end to st.at.rules st.at.counters result₀ trail work calls corners st
-  looping_start {trail} {work} {work₀} {calls} {corners} b s m z x g k lc lo w e =
-      let o = onward_begin trail z g k in
-      subst (λ y. Looping lim past room result₀ end to y.at.rules y.at.counters result₀ trail work calls corners y) (sym e)
-      (record {
-        lent = buffers_same b refl refl w;
-        small = s;
-        most = m;
-        calls_long = lc;
-        corners_long = lo;
-        begun = x;
-        going = onward_going o x;
-        onward = o;
-      })
+-- The trail has no entries yet, and the work area is as long as it was lent.
+pub looping_start : {lim : Limits} {past : Bool} {room : ℕ} {result₀ trail work work₀ : List ℕ} {at : Applied} {calls corners : List (List ℕ)}
+    {found : Ground} {st : State} → Buffers result₀ trail work₀ → Small lim → room ≡ most_words → at.entries ≡ 0
+    → Begun result₀ at.end at.to at.rules at.counters → FactsFound (words result₀) at.end at.rules past calls corners found.marks
+    → KeptOf (words result₀) at.end at.to at.rules found.kept → length work ≡ length work₀ → st ≡ at_start at found
+    → Looping lim past room result₀ at.end at.to at.rules at.counters result₀ trail work calls corners st
+looping_start {lim} {past} {room} {result₀} {trail} {work} {work₀} {at} {calls} {corners} b s m z x g k w e =
+    let o = onward_begin (limits_of lim) z g k trail in
+    subst (λ y. Looping lim past room result₀ at.end at.to at.rules at.counters result₀ trail work calls corners y) (sym e)
+    (record { lent = buffers_same b refl refl w; small = s; most = m; begun = x; going = onward_going o x; onward = o })
 
+module _ {lim : Limits} {past : Bool} {room : ℕ} {result₀ : List ℕ} {end to : ℕ} {rules : Rules} {counters : Counters} where
   module _ {result trail work : List ℕ} {calls corners : List (List ℕ)} {st : State}
       (l : Looping lim past room result₀ end to rules counters result trail work calls corners st) where
     module _ {result' trail' : List ℕ} {calls' corners' : List (List ℕ)} where
       module _ {next : State}
           (t : TurnedOf (limits_of lim) past result trail calls corners st result' trail' calls' corners' (Ok (Some next))) where
         pub looping_more : {work' : List ℕ} → length result' ≡ length result → length trail' ≡ length trail → length work' ≡ length work
-            → length calls' ≡ rule_limit → length corners' ≡ rule_limit
             → Looping lim past room result₀ end to rules counters result' trail' work' calls' corners' next
-        looping_more i j k lc lo =
+        looping_more i j k =
             let o = onward_more l.onward t in
             record {
               lent = buffers_same l.lent i j k;
               small = l.small;
               most = l.most;
-              calls_long = lc;
-              corners_long = lo;
               begun = l.begun;
               going = onward_going o l.begun;
               onward = o;
@@ -100,12 +84,5 @@ module _ {lim : Limits} {past : Bool} {room : ℕ} {result₀ : List ℕ} {end t
           → TurnedOf (limits_of lim) past result trail calls corners st result' trail' calls' corners' (Err f)
           → RunOf (limits_of lim) past result₀ end to rules counters result' trail' (Err f)
       looping_refused = onward_refused l.onward
-
--- What is known of the run from its first state on is known of the rules and counters with which it began.
-pub looping_whole : {limits : R.Limits} {past : Bool} {result₀ : List ℕ} {end to : ℕ} {rules : Rules} {counters : Counters} {marks : Marks}
-    {kept : List ℕ} {recorded : ℕ} {st : State} → st ≡ at_start rules marks kept counters end to recorded → {result trail : List ℕ} {r : Result Ended Refusal}
-    → RunOf limits past result₀ end to st.at.rules st.at.counters result trail r → RunOf limits past result₀ end to rules counters result trail r
-looping_whole {limits} {past} {result₀} {end} {to} e {result} {trail} {r} o =
-    subst (λ y. RunOf limits past result₀ end to y.at.rules y.at.counters result trail r) e o
 
 pub ruleset loops = (looping_more, looping_falls, looping_over, looping_refused)

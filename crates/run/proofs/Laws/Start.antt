@@ -1,6 +1,6 @@
 -- The start of a run, and its loop.
 use Rattle.std.specs.Prelude.{Some, None, Ok, Err}
-use Prim.Native.Nat.{ℕ, suc, ◌+◌, ◌-◌, ◌≤◌, ◌<◌}
+use Prim.Native.Nat.{ℕ, suc, ◌+◌, ◌-◌, ◌*◌, ◌≤◌, ◌<◌}
 use mathlib.Core.Path.{◌≡◌, refl, sym, subst}
 use mathlib.Core.List.{List, []}
 use mathlib.Core.Bool.{Bool}
@@ -16,6 +16,7 @@ use Rattle.grammar.specs.Words.{words}
 use Rattle.grammar.specs.Laws.Parse.{left_true}
 use Rattle.grammar.specs.Laws.Stands.{stands_none}
 use Rattle.reference.specs.Substitute as R
+use Rattle.reference.specs.Numbers.{entry_words}
 use Rattle.reference.specs.Run.{steps_of, entries_of}
 use Rattle.laws.specs.Running.Midway.{midway_start}
 use Rattle.words.specs.Room.{Room}
@@ -25,10 +26,12 @@ use Rattle.records.specs.declared.rules.Rules.{Rules}
 use Rattle.reach.specs.Rows.{RowOf}
 use Rattle.analysis.specs.Survey.{reading}
 use Rattle.analysis.specs.Facts.{Standing, FactsFound}
-use Rattle.analysis.specs.declared.rounds.Marks.{Marks}
+use Rattle.plan.specs.declared.ground.Ground.{Ground}
 use Rattle.plan.specs.Ground.{KeptAt, KeptOf}
+use Rattle.apply.specs.declared.apply.Applied.{Applied}
 use Rattle.apply.specs.Laws.Held.{held_long, held_room, held_kept, held_standing, held_preserved}
 use Rattle.run.specs.declared.state.State.{State}
+use Rattle.run.specs.Ended.{Front}
 use Rattle.run.specs.Midst.{at_start, Begun, Midst, Going}
 use Rattle.run.specs.Turn.{ended_with, TurnedOf, RunOf, Onward}
 
@@ -49,43 +52,34 @@ module _ {result : List ℕ} {end to : ℕ} {rules : Rules} {counters : Counters
   unfoldable pub begun_standing : Standing (words result) end rules
   begun_standing = held_standing x.held x.is_valid x.rows
 
-  module _ (limits : R.Limits) {past : Bool} {calls corners : List (List ℕ)} {marks : Marks} {kept : List ℕ}
-      (f : FactsFound (words result) end rules past calls corners marks) (k : KeptOf (words result) end to rules kept)
-      (trail : List ℕ) where
-    started : Midst limits past x.sheet result trail calls corners (at_start rules marks kept counters end to 0)
-    unfolding begun_standing held_standing entries_of steps_of total
-    started =
-        record {
-          stages = [];
-          now = x.sheet;
-          midway = midway_start limits (reading past) x.sheet x.is_valid x.is_fitting x.is_parser;
-          held = x.held;
-          rows = x.rows;
-          counters = x.counters_are;
-          facts = f.is begun_standing;
-          keeps = subst (λ ps. RowOf rules.ids rules.n ps kept) (held_preserved x.held) k.row;
-          told = record { stands = stands_none (omega arith); room = omega arith };
-          entries = refl;
-          plans = refl;
-          steps = refl;
-        }
-
 pub ruleset begins = (begun_room, begun_kept, begun_standing)
 
+-- The trail has no entries yet.
+module _ (limits : R.Limits) {past : Bool} {result : List ℕ} {at : Applied} {calls corners : List (List ℕ)} {found : Ground}
+    (e : at.entries ≡ 0) (f : FactsFound (words result) at.end at.rules past calls corners found.marks)
+    (k : KeptOf (words result) at.end at.to at.rules found.kept) (trail : List ℕ) where
+  started : (x : Begun result at.end at.to at.rules at.counters) → Midst limits past x.sheet result trail calls corners (at_start at found)
+  unfolding begun_standing held_standing entries_of steps_of total
+  started x =
+      record {
+        stages = [];
+        now = x.sheet;
+        midway = midway_start limits (reading past) x.sheet x.is_valid x.is_fitting x.is_parser;
+        held = x.held;
+        rows = x.rows;
+        counters = x.counters_are;
+        facts = f.is (begun_standing x);
+        keeps = subst (λ ps. RowOf at.rules.ids at.rules.n ps found.kept) (held_preserved x.held) k.row;
+        told = subst (λ n. Front trail [] (entry_words * n)) (sym e) (record { stands = stands_none (omega arith); room = omega arith });
+        entries = e;
+        plans = refl;
+        steps = refl;
+      }
+
+  pub onward_begin : Onward limits past result at.end at.to at.rules at.counters result trail calls corners (at_start at found)
+  onward_begin = record { is = started }
+
 module _ {limits : R.Limits} {past : Bool} {result : List ℕ} {end to : ℕ} {rules : Rules} {counters : Counters} where
-  pub onward_start : {calls corners : List (List ℕ)} {marks : Marks} {kept : List ℕ} (trail : List ℕ)
-      → FactsFound (words result) end rules past calls corners marks → KeptOf (words result) end to rules kept
-      → Onward limits past result end to rules counters result trail calls corners (at_start rules marks kept counters end to 0)
-  onward_start trail f k = record { is = λ x. started x limits f k trail }
-
-  -- The trail has no entries yet.
-  pub onward_begin : {calls corners : List (List ℕ)} {marks : Marks} {kept : List ℕ} {recorded : ℕ} (trail : List ℕ) → recorded ≡ 0
-      → FactsFound (words result) end rules past calls corners marks → KeptOf (words result) end to rules kept
-      → Onward limits past result end to rules counters result trail calls corners (at_start rules marks kept counters end to recorded)
-  onward_begin {calls} {corners} {marks} {kept} trail e f k =
-      subst (λ n. Onward limits past result end to rules counters result trail calls corners (at_start rules marks kept counters end to n))
-      (sym e) (onward_start trail f k)
-
   module _ {result₁ trail₁ : List ℕ} {calls corners : List (List ℕ)} {st : State}
       (o : Onward limits past result end to rules counters result₁ trail₁ calls corners st) where
     pub onward_going : Begun result end to rules counters → Going limits past result₁ trail₁ calls corners st

@@ -13,4 +13,4 @@ pub survey_rule-t-requires-clause-found_rule : goal.survey_rule-t-requires-claus
 survey_rule-t-requires-clause-found_rule c = search (rules, recording, standing)
 
 pub loop-i-preserved : goal.loop-i-preserved
-loop-i-preserved c = record_more c.loop-i.invariant _ c.survey_rule-t.ensures refl c.loop-i-test.true (search rules) c.mark-r.ensures
+loop-i-preserved c = record_more c.loop-i.invariant _ c.survey_rule-t.ensures refl c.loop-i-test.true (search rules) c.mark-m.ensures

@@ -2,7 +2,7 @@ use Rattle.std.proofs.Common.{refl, rules, arith}
 use Rattle.std.proofs.lemmas.Result.{err_from_is_err_and}
 use Rattle.run.proofs.unit.run_unit.Goals as goal
 use Rattle.run.proofs.Laws.Start.{begins}
-use Rattle.run.proofs.Laws.Loop.{loops, looping_start, looping_more, looping_whole}
+use Rattle.run.proofs.Laws.Loop.{loops, looping_start, looping_more}
 
 pub invariant_of-s : goal.invariant_of-s
 invariant_of-s c = record { room = search (rules, loops, begins) }
@@ -20,8 +20,7 @@ pub loop-next-init : goal.loop-next-init
 loop-next-init c =
     let b = c.requires.buffers in
     let g = c.find_out-ground.ensures in (
-      looping_start b.0 b.1 b.2 b.3 c.requires.begun g.facts_found g.kept_of g.lengths_after.0 g.lengths_after.1 (search rules)
-          c.begin-st.ensures,
+      looping_start b.0 b.1 b.2 b.3 c.requires.begun g.facts_found g.kept_of (search rules) c.begin-st.ensures,
       refl,
       refl,
       refl,
@@ -30,7 +29,7 @@ loop-next-init c =
 pub returns-in_err-next-clause-run_of : goal.returns-in_err-next-clause-run_of
 returns-in_err-next-clause-run_of c =
     let p = err_from_is_err_and c.from_residual.result c.from_residual.ensures.1 in
-    rw (p.1, p.2) (search (rules, loops, looping_whole, c.in_err-next.ensures.turned_of))
+    rw (p.1, p.2) (search (rules, loops, c.in_err-next.ensures.turned_of))
 
 -- src/unit.rt:46:5
 pub loop-next-smaller : goal.loop-next-smaller
@@ -42,8 +41,8 @@ loop-next-preserved c =
     let t = rw c.in-Some.is at c.in_ok-next.ensures.turned_of in
     let o = c.in_ok-next.ensures in
     let n = o.lengths_stay in
-    (looping_more c.loop-next.invariant.0 t n.0 n.1 n.2 o.lengths_after.0 o.lengths_after.1, omega arith, omega arith, omega arith)
+    (looping_more c.loop-next.invariant.0 t n.0 n.1 n.2, omega arith, omega arith, omega arith)
 
 -- src/unit.rt:20:1
 pub returns-clause-run_of : goal.returns-clause-run_of
-returns-clause-run_of c = let t = rw c.in_default.is at c.in_ok-next.ensures.turned_of in search (rules, loops, looping_whole)
+returns-clause-run_of c = let t = rw c.in_default.is at c.in_ok-next.ensures.turned_of in search (rules, loops)
