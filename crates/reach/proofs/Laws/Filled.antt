@@ -2,7 +2,7 @@
 use Prim.Native.Nat.{ℕ, ◌+◌, ◌<◌}
 use mathlib.Core.Path.{◌≡◌, refl, sym, ap, ap₂, ◌∙◌, subst}
 use mathlib.Core.List.{List, [], ◌∷◌}
-use mathlib.Core.Bool.{Bool, true, false, ◌&&◌, ◌||◌, and-true, and-false}
+use mathlib.Core.Bool.{Bool, true, false, ◌&&◌, ◌||◌, and-true, and-false, or-false}
 use native.Mathlib.Omega.{arith}
 use lib.ListN.{get_or}
 use lib.Dec.{eqb, ltb}
@@ -11,7 +11,7 @@ use Rattle.grammar.specs.Laws.Parse.{either}
 use Rattle.reach.specs.Rows.{bit, edge, AddIf, Meet, Collected}
 use Rattle.reach.specs.Reach.{Loops, Around}
 use Rattle.reach.specs.Steps.{Below}
-use Rattle.reach.proofs.Laws.Rows.{or_false, no_bits}
+use Rattle.reach.proofs.Laws.Rows.{no_bits}
 
 module _ {Gives : ℕ → Bool → Type 0} where
   pub collected_none : Collected Gives 0 (0 ∷ 0 ∷ [])
@@ -31,7 +31,7 @@ module _ {Gives : ℕ → Bool → Type 0} where
       own = a.at i ∙ ap₂ (λ x y. x || (on && y)) (p.beyond i (omega arith)) (eq-eqb i i refl) ∙ and-true on
 
       other : (k : ℕ) → (k ≡ i → ⊥) → bit t k ≡ bit r k
-      other k n = a.at k ∙ ap (λ y. bit r k || (on && y)) (ne_eqb k i n) ∙ ap (λ y. bit r k || y) (and-false on) ∙ or_false (bit r k)
+      other k n = a.at k ∙ ap (λ y. bit r k || (on && y)) (ne_eqb k i n) ∙ ap (λ y. bit r k || y) (and-false on) ∙ or-false (bit r k)
 
   -- Where the test is a function of the rule, so is the row.
   collected_bit : {n : ℕ} {r : List ℕ} → Collected Gives n r → (test : ℕ → Bool) → ((k : ℕ) (b : Bool) → k < n → Gives k b → b ≡ test k)

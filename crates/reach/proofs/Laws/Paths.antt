@@ -1,23 +1,14 @@
 -- Warshall's recursion finds the paths.
 use Prim.Native.Nat.{ℕ, zero, suc, ◌≤◌, ◌<◌}
-use mathlib.Core.Path.{◌≡◌, refl, ap, ◌∙◌, subst}
+use mathlib.Core.Path.{◌≡◌, subst}
 use mathlib.Core.Logic.{◌⊎◌, inl, inr, ⊎_elim}
-use mathlib.Core.Bool.{Bool, true, false, ◌&&◌, ◌||◌, or-true}
+use mathlib.Core.Bool.{Bool, true, ◌&&◌, ◌||◌}
 use native.Mathlib.Omega.{arith}
 use lib.Dec.{eqb}
 use borrow.Author.Tests.{eqb-true, eqb-false}
+use Rattle.std.proofs.lemmas.Bool.{or_cases, or_left, or_right}
 use Rattle.grammar.specs.Laws.Parse.{both_true, left_true, right_true, either}
 use Rattle.reach.specs.Reach.{Path, last, more}
-
-pub or_cases : (a b : Bool) → (a || b) ≡ true → (a ≡ true) ⊎ (b ≡ true)
-or_cases true b t = inl refl
-or_cases false b t = inr t
-
-pub or_left : (a b : Bool) → a ≡ true → (a || b) ≡ true
-or_left a b t = ap (λ x. x || b) t
-
-pub or_right : (a b : Bool) → b ≡ true → (a || b) ≡ true
-or_right a b t = ap (λ x. a || x) t ∙ or-true a
 
 pub path_path : {f : ℕ → ℕ → Bool} {n i k j : ℕ} → Path f n i k → k < n → Path f n k j → Path f n i j
 path_path (last e) l q = more e l q

@@ -2,7 +2,7 @@
 use Prim.Native.Nat.{ℕ, ◌+◌, ◌≤◌, ◌<◌}
 use mathlib.Core.Path.{◌≡◌, refl, sym, ap, ap₂, ◌∙◌, subst}
 use mathlib.Core.List.{List, []}
-use mathlib.Core.Bool.{Bool, true, false, ◌&&◌, ◌||◌, not, and-false}
+use mathlib.Core.Bool.{◌&&◌, ◌||◌, not}
 use native.Mathlib.Omega.{arith}
 use native.Mathlib.Numerals.{add-one}
 use lib.ListN.{length, get_or, set, length-set}
@@ -10,10 +10,9 @@ use lib.Seq.{get_or-set_same, get_or-set_other}
 use lib.Dec.{eqb}
 use borrow.Author.Tests.{eqb-true, eqb-false}
 use Rattle.grammar.specs.Laws.Parse.{either}
-use Rattle.reach.specs.Rows.{bit, edge, Without, Union, Empty}
+use Rattle.reach.specs.Rows.{bit, edge, Without}
 use Rattle.reach.specs.Reach.{other, Others, Closed}
 use Rattle.reach.specs.Steps.{Through}
-use Rattle.reach.proofs.Laws.Rows.{or_false}
 use Rattle.reach.proofs.Laws.Paths.{within, within_path, path_within}
 
 -- A row stored, and the others.
@@ -36,9 +35,6 @@ pub record Cleared (rows : List (List ℕ)) (n i : ℕ) (r : List (List ℕ)) : 
   pub room : i ≤ n
   pub below : (a j : ℕ) → a < i → edge r a j ≡ other rows a j
   pub rest : (a j : ℕ) → i ≤ a → edge r a j ≡ edge rows a j
-
-pub cleared_none : {rows : List (List ℕ)} {n : ℕ} → length rows ≡ 128 → Cleared rows n 0 rows
-cleared_none s = record { size = s; room = omega arith; below = λ a j l. absurd (omega arith); rest = λ a j l. refl }
 
 pub cleared_more : {rows : List (List ℕ)} {n i : ℕ} {r : List (List ℕ)} {t : List ℕ} → Cleared rows n i r → i < n → n ≤ 128
     → Without (get_or r i []) i t
@@ -68,60 +64,6 @@ pub record Midway (rows : List (List ℕ)) (k : ℕ) (via : List ℕ) (n i : ℕ
   pub room : i ≤ n
   pub below : (a j : ℕ) → a < i → edge r a j ≡ (edge rows a j || (edge rows a k && bit via j))
   pub rest : (a j : ℕ) → i ≤ a → edge r a j ≡ edge rows a j
-
-pub midway_none : {rows : List (List ℕ)} {k : ℕ} {via : List ℕ} {n : ℕ} → length rows ≡ 128 → Midway rows k via n 0 rows
-midway_none s = record { size = s; room = omega arith; below = λ a j l. absurd (omega arith); rest = λ a j l. refl }
-
-module _ {rows : List (List ℕ)} {k : ℕ} {via : List ℕ} {n i : ℕ} {r : List (List ℕ)} (h : Midway rows k via n i r) where
-  -- A row that has rule k, and one that has not.
-  pub midway_yes : {s : List (List ℕ)} {t : List ℕ} {b : Bool} → i < n → n ≤ 128 → b ≡ bit (get_or r i []) k → b ≡ true
-      → Union (get_or r i []) via t → s ≡ set r i t → Midway rows k via n (i + 1) s
-  midway_yes {t = t} l m e y u q =
-      subst (Midway rows k via n (i + 1)) (sym q)
-      record {
-        size = size_set r i t h.size;
-        room = omega arith;
-        below = λ a j c.
-            upto a i c
-            (λ z.
-            subst (λ x. edge (set r i t) x j ≡ (edge rows x j || (edge rows x k && bit via j))) (sym z)
-            (edge_same r i t j (let s = h.size in omega arith) ∙ u.at j
-            ∙ ap₂ (λ x y. x || (y && bit via j)) (h.rest i j (omega arith)) (sym y ∙ e ∙ h.rest i k (omega arith))))
-            (λ c. edge_other r i t a j (λ z. omega arith) ∙ h.below a j c);
-        rest = λ a j c. edge_other r i t a j (λ z. omega arith) ∙ h.rest a j (omega arith);
-      }
-
-  pub midway_no : {s : List (List ℕ)} {b : Bool} → i < n → b ≡ bit (get_or r i []) k → b ≡ false → s ≡ r → Midway rows k via n (i + 1) s
-  midway_no l e f q =
-      subst (Midway rows k via n (i + 1)) (sym q)
-      record {
-        size = h.size;
-        room = omega arith;
-        below = λ a j c.
-            upto a i c
-            (λ z.
-            subst (λ x. edge r x j ≡ (edge rows x j || (edge rows x k && bit via j))) (sym z)
-            (sym (or_false (edge r i j))
-            ∙ ap₂ (λ x y. x || (y && bit via j)) (h.rest i j (omega arith)) (sym f ∙ e ∙ h.rest i k (omega arith))))
-            (λ c. h.below a j c);
-        rest = λ a j c. h.rest a j (omega arith);
-      }
-
-  pub midway_done : n ≤ i → Through rows k via n r
-  midway_done l = record { size = h.size; at = λ a j c. h.below a j (omega arith) }
-
--- A rule that leads nowhere changes nothing.
-pub through_none : {rows : List (List ℕ)} {k : ℕ} {via : List ℕ} {n : ℕ} {e : Bool} → length rows ≡ 128 → Empty via e → e ≡ true
-    → Through rows k via n rows
-through_none {rows} {k} s x t =
-    record {
-      size = s;
-      at = λ i j l.
-          sym (or_false (edge rows i j))
-          ∙ ap (λ b. edge rows i j || b) (sym (and-false (edge rows i k)) ∙ ap (λ b. edge rows i k && b) (sym (x.none t j)));
-    }
-
-pub ruleset passing = (midway_none, midway_yes, midway_no, midway_done, through_none)
 
 -- The rows have the paths through rules below k.
 pub record Sofar (rows : List (List ℕ)) (n k : ℕ) (r : List (List ℕ)) : Type 0 where

@@ -9,7 +9,7 @@ use lib.Dec.{eqb, ltb}
 use lib.Bits.{bit_and, bit_or, bit_xor, or_add_and, and_le_l, and_le_r}
 use borrow.Author.Tests.{eqb-true, eqb-false, ltb-true, ltb-false, lt-ltb, le-ltb, eq-eqb, ne_eqb}
 use Rattle.grammar.specs.Laws.Parse.{either}
-use Rattle.reach.specs.Rows.{digit, bit, One, With, Without, Union, Meet, Minus, AddIf, Empty}
+use Rattle.reach.specs.Rows.{digit, bit, One, Union, Meet, Minus, Empty}
 use Rattle.reach.proofs.Laws.Words.{or_digit, and_digit, minus_digit, zero_digit, one_digit, some_digit}
 
 low_bit : (row : List ℕ) (j : ℕ) → j < 64 → bit row j ≡ digit (get_or row 0 0) j
@@ -135,20 +135,3 @@ empty_row {row} e =
       none = λ t k. sym (two_words row k) ∙ e.none t k;
       some = λ f. let (j, l, b) = e.some f in (j, l, sym (two_words row j) ∙ b);
     }
-
-pub or_false : (b : Bool) → (b || false) ≡ b
-or_false true = refl
-or_false false = refl
-
--- A row joined with one rule, and one without it.
-pub with_one : {row o r : List ℕ} {j : ℕ} → One j o → Union row o r → With row j r
-with_one {row} o r = record { at = λ k. r.at k ∙ ap (λ b. bit row k || b) (o.at k) }
-
-pub without_one : {row o r : List ℕ} {j : ℕ} → One j o → Minus row o r → Without row j r
-without_one {row} o r = record { at = λ k. r.at k ∙ ap (λ b. bit row k && not b) (o.at k) }
-
-pub add_yes : {row r : List ℕ} {j : ℕ} {on : Bool} → on ≡ true → With row j r → AddIf row j on r
-add_yes {row} {r} {j} t w = record { at = λ k. w.at k ∙ ap (λ b. bit row k || (b && eqb k j)) (sym t) }
-
-pub add_no : {row : List ℕ} {j : ℕ} {on : Bool} → on ≡ false → AddIf row j on row
-add_no {row} {j} f = record { at = λ k. sym (or_false (bit row k)) ∙ ap (λ b. bit row k || (b && eqb k j)) (sym f) }
