@@ -1,5 +1,5 @@
 -- Cycles: what the definition lists are those of SPECIFICATION 6.7, by paths of left corners.
-use Rattle.std.specs.Prelude.{ℕ, ◌≤◌, ◌≡◌, refl, ◌↔◌, ◌⊎◌, true, length}
+use Rattle.std.specs.Prelude.{ℕ, ◌≤◌, ◌≡◌, refl, ◌↔◌, true, length}
 use Rattle.std.proofs.Math.Path.{sym, subst}
 use Rattle.std.proofs.Common.{ap, ◌∙◌, ⊎_elim, arith, eqb-true, eq-eqb}
 use mathlib.Core.List.Memᴰ

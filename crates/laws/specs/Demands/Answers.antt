@@ -1,5 +1,5 @@
 -- What is promised of answers: units of another kind come back, and what is answered is a valid sheet's encoding: 10, 11.
-use Rattle.std.specs.Prelude.{ℕ, ◌^◌, ◌≤◌, ◌<◌, ◌≡◌, true, length}
+use Rattle.std.specs.Prelude.{ℕ, ◌≤◌, ◌<◌, ◌≡◌, true, length}
 use mathlib.Core.List.{List, [], Memᴰ}
 use Rattle.grammar.specs.Lists.{each}
 use Rattle.grammar.specs.Tree.{Sheet}

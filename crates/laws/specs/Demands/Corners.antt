@@ -2,7 +2,7 @@
 -- the elements in front derive. They have nothing but derivation (Derivation) in common with the first wording (LeftCorners and
 -- Cycles in language).
 use Rattle.std.specs.Prelude.{ℕ, suc, ◌≡◌, ◌↔◌, true}
-use mathlib.Core.List.{List, [], ◌∷◌, ◌++◌, Memᴰ}
+use mathlib.Core.List.{List, ◌∷◌, ◌++◌, Memᴰ}
 use Rattle.grammar.specs.Lists.{all, member}
 use Rattle.grammar.specs.Tree.{ElementHead, Call, call, token, terminal, Element, leaf, block, AlternativeOf, Block, RuleOf}
 use Rattle.grammar.specs.Valid.{ok_element, ok_block}

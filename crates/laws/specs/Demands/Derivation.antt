@@ -1,6 +1,6 @@
 -- What a grammar derives, told a second time (SPECIFICATION 13.2 to 13.8): of the trees of a sheet, by the numbers of the format.
 -- It has lists and words in common with the first wording (Shape and Derive in language), and nothing else.
-use Rattle.std.specs.Prelude.{ℕ, zero, suc, ◌≤◌, ◌≡◌, ◌↔◌, ◌⊎◌, true}
+use Rattle.std.specs.Prelude.{ℕ, suc, ◌≤◌, ◌≡◌, ◌↔◌, ◌⊎◌, true}
 use mathlib.Core.List.{List, [], ◌∷◌, ◌++◌, Memᴰ}
 use Rattle.grammar.specs.Lists.{all}
 use Rattle.grammar.specs.Tree.{ElementHead, Action, Predicate, Call, Element, leaf, block, epsilon, action, predicate, call, token}

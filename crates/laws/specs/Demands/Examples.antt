@@ -16,7 +16,7 @@ use Rattle.grammar.specs.Corners.{Corners, rust, textbook}
 use Rattle.language.specs.Cycles.{LeftCorner}
 use Rattle.reference.specs.Analysis.{nullable_rules, grammar_of, left_corner_cycles}
 use Rattle.reference.specs.Substitute.{Clause, no_steps, not_directly_rewritable, declined, standard}
-use Rattle.reference.specs.Run.{inner_depth, Stage, ended, eliminate_mutual_left_recursion, answer}
+use Rattle.reference.specs.Run.{inner_depth, Stage, ended, eliminate_mutual_left_recursion}
 use Rattle.laws.specs.Examples.{parting, behind_name, parted, returning, returned, every_sort, doubling_hub, doubling, doubled, merged}
 use Rattle.laws.specs.Examples.{single, row_twice, row_once, end_in_front, end_settled, tail_of, tail_joined, end_alone, alone_joined}
 use Rattle.laws.specs.Examples.{end_behind, behind_joined, only_end}

@@ -1,6 +1,6 @@
 -- What the theorems suppose is met: for each set of suppositions one case, with the same words, so that no promise is empty.
 use Rattle.std.specs.Prelude.{ℕ, ◌≤◌, ◌≡◌, true}
-use mathlib.Core.List.{List, [], ◌∷◌, ◌++◌, Memᴰ}
+use mathlib.Core.List.{List, ◌∷◌, ◌++◌, Memᴰ}
 use Rattle.std.proofs.Math.Option.{some}
 use Rattle.grammar.specs.Lists.{AllOf, member}
 use Rattle.grammar.specs.Tree.{Block, Call, ElementHead, Element, RuleOf, Rule, Sheet, body_depth}

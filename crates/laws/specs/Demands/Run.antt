@@ -1,5 +1,5 @@
 -- Demand 3 of a whole run, and why a run ends: 4 to 8.
-use Rattle.std.specs.Prelude.{ℕ, suc, ◌≤◌, ◌+◌, ◌≡◌, true, false, length}
+use Rattle.std.specs.Prelude.{ℕ, suc, ◌≤◌, ◌+◌, ◌≡◌, true, length}
 use mathlib.Core.List.{List, [], ◌∷◌, ◌++◌, map, Memᴰ}
 use Rattle.grammar.specs.Lists.{member, distinct}
 use Rattle.grammar.specs.Tree.{Sheet, Rule, body_depth}

@@ -1,9 +1,8 @@
 -- What is promised of one plan and of what it leaves: the language, what is removed, the shape of the rule joined, later
 -- cycles: 4 to 7.
 use Rattle.std.specs.Prelude.{ℕ, suc, ◌≡◌, ◌↔◌, ◌⊎◌, true, false}
-use mathlib.Core.List.{List, [], ◌∷◌, ◌++◌, Memᴰ}
+use mathlib.Core.List.{List, ◌∷◌, ◌++◌, Memᴰ}
 use mathlib.Core.Equiv.{Iso}
-use Rattle.std.proofs.Math.Option.{none}
 use Rattle.grammar.specs.Lists.{AnyOf, member}
 use Rattle.grammar.specs.Tree.{ElementHead, Call, Element, leaf, block, call, AlternativeOf, Block, Leaf, Alternative, Rule, body_depth}
 use Rattle.grammar.specs.Tree.{Sheet}

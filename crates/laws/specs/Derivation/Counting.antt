@@ -16,7 +16,7 @@ use Rattle.language.specs.Laws.Rules.{rule_found}
 use Rattle.language.specs.Laws.Trees.Steps.{opened, open_call, call_open, open_yield}
 use Rattle.language.specs.Laws.Trees.Rules.{rule_readings}
 use Rattle.language.specs.Laws.Trees.Derivations.{Word-set, derivations}
-use Rattle.laws.specs.Demands.Strings.{B, Yes}
+use Rattle.laws.specs.Demands.Strings.{Yes}
 use Rattle.laws.specs.Demands.Counted.{AtMostOne, JustOne, JustTwo}
 
 -- Of the trees of a shape: no two have one string; exactly one has it; exactly two.

@@ -18,7 +18,7 @@ use Rattle.language.specs.Shape.{erase_rules}
 use Rattle.language.specs.Derive.{Der, d_eps, d_symbol, d_call, d_unknown, d_seq, d_left, d_right, d_absent, d_present, d_none, d_more}
 use Rattle.language.specs.Derive.{d_some}
 use Rattle.language.specs.Laws.Rules.{rule_found, found_rule}
-use Rattle.laws.specs.Demands.Derivation.{Often, exactly_once, at_most_once, any_times, at_least_once, quantifier_of, Part, choice}
+use Rattle.laws.specs.Demands.Derivation.{exactly_once, at_most_once, any_times, at_least_once, quantifier_of, Part, choice}
 use Rattle.laws.specs.Demands.Derivation.{sequence, element, times, once, Derives, chosen, no_element, element_then, counted}
 use Rattle.laws.specs.Demands.Derivation.{not_once, once_more, derives_epsilon, derives_action, derives_predicate, derives_call, of_unknown}
 use Rattle.laws.specs.Demands.Derivation.{derives_token}

@@ -1,12 +1,12 @@
 -- What is derived by the second wording is derived by the first.
-use Rattle.std.specs.Prelude.{ℕ, zero, suc, ◌≤◌, ◌≡◌, refl, ◌⊎◌, true}
-use Rattle.std.proofs.Common.{sym, ap, ◌∙◌, arith}
+use Rattle.std.specs.Prelude.{ℕ, zero, suc, ◌≤◌, ◌≡◌, refl, true}
+use Rattle.std.proofs.Common.{sym, ◌∙◌, arith}
 use Rattle.std.proofs.Math.Path.{subst}
 use Rattle.std.proofs.Math.Logic.{⊎_elim}
-use mathlib.Core.List.{List, [], ◌∷◌, append-nil, map, Memᴰ}
+use mathlib.Core.List.{List, append-nil, map, Memᴰ}
 use Rattle.std.proofs.Math.Option.{Option, none, some}
 use Rattle.grammar.specs.Lists.{distinct}
-use Rattle.grammar.specs.Tree.{Element, leaf, block, AlternativeOf, Block, RuleOf}
+use Rattle.grammar.specs.Tree.{Element, leaf, block, Block, RuleOf}
 use Rattle.language.specs.Shape.{Word, Shape, eps, seq, opt, star, plus, alts, quantified, erase_leaf, erase_element, erase_elements}
 use Rattle.language.specs.Shape.{erase_block, Shapes, find, erase_rules}
 use Rattle.language.specs.Derive.{Der, d_eps, d_symbol, d_call, d_unknown, d_seq, d_left, d_right, d_absent, d_present, d_none, d_more}

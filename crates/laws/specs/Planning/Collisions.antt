@@ -1,6 +1,6 @@
 -- The tests before a step find what they say: each walk gives the names that stand somewhere in the elements, and no others.
 use Prim.Native.Nat.{ℕ, zero, suc, ◌≤◌}
-use Rattle.std.specs.Prelude.{◌≡◌, ◌↔◌, ◌⊎◌, true, false, ◌||◌, length}
+use Rattle.std.specs.Prelude.{◌≡◌, ◌↔◌, ◌⊎◌, true, length}
 use Rattle.std.proofs.Math.Path.{refl, ap₂}
 use Rattle.std.proofs.Common.{sym, ap, ◌∙◌, subst}
 use Rattle.std.proofs.Math.Logic.{inl, inr, ⊎_elim}
@@ -9,6 +9,7 @@ use mathlib.Core.List.{List, ◌∷◌, ◌++◌, map, Memᴰ}
 use Rattle.std.proofs.Math.Bool.{Bool}
 use Rattle.std.proofs.Math.Dec.{leb}
 use borrow.Author.Tests.{leb-true, le-leb}
+use Rattle.std.proofs.lemmas.Bool.{or_left, or_right}
 use Rattle.grammar.specs.Lists.{each, nothing, any, member, meet, keep}
 use Rattle.grammar.specs.Laws.Lists.{member_in, in_member, in_map}
 use Rattle.grammar.specs.Laws.Parse.{either}
@@ -86,15 +87,11 @@ module _ (of_label : Label → List ℕ) (of_leafs : Leaf → List ℕ) (n : ℕ
       (Memᴰ.append_right (of_label k.label)
       (in_each (λ a. each (element_gives of_label of_leafs (block_gives of_label of_leafs d)) a.elements) j (leaf_walked m x)))
 
-pub or_true : (a : Bool) {b : Bool} → b ≡ true → (a || b) ≡ true
-or_true true e = refl
-or_true false e = e
-
 -- One that passes is there.
 pub in_any : {A : Type 0} (test : A → Bool) {a : A} {as' : List A} → Memᴰ a as' → test a ≡ true → any test as' ≡ true
 unfolding any
 in_any test (Memᴰ.head e) t = rw (ap test (sym e) ∙ t, any)
-in_any test (Memᴰ.tail {x = x} m) t = or_true (test x) (in_any test m t)
+in_any test (Memᴰ.tail {x = x} m) t = or_right (test x) _ (in_any test m t)
 
 -- Two lists meet exactly if a number is in both.
 meet_both : (xs ys : List ℕ) → (meet xs ys ≡ true) ↔ ((n : ℕ) × Memᴰ n xs × Memᴰ n ys)
@@ -235,25 +232,19 @@ module _ (d : ℕ) where
     λ t.
         either one
         (λ u. let (n, r, b) = (one_binds around spliced).0 u in (n, inl (r, b)))
-        (λ f. let (n, r, b) = (one_binds spliced around).0 (or_right f t) in (n, inr (r, b))),
+        (λ f. let (n, r, b) = (one_binds spliced around).0 (rw f at t) in (n, inr (r, b))),
     λ x.
         ⊎_elim
-        (λ y. or_left two ((one_binds around spliced).1 (x.0, y.0, y.1)))
-        (λ y. or_true one ((one_binds spliced around).1 (x.0, y.0, y.1)))
+        (λ y. or_left _ two ((one_binds around spliced).1 (x.0, y.0, y.1)))
+        (λ y. or_right one _ ((one_binds spliced around).1 (x.0, y.0, y.1)))
         x.1,
   )
     where
       one : Bool
       one = meet (action_reference_names d around) (bindable_names d spliced)
 
-      or_right : {a b : Bool} → a ≡ false → (a || b) ≡ true → b ≡ true
-      or_right {a} {b} n e = rw n at e
-
       two : Bool
       two = meet (action_reference_names d spliced) (bindable_names d around)
-
-      or_left : {a : Bool} (b : Bool) → a ≡ true → (a || b) ≡ true
-      or_left {a} b n = rw n
 
   pub dangling_told : (front rest : Items d) (e : Element (Block d)) (n : ℕ)
       → (remaining_actions_reference d (front ++ (e ∷ rest)) (length front) n ≡ true) ↔ RefersTo d n (front ++ rest)

@@ -1,5 +1,5 @@
 -- The hub: what the walk over calls finds, which corners are settled outside the cycle, and which candidate comes first.
-use Rattle.std.specs.Prelude.{ℕ, suc, ◌≡◌, ◌⊎◌, eqb}
+use Rattle.std.specs.Prelude.{ℕ, suc, ◌≡◌, eqb}
 use Rattle.std.proofs.Math.Path.{refl, ap}
 use Rattle.std.proofs.Common.{sym, ◌∙◌, subst}
 use Rattle.std.proofs.Math.Logic.{inl, inr, ⊎_elim}

@@ -12,7 +12,7 @@ use Rattle.grammar.specs.Lists.{each, nothing, member, AllOf}
 use Rattle.grammar.specs.Tree.{ElementHead, Call, Leaf, epsilon, action, predicate, call, token, terminal, end_of_input, Element, leaf}
 use Rattle.grammar.specs.Tree.{block}
 use Rattle.grammar.specs.Tree.{AlternativeOf, Block}
-use Rattle.reference.specs.Walks.{silent, sort_of, is_epsilon_only, is_one, bare_reference, element_gives, block_gives}
+use Rattle.reference.specs.Walks.{sort_of, is_epsilon_only, is_one, bare_reference, element_gives, block_gives}
 use Rattle.reference.specs.Analysis.{Grammar, target, calls, collect_calls_into}
 use Rattle.reference.specs.Plan.{Corner, bare, outside_cycle, unusable, called_corner, classify_corner, corner_enters_cycle}
 use Rattle.laws.specs.Demands.Hub.{CallsName, outermost, in_block, Enters}

@@ -1,7 +1,7 @@
 -- What removable_satellites returns is closed: no rule in it is called by the planned hub or by another rule kept.
 use Prim.Native.Nat.{ℕ, zero, suc, ◌≤◌}
 use Rattle.std.specs.Prelude.{◌≡◌, refl, true, false, ◌||◌}
-use Rattle.std.proofs.Common.{sym, ap, ◌∙◌, true≢false, arith}
+use Rattle.std.proofs.Common.{sym, ap, ◌∙◌, arith}
 use Rattle.std.proofs.Math.Path.{subst}
 use Rattle.std.proofs.Math.Logic.{⊎_elim}
 use mathlib.Core.List.Memᴰ
@@ -10,6 +10,7 @@ use Rattle.std.proofs.Math.Bool.{Bool, not}
 use Rattle.std.proofs.Math.ListN.{length}
 use Rattle.std.proofs.Math.Dec.{eqb}
 use borrow.Author.Tests.{eqb-true, eqb-false, not-true}
+use Rattle.std.proofs.lemmas.Bool.{or_parts}
 use Rattle.grammar.specs.Tree.{Block, RuleOf}
 use Rattle.grammar.specs.Lists.{each, member, keep, rounds}
 use Rattle.grammar.specs.Laws.Parse.{either}
@@ -56,10 +57,6 @@ rounds_above round ys h zero xs w i m = w i m
 rounds_above round ys h (suc n) xs w i m =
     either (eqb (length (round xs)) (length xs)) (λ t. rw (t, rounds) (w i m))
     (λ f. rw (f, rounds) (rounds_above round ys h n (round xs) (h xs w) i m))
-
-pub or_false : (a b : Bool) → (a || b) ≡ false → (a ≡ false) × (b ≡ false)
-or_false true b e = absurd (true≢false e)
-or_false false b e = (refl, e)
 
 module _ (g : Grammar) (d : ℕ) (rs : List (RuleOf (Block (suc d)))) (hub : ℕ) (ps : List (Planned d)) (cycle preserved : List ℕ) where
   abbrev gone : List ℕ
@@ -111,7 +108,7 @@ module _ (g : Grammar) (d : ℕ) (rs : List (RuleOf (Block (suc d)))) (hub : ℕ
 
       fewer : (r : RuleOf (Block (suc d))) → (member r.id ys || eqb r.id hub) ≡ false → stays xs r ≡ true
       fewer r f =
-          let (a, b) = or_false (member r.id ys) (eqb r.id hub) f in
+          let (a, b) = or_parts (member r.id ys) (eqb r.id hub) f in
           let c = either (member r.id xs) (λ t. absurd (not_in r.id ys a (h r.id (member_in xs t)))) (λ n. n) in
           ap not (ap (λ z. z || eqb r.id hub) c ∙ b)
 

@@ -7,6 +7,7 @@ use mathlib.Core.List.{List, [], ◌∷◌, Memᴰ}
 use Rattle.std.proofs.Math.Option.{Option, none, some}
 use Rattle.std.proofs.Math.Bool.{Bool, true, false, not, true≢false, false≢true}
 use borrow.Author.Tests.{eqb-true, eq-eqb, not-true, not-false}
+use Rattle.std.proofs.lemmas.Bool.{or_right, or_parts}
 use Rattle.grammar.specs.Lists.{member, all, any, meet}
 use Rattle.grammar.specs.Laws.Lists.{in_member}
 use Rattle.grammar.specs.Laws.Parse.{both_true, left_true, right_true, either}
@@ -28,7 +29,7 @@ use Rattle.laws.specs.Analysis.Empty.{elements_empty}
 use Rattle.laws.specs.Analysis.LeftCorners.{left_corners_lem}
 use Rattle.laws.specs.Planning.Turns.{Items}
 use Rattle.laws.specs.Planning.Substituted.{Known}
-use Rattle.laws.specs.Planning.Collisions.{or_true, in_any}
+use Rattle.laws.specs.Planning.Collisions.{in_any}
 use Rattle.laws.specs.Planning.Sorts.{hub_call_lem, Recursive, Primary, primary_before, recursive_before}
 
 silent_only : {B : Type 0} {e : Element B} → Silent e → is_epsilon_only e ≡ true
@@ -47,14 +48,6 @@ only_silent (leaf h (token n)) t = absurd (false≢true t)
 only_silent (leaf h terminal) t = absurd (false≢true t)
 only_silent (leaf h end_of_input) t = absurd (false≢true t)
 only_silent (block h b) t = absurd (false≢true t)
-
-left_false : (a b : Bool) → (a || b) ≡ false → a ≡ false
-left_false true b e = e
-left_false false b e = refl
-
-right_false : (a b : Bool) → (a || b) ≡ false → b ≡ false
-right_false true b e = absurd (true≢false e)
-right_false false b e = e
 
 module _ (c : Corners) {d : ℕ} {rs : List (RuleOf (Block (suc d)))} (k : Known (suc d) rs (grammar_of (suc d) rs))
     (cycle : List ℕ) {hub : RuleOf (Block (suc d))} (is_rule : Memᴰ hub rs) (in_cycle : member hub.id cycle ≡ true) where
@@ -152,28 +145,25 @@ module _ (c : Corners) {d : ℕ} {rs : List (RuleOf (Block (suc d)))} (k : Known
   fits_told es = (
     λ t.
         let f = not-true (any (gives_hub_arguments g hub.id) es || all is_epsilon_only es) (left_true _ _ t) in
-        let without = left_false (any (gives_hub_arguments g hub.id) es) (all is_epsilon_only es) f in
+        let (without, only) = or_parts (any (gives_hub_arguments g hub.id) es) (all is_epsilon_only es) f in
         record {
           without = (no_arguments_lem es).0 without;
-          some_there = (significant es).0 (right_false (any (gives_hub_arguments g hub.id) es) (all is_epsilon_only es) f);
+          some_there = (significant es).0 only;
           sort =
               either (is_primary c g cycle hub.id d es)
               (λ y. inr (primary_before c k cycle is_rule es y))
               (λ n. inl (recursive_before c k cycle is_rule es
-              (or_right n (right_true (not (any (gives_hub_arguments g hub.id) es || all is_epsilon_only es)) _ t)) without));
+              (rw n at (right_true (not (any (gives_hub_arguments g hub.id) es || all is_epsilon_only es)) _ t)) without));
         },
     λ x.
         both_true (not (any (gives_hub_arguments g hub.id) es || all is_epsilon_only es)) (is_primary c g cycle hub.id d es
         || is_recursive g hub.id d es)
         (rw ((no_arguments_lem es).1 x.without) (rw ((significant es).1 x.some_there)))
         (⊎_elim
-        (λ y. or_true (is_primary c g cycle hub.id d es) (before_recursive es y))
+        (λ y. or_right (is_primary c g cycle hub.id d es) _ (before_recursive es y))
         (λ y. ap (λ b. b || is_recursive g hub.id d es) (before_primary es y))
         x.sort),
   )
-    where
-      or_right : {a b : Bool} → a ≡ false → (a || b) ≡ true → b ≡ true
-      or_right {a} {b} n e = rw n at e
 
   -- Of the whole list.
   pub record Passes (ps : List (Planned d)) : Type 0 where

@@ -5,7 +5,7 @@ use Rattle.std.proofs.Common.{◌∙◌}
 use mathlib.Core.List.{List, [], ◌∷◌, Memᴰ}
 use Rattle.std.proofs.Math.Option.{Option, none, some, some-injective, none-ne-some}
 use Rattle.std.proofs.Math.Bool.{true, false, not, true≢false}
-use Rattle.std.proofs.lemmas.Bool.{false≢true}
+use Rattle.std.proofs.lemmas.Bool.{false≢true, or_parts}
 use borrow.Author.Tests.{eqb-true, not-true, not-false}
 use Rattle.grammar.specs.Laws.Lists.{member_in}
 use Rattle.grammar.specs.Tree.{ElementHead, Call, epsilon, action, predicate, call, token, terminal, end_of_input, Element, leaf, block}
@@ -105,13 +105,9 @@ module _ (c : Corners) {d : ℕ} {rs : List (RuleOf (Block (suc d)))} (k : Known
   unfolding is_primary meet
   primary_before es t q m i h =
       let f = not-true (starts_with_hub_call g hub.id es || meet (left_corners c g d es) cycle) t in
-      let n : meet (left_corners c g d es) cycle ≡ false = right_false (starts_with_hub_call g hub.id es) _ f in
+      let n : meet (left_corners c g d es) cycle ≡ false = (or_parts (starts_with_hub_call g hub.id es) _ f).1 in
       let j = (left_corners_lem c (suc d) rs k.ids k.names d es q.id).1 (record { rule = q; there = m; id = refl; corner = h }) in
       true≢false (sym i ∙ any_false (λ y. member y cycle) n (member_in (left_corners c g d es) j))
-    where
-      right_false : (a b : Bool) → (a || b) ≡ false → b ≡ false
-      right_false true b e = absurd (true≢false e)
-      right_false false b e = e
 
   pub recursive_before : (es : Items d) → is_recursive g hub.id d es ≡ true → any (gives_hub_arguments g hub.id) es ≡ false
       → Recursive d rs hub.name es

@@ -8,7 +8,6 @@ use Rattle.std.proofs.Math.Option.{Option, none, some, some-injective}
 use Rattle.std.proofs.Math.Dec.{eqb}
 use borrow.Author.Tests.{eqb-false}
 use Rattle.grammar.specs.Tree.{OptionDecl, call, Element, leaf, AlternativeOf, Block, RuleOf}
-use Rattle.grammar.specs.Lists.{first}
 use Rattle.grammar.specs.Numbers.{optional_greedy}
 use Rattle.reference.specs.Analysis.{Grammar, grammar_of, names_of, rule_with_id}
 use Rattle.reference.specs.Substitute.{dangling_reference, label_collision, binding_collision, option_collision, Decided, decided}

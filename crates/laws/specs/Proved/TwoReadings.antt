@@ -6,7 +6,6 @@ use Rattle.std.proofs.Math.Logic.{⊎_map}
 use mathlib.Core.List.Memᴰ
 use mathlib.Core.List.{List, [], ◌∷◌, ◌++◌, map, Memᴰ}
 use Rattle.std.proofs.Math.Option.{some, some-injective}
-use Rattle.grammar.specs.Lists
 use Rattle.grammar.specs.Valid.{valid}
 use Rattle.grammar.specs.Tree.{Rule, body_depth}
 use Rattle.grammar.specs.Corners.{Corners, rust, textbook}

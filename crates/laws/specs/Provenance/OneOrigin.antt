@@ -27,7 +27,7 @@ use Rattle.laws.specs.Demands.Applied.{Sort, of_alternative, number, counter_at}
 use Rattle.graph.specs.Members.{in_keep, keep_in, each_in, one_with}
 use Rattle.laws.specs.Lists.Lookup.{any_in, any_false}
 use Rattle.laws.specs.Planning.Steps.{step_told}
-use Rattle.laws.specs.Planning.Endless.{StartsItself, others, steps_among}
+use Rattle.laws.specs.Planning.Endless.{StartsItself, steps_among}
 use Rattle.laws.specs.Planning.Applied.{Planned-holds, Alternative-holds, plan_holds}
 use Rattle.laws.specs.Running.Leaves.{Told}
 use Rattle.laws.specs.Running.Stages.{known, Happened, Chain, last, next, stage_made, stage_leaves}

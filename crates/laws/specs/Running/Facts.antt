@@ -5,7 +5,7 @@ use Rattle.std.proofs.Common.{sym, ◌∙◌}
 use mathlib.Core.List.Memᴰ
 use mathlib.Core.List.{List, [], ◌∷◌, map, Memᴰ}
 use Rattle.std.proofs.Math.Option.{Option, none, some, none-ne-some}
-use Rattle.std.proofs.lemmas.Bool.{eqb-false}
+use Rattle.std.proofs.lemmas.Bool.{eqb-false, or_parts}
 use Rattle.grammar.specs.Lists.{member}
 use Rattle.grammar.specs.Tree.{Rule, RuleOf, Block, body_depth, Counters}
 use Rattle.grammar.specs.Corners.{Corners}
@@ -28,7 +28,6 @@ use Rattle.laws.specs.Planning.Substituted.{Known}
 use Rattle.laws.specs.Planning.Calls.{each_call_map, CallsIn, block_calls}
 use Rattle.laws.specs.Planning.Named.{block_named}
 use Rattle.laws.specs.Planning.Agreed.{Agree, BlockAlike, block_alike}
-use Rattle.laws.specs.Planning.Removed.{or_false}
 use Rattle.laws.specs.Planning.Plans.{plan_made}
 use Rattle.laws.specs.Running.Leaves.{Told, known_by, Rules, Leaves, leaves_refl, leaves_trans, leaves_derives, plan_leaves}
 use Rattle.laws.specs.Running.Leaves.{plan_stands}
@@ -140,7 +139,7 @@ since_plan d {rs = rs} {joined = joined} s limits c preserved cycle plan counter
       told = s.told;
       leaves = leaves_trans (suc d) s.told s.leaves (plan_leaves k x counters);
       stands = λ r m f.
-          let (other, free) = or_false (eqb r.id plan.hub) (member r.id joined) f in
+          let (other, free) = or_parts (eqb r.id plan.hub) (member r.id joined) f in
           s.stands r (plan_stands k x counters m (eqb-false r.id plan.hub other)) free;
     }
 

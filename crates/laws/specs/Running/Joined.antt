@@ -1,12 +1,11 @@
 -- The shape of a joined rule: what planned_hub_is_directly_rewritable tests before a plan holds of what the plan leaves.
-use Rattle.std.specs.Prelude.{ℕ, suc, ◌≡◌, ◌⊎◌, Bool, ◌||◌, not}
-use Rattle.std.proofs.Math.Path.{refl}
+use Rattle.std.specs.Prelude.{ℕ, suc, ◌≡◌, ◌⊎◌, ◌||◌, not}
 use Rattle.std.proofs.Common.{sym, ap, ◌∙◌, subst, subst₂, arith}
 use Rattle.std.proofs.Math.Logic.{inl, inr, ⊎_map}
 use mathlib.Core.List.Memᴰ
 use mathlib.Core.List.{List, [], ◌∷◌, Memᴰ}
-use Rattle.std.proofs.Math.Bool.{true, false}
-use Rattle.std.proofs.lemmas.Bool.{not-true}
+use Rattle.std.proofs.Math.Bool.{false}
+use Rattle.std.proofs.lemmas.Bool.{not-true, or_parts}
 use Rattle.grammar.specs.Laws.Lists.{in_map}
 use Rattle.grammar.specs.Tree.{ElementHead, Call, epsilon, action, predicate, call, token, terminal, end_of_input, leaf, block}
 use Rattle.grammar.specs.Tree.{AlternativeOf}
@@ -69,12 +68,7 @@ module _ {c : Corners} {d : ℕ} {rs : List (RuleOf (Block (suc d)))} (k : Known
       let fit =
       all_in (λ p. is_fit c g cycle x.hub.id d p.elements)
       (left_true (all (λ p. is_fit c g cycle x.hub.id d p.elements) plan.alternatives) _ x.is_fit) m in
-      left_false _ _ (not-true (any (gives_hub_arguments g x.hub.id) p.elements || all is_epsilon_only p.elements)
-      (left_true _ _ fit))
-    where
-      left_false : (a b : Bool) → (a || b) ≡ false → a ≡ false
-      left_false true b e = e
-      left_false false b e = refl
+      (or_parts _ _ (not-true (any (gives_hub_arguments g x.hub.id) p.elements || all is_epsilon_only p.elements) (left_true _ _ fit))).0
 
   -- Every planned alternative is of one sort or the other.
   sorts_before : (p : Planned d) → Memᴰ p plan.alternatives
@@ -87,11 +81,8 @@ module _ {c : Corners} {d : ℕ} {rs : List (RuleOf (Block (suc d)))} (k : Known
       (left_true (all (λ p. is_fit c g cycle x.hub.id d p.elements) plan.alternatives) _ x.is_fit) m in
       either (is_primary c g cycle x.hub.id d es)
       (λ y. inr (primary_before c k cycle x.is_rule es y))
-      (λ n. inl (recursive_before c k cycle x.is_rule es (or_right n
+      (λ n. inl (recursive_before c k cycle x.is_rule es (rw n at
       (right_true (not (any (gives_hub_arguments g x.hub.id) es || all is_epsilon_only es)) _ fit)) (without_arguments p m)))
-    where
-      or_right : {a b : Bool} → a ≡ false → (a || b) ≡ true → b ≡ true
-      or_right {a} {b} n e = rw n at e
 
   one_primary : (p : Planned d) × Memᴰ p plan.alternatives × Primary d rs c cycle p.elements
   unfolding planned_hub_is_directly_rewritable

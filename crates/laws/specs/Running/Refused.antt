@@ -1,5 +1,5 @@
 -- Refusals 8 and 9: what they are given for, and what they exclude.
-use Rattle.std.specs.Prelude.{ℕ, zero, suc, ◌≤◌, ◌<◌, ◌+◌, ◌^◌, ◌≡◌, ◌⊎◌, List, [], ◌∷◌, Bool, ◌&&◌, length, ltb}
+use Rattle.std.specs.Prelude.{ℕ, zero, suc, ◌≤◌, ◌<◌, ◌+◌, ◌≡◌, ◌⊎◌, List, [], ◌∷◌, Bool, ◌&&◌, length, ltb}
 use Rattle.std.proofs.Math.Path.{refl}
 use Rattle.std.proofs.Common.{subst, inl, inr, arith}
 use Rattle.std.proofs.Math.Bool.{true, false}

@@ -8,7 +8,7 @@ use mathlib.Core.List.{List, ◌++◌, map, Memᴰ}
 use Rattle.std.proofs.Math.Option.{some}
 use Rattle.std.proofs.Math.Bool.{false, not}
 use Rattle.std.proofs.Math.Dec.{eqb}
-use Rattle.std.proofs.lemmas.Bool.{eqb-false, not-true}
+use Rattle.std.proofs.lemmas.Bool.{eqb-false, not-true, or_parts}
 use Rattle.grammar.specs.Lists.{each, member, keep}
 use Rattle.grammar.specs.Tree.{Rule, body_depth}
 use Rattle.grammar.specs.Corners.{Corners}
@@ -28,7 +28,7 @@ use Rattle.graph.specs.Members.{in_keep, keep_in, each_in}
 use Rattle.laws.specs.Lists.Lookup.{not_in, target_name}
 use Rattle.laws.specs.Planning.Turns.{items_of}
 use Rattle.laws.specs.Planning.Named.{Named, block_named, items_named}
-use Rattle.laws.specs.Planning.Removed.{or_false, removable_uncalled, calls_fewer, removable_satellite, removable_most}
+use Rattle.laws.specs.Planning.Removed.{removable_uncalled, calls_fewer, removable_satellite, removable_most}
 use Rattle.laws.specs.Planning.Renumber.{applied_shape}
 use Rattle.laws.specs.Planning.Bodied.{with_other}
 use Rattle.laws.specs.Planning.OnePlan.{each_map, new_body, gone_ids, left_stems, hub_after, hub_id_lem, hub_body, hub_in}
@@ -111,7 +111,7 @@ module _ (limits : Limits) (corners : Corners) (preserved : List ℕ) {t : Stage
         each_in (λ r. collect_calls_into g body_depth r.body) (keep (λ r. not (member r.id both || eqb r.id hub)) t.before)
         n in
         let (there, f) = in_keep (λ r. not (member r.id both || eqb r.id hub)) t.before k in
-        let (out, ne) = or_false (member q.id both) (eqb q.id hub) (not-true _ f) in
+        let (out, ne) = or_parts (member q.id both) (eqb q.id hub) (not-true _ f) in
         let free = not_in q.id both out in
         let stays = other_left q there (away gone q.id (λ z. free (Memᴰ.append_right live z))) (eqb-false q.id hub ne) in
         other_name m (block_named g (λ n. n ≡ r.name → ⊥) r.id body_depth q.body

@@ -1,11 +1,12 @@
 -- Rules that are neither joined nor removed stay as they were, and all that stay keep their order.
-use Rattle.std.specs.Prelude.{ℕ, ◌≡◌, Bool, ◌||◌, not, eqb}
+use Rattle.std.specs.Prelude.{ℕ, ◌≡◌, ◌||◌, not, eqb}
 use Rattle.std.proofs.Math.Path.{refl, subst}
 use Rattle.std.proofs.Common.{sym, ap, ◌∙◌, eq-eqb}
 use mathlib.Core.List.Memᴰ
 use mathlib.Core.List.Sublistᴰ
 use mathlib.Core.List.{List, [], map, Memᴰ, Sublistᴰ}
 use Rattle.std.proofs.Math.Bool.{true, false, true≢false}
+use Rattle.std.proofs.lemmas.Bool.{or_parts}
 use Rattle.grammar.specs.Laws.Lists.{in_member, member_in, in_map}
 use Rattle.grammar.specs.Lists.{member}
 use Rattle.grammar.specs.Tree.{Rule, Sheet, with_rule_body}
@@ -61,20 +62,11 @@ module _ (limits : Limits) (corners : Corners) (preserved : List ℕ) where
   chain_stands k last q m f = m
   chain_stands k (next {t = t} {ts = ts} e h c) q m f =
       let b = subst Told (sym e) k in
-      let there =
-      chain_stands (stage_leaves limits corners preserved b h).told c q m
-      (or_right (eqb q.id t.plan.hub) (member q.id (hubs ts)) f) in
+      let (apart, later) = or_parts (eqb q.id t.plan.hub) (member q.id (hubs ts)) f in
+      let there = chain_stands (stage_leaves limits corners preserved b h).told c q m later in
       subst (Memᴰ q) e
       (stage_stands limits corners preserved b h q there
-      (λ w. true≢false (sym (eq-eqb q.id t.plan.hub w) ∙ or_left (eqb q.id t.plan.hub) (member q.id (hubs ts)) f)))
-    where
-      or_left : (a b : Bool) → (a || b) ≡ false → a ≡ false
-      or_left true b e = e
-      or_left false b e = refl
-
-      or_right : (a b : Bool) → (a || b) ≡ false → b ≡ false
-      or_right true b e = absurd (true≢false e)
-      or_right false b e = e
+      (λ w. true≢false (sym (eq-eqb q.id t.plan.hub w) ∙ apart)))
 
   -- A rule is removed by a plan whose satellite it is.
   Taken : ℕ → List Stage → Type 0

@@ -1,10 +1,10 @@
 -- The names of a sheet; a renaming matters at these alone.
 use Prim.Native.Nat.{ℕ, zero, suc}
-use Rattle.std.specs.Prelude.{◌≡◌, List, [], ◌∷◌, ◌++◌, map, true}
+use Rattle.std.specs.Prelude.{◌≡◌, List, [], ◌∷◌, map, true}
 use Rattle.std.proofs.Math.Path.{refl, ap, ap₂}
 use Rattle.grammar.specs.Lists.{AllOf, each, member}
 use Rattle.grammar.specs.Tree.{OptionDecl, Reference, Label, unlabelled, labelled, ElementHead, Leaf, epsilon, action, predicate, call}
-use Rattle.grammar.specs.Tree.{token, terminal, end_of_input, Element, leaf, block, AlternativeOf, Block, Rule, Sheet, body_depth}
+use Rattle.grammar.specs.Tree.{token, terminal, end_of_input, Element, leaf, block, AlternativeOf, Block, Sheet, body_depth}
 use Rattle.reference.specs.Walks.{label_names}
 use Rattle.laws.specs.Demands.Marks.{option_names, head_names, names_of_leaf, element_names, alternative_names, block_names, names_in}
 use Rattle.laws.specs.Lists.Every.{left_of, right_of, all_members}

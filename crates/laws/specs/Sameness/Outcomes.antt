@@ -1,6 +1,6 @@
 -- Whole calls compared: the outcome of a sheet with other names or carried numbers is the sheet's, with the result so changed.
 use Prim.Native.Nat.{ℕ, zero, suc, ◌-◌, ◌*◌, ◌≤◌}
-use Rattle.std.specs.Prelude.{◌≡◌, Bool, take, replicate}
+use Rattle.std.specs.Prelude.{◌≡◌, Bool, replicate}
 use Rattle.std.proofs.Math.Path.{refl, sym, ap, ap₂}
 use Rattle.std.proofs.Common.{◌∙◌, ⊎_elim, arith}
 use mathlib.Core.List.{List, [], ◌++◌}

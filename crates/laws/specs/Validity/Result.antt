@@ -1,5 +1,5 @@
 -- The run: every grammar on the way is valid, the result fits, and all entries are one trail.
-use Rattle.std.specs.Prelude.{ℕ, ◌≤◌, ◌<◌, ◌+◌, ◌^◌, ◌*◌, ◌≡◌, ◌&&◌, length, leb, ltb}
+use Rattle.std.specs.Prelude.{ℕ, ◌≤◌, ◌<◌, ◌+◌, ◌*◌, ◌≡◌, ◌&&◌, length, leb, ltb}
 use Rattle.std.proofs.Math.Path.{refl}
 use Rattle.std.proofs.Common.{sym, subst, leb-true, le-leb, ltb-true}
 use mathlib.Core.List.Memᴰ
@@ -22,7 +22,7 @@ use Rattle.grammar.specs.Numbers.{word_end}
 use Rattle.reference.specs.Substitute.{Limits}
 use Rattle.reference.specs.Plan.{CyclePlan}
 use Rattle.reference.specs.Apply.{unchanged, apply_plan, Entry}
-use Rattle.reference.specs.Run.{inner_depth, Stage, planned, find_plan, ended, are_words, sheet_with, refusal_of}
+use Rattle.reference.specs.Run.{inner_depth, Stage, planned, find_plan, ended, sheet_with, refusal_of}
 use Rattle.reference.specs.Run.{eliminate_mutual_left_recursion}
 use Rattle.reference.specs.Run.{sheet_after, entries_of, encode_entry}
 use Rattle.laws.specs.Lists.Lookup.{all_in}
