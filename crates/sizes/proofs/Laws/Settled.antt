@@ -119,8 +119,6 @@ module _ (ws : List ℕ) (end d : ℕ) (bs : List ℕ) (x : Listed) {m : Measure
   pub listed_under : Located bs x → Under m (2 ^ 32)
   listed_under l = let c = count_elements ws end d bs x in let z = l.elements in under_more s.few (omega arith)
 
-pub ruleset listing = (listed_new, listed_kept, listed_under)
-
 -- As much as several may take.
 abbrev most_of_all : (d : ℕ) → List (Planned d) → ℕ
 most_of_all d ps = most_words * elements_all ps + 2 * options_all ps + 5 * length ps
