@@ -1,7 +1,7 @@
 -- What is told of a sheet: the decision is that for the rules and the preserved ids that were read.
 use Prim.Native.Nat.{ℕ, ◌+◌}
 use mathlib.Core.Path.{◌≡◌, refl, sym, ap, ◌∙◌, subst}
-use mathlib.Core.List.{List, ◌∷◌}
+use mathlib.Core.List.{List}
 use mathlib.Core.Bool.{Bool, true, false}
 use native.Mathlib.Omega.{arith}
 use lib.ListN.{length, get_or, replicate, length-replicate}
@@ -15,9 +15,7 @@ use Rattle.records.specs.Rules.{row}
 use Rattle.sheet.specs.Answer.{read_lent, work_after, ReadAs}
 use Rattle.sheet.specs.declared.answer.Reading.{Reading}
 use Rattle.std.specs.Prelude.{Ok, Err}
-use Rattle.words.specs.declared.numbers.Refusal.{Refusal}
-use Rattle.words.specs.Refusal.{refusal_number}
-use Rattle.sheet.proofs.Laws.Sizes.{is_refused, was_read}
+use Rattle.sheet.proofs.Laws.Sizes.{was_read}
 use Rattle.analysis.specs.Survey.{reading}
 use Rattle.analysis.proofs.Laws.Standing.{all_rules}
 use Rattle.std.specs.Prelude.{Option, Some, None, Result, Ok, Err}
@@ -31,7 +29,6 @@ use Rattle.plans.specs.Told.{Cleared, NthToldOf, NthTold, FirstToldOf, FirstTold
 use Rattle.plans.specs.First.{SearchAs, FirstAs, FirstOf, search_numbers, search_cycle, search_row}
 use Rattle.plan.specs.declared.search.Found.{Found}
 use Rattle.reference.specs.Substitute.{standard}
-use Rattle.grammar.specs.Numbers.{rule_limit}
 use Rattle.plans.proofs.Laws.Ground.{read_stands, read_end, read_preserved}
 
 -- Equals in the place of equals.
@@ -98,36 +95,6 @@ module _ (ws : List ℕ) (end : ℕ) (ids : List ℕ) (n : ℕ) (list : List ℕ
         behind = h.behind;
       }
 
-module _ (bs work : List ℕ) {o : Refusal} (a : ReadAs (read_lent bs work) (Err o)) where
-  pub nth_refusal : {n : ℕ} → n ≡ refusal_number o → (c : Corners) (nth : ℕ) {after numbers removable : List ℕ}
-      → numbers ≡ n ∷ replicate 7 0 → removable ≡ replicate 2 0 → after ≡ work_after bs work
-      → NthTold c nth bs (read_lent bs work) (work_after bs work) after numbers removable
-  nth_refusal {n} h c nth f g w =
-      let e = is_refused bs work a in
-      record {
-        refusal = λ k z. let same : n ≡ k = cc in record {
-          numbers_are = f ∙ ap (λ i. i ∷ replicate 7 0) same;
-          none = g;
-          work = w;
-        };
-        sheet = λ s z. absurd (let u : ◌≡◌ {A = ℕ} 0 1 = cc in omega arith);
-      }
-
-  pub first_refusal : {n : ℕ} → n ≡ refusal_number o → (c : Corners) {after numbers cycle removable clauses : List ℕ}
-      → numbers ≡ n ∷ replicate 7 0 → cycle ≡ replicate 2 0 → removable ≡ replicate 2 0 → clauses ≡ replicate rule_limit 0
-      → after ≡ work_after bs work
-      → FirstTold c bs (read_lent bs work) (work_after bs work) after numbers cycle removable clauses
-  first_refusal {n} h c f x g y w =
-      let e = is_refused bs work a in
-      record {
-        refusal = λ k z. let same : n ≡ k = cc in record {
-          refusal = record { numbers_are = f ∙ ap (λ i. i ∷ replicate 7 0) same; none = g; work = w };
-          no_cycle = x;
-          no_clauses = y;
-        };
-        sheet = λ s z. absurd (let u : ◌≡◌ {A = ℕ} 0 1 = cc in omega arith);
-      }
-
 module _ (bs work : List ℕ) {r : Reading} (a : ReadAs (read_lent bs work) (Ok r)) {to : ℕ} (e : to ≡ r.parts.preserved + r.parts.count) where
   pub nth_sheet : {past : Bool} {nth : ℕ} {t : Nth} {list after numbers removable : List ℕ}
       → NthOf (words bs) r.parts.preserved to r.rules past nth list t → numbers ≡ nth_numbers t → removable ≡ nth_row t
@@ -176,7 +143,3 @@ module _ (bs work : List ℕ) {r : Reading} (a : ReadAs (read_lent bs work) (Ok 
             let same : w.tree ≡ s = let y = w.is in cc in
             subst (λ x. FirstToldOf (reading past) bs x after numbers cycle removable clauses) same here;
       }
-
-pub ruleset tellings = (nth_refusal, nth_sheet)
-
-pub ruleset first_tellings = (first_refusal, first_sheet)
