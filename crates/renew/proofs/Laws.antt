@@ -2,5 +2,4 @@
 pub mod Words
 pub mod Less
 pub mod Fewer
-pub mod Hub
 pub mod Renewed

@@ -2,7 +2,7 @@
 use Prim.Native.Nat.{ℕ, suc, ◌-◌, ◌<◌, ◌≤◌}
 use mathlib.Core.Path.{◌≡◌, refl, sym, ap, ◌∙◌, subst}
 use mathlib.Core.List.{List, [], ◌∷◌, ◌++◌, map-id, map-append}
-use mathlib.Core.Bool.{Bool, true, false, not, true≢false}
+use mathlib.Core.Bool.{Bool, true, not, true≢false}
 use native.Mathlib.Omega.{arith}
 use lib.ListN.{length, get_or, length-append, length-map}
 use lib.Seq.{append_snoc}
@@ -129,29 +129,6 @@ keep_few test [] = omega arith
 keep_few test (x ∷ xs) =
     let l = keep_few test xs in
     either (test x) (λ t. rw t (omega arith)) (λ f. rw f (omega arith))
-
--- A place is taken out if it is to be.
-module _ {cs ks : List (List ℕ)} {m : Renewed} {row : List ℕ} {n k : ℕ} {b : Bool} (e : b ≡ bit row k) where
-  pub if_taken : {cs' ks' : List (List ℕ)} {m' : Renewed} → b ≡ true → PlaceLess cs ks m cs' ks' m' n k
-      → PlaceLessIf cs ks m cs' ks' m' row n k
-  if_taken t p =
-      record {
-        taken = λ u. p;
-        left = λ f. absurd (true≢false (sym t ∙ e ∙ f));
-        calls_long = p.calls.long;
-        corners_long = p.corners.long;
-      }
-
-  pub if_left : b ≡ false → length cs ≡ rule_limit → length ks ≡ rule_limit → PlaceLessIf cs ks m cs ks m row n k
-  if_left f x y =
-      record {
-        taken = λ t. absurd (true≢false (sym t ∙ sym e ∙ f));
-        left = λ u. record { calls = refl; corners = refl; rest = refl };
-        calls_long = x;
-        corners_long = y;
-      }
-
-pub ruleset ifs = (if_taken, if_left)
 
 -- The rules from place k on are done.
 pub record Dropping (cs₀ ks₀ : List (List ℕ)) (m₀ : Renewed) (cs ks : List (List ℕ)) (m : Renewed) (row : List ℕ) (n k : ℕ) : Type 0 where
