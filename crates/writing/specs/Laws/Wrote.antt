@@ -1,19 +1,16 @@
 -- Words written one behind the other, what stands then, and what is as it was.
-use Rattle.std.specs.Prelude.{ℕ, suc, ◌+◌, ◌*◌, ◌-◌, ◌<◌, ◌≤◌, ◌≡◌, refl, ◌⊎◌, ◌≢◌, List, [], ◌∷◌, ◌++◌, ltb, length, get_or, set, take}
+use Rattle.std.specs.Prelude.{ℕ, suc, ◌+◌, ◌*◌, ◌-◌, ◌<◌, ◌≤◌, ◌≡◌, refl, ◌⊎◌, ◌≢◌, List, [], ◌∷◌, ◌++◌, length, get_or, set, take}
 use Rattle.std.specs.Prelude.{drop}
-use Rattle.std.proofs.Common.{sym, ap, ◌∙◌, inl, inr, ⊎_elim, arith, add-zero, ltb-true, ltb-false, length-append, length-set}
+use Rattle.std.proofs.Common.{sym, ap, ◌∙◌, inl, inr, ⊎_elim, arith, add-zero, length-append, length-set}
 use Rattle.std.proofs.Common.{get_or-append-add, get_or-set_same, get_or-set_other}
 use Rattle.std.proofs.Math.ListN.{get_or-append, get_or-eq_default}
+use Rattle.std.proofs.lemmas.Bool.{cases_lt}
 use Rattle.grammar.specs.Words.{words}
 use Rattle.grammar.specs.Stands.{Run, Stands}
-use Rattle.grammar.specs.Laws.Parse.{either}
 use Rattle.grammar.specs.Laws.Words.{length_words, get_d_words}
 use Rattle.grammar.specs.Laws.Stands.{stands_slice}
 use Rattle.words.specs.Words.{with_word}
 use Rattle.writing.specs.Wrote.{Wrote}
-
-below_or_not : (i n : ℕ) → (i < n) ⊎ (n ≤ i)
-below_or_not i n = either (ltb i n) (λ u. inl (ltb-true i n u)) (λ f. inr (ltb-false i n f))
 
 -- A word past the last whole one is none.
 no_word : (bs : List ℕ) (j : ℕ) → length bs < 4 * j + 4 → get_or (words bs) j 0 ≡ 0
@@ -31,7 +28,7 @@ module _ (b a : List ℕ) where
       get_d_words a j h
       ∙ rw (e (4 * j) (omega arith), e (4 * j + 1) (omega arith), e (4 * j + 2) (omega arith), e (4 * j + 3) (omega arith))
       (sym (get_d_words b j (omega arith))))
-      (below_or_not (length a) (4 * j + 4))
+      (cases_lt (length a) (4 * j + 4))
 
 -- No words change nothing.
 pub wrote_nothing : (b : List ℕ) (at : ℕ) → Wrote b b at []
@@ -89,7 +86,7 @@ module _ {b m a : List ℕ} {at : ℕ} {xs ys : List ℕ} where
             ap (λ i. get_or (words a) i 0) s ∙ w.here (k - length xs) n
             ∙ sym (get_or-append-add xs ys (k - length xs) 0)
             ∙ ap (λ i. get_or (xs ++ ys) i 0) (sym t))
-            (below_or_not k (length xs));
+            (cases_lt k (length xs));
         other = λ i h.
             let n = length-append xs ys in
             ⊎_elim
