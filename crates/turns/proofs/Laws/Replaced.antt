@@ -29,8 +29,6 @@ use Rattle.analysis.proofs.Laws.Standing.{rule_of, rule_spans, name_at, place_fo
 use Rattle.hub.specs.Grounds.{rules_of, grammar_at}
 use Rattle.hub.proofs.Laws.Grounds.{with_id}
 use Rattle.planned.specs.Layout.{meaning}
-use Rattle.planned.specs.List.{ListedIn, CallAt}
-use Rattle.planned.specs.Laws.Items.{call_at}
 use Rattle.planned.specs.declared.list.Listed.{Listed}
 use Rattle.collisions.proofs.Laws.Inlinable.{inlinable_none}
 use Rattle.steps.specs.Corner.{CornerAt, corner_by}
@@ -161,10 +159,6 @@ module _ {ws : List ℕ} {end : ℕ} {names places : List ℕ} {c : Cycle} (b : 
   call_in {bs} {x} k =
       corner_call (grammar_at ws end b.rules b.standing) b.cycle (get_or b.rules.ids c.hub 0) (meaning ws end inner_depth bs x).elements
       (corner_is b standard k)
-
-  pub call_corner : {bs : List ℕ} {x : Listed} {p : Place} → CornerAt names c ws end inner_depth bs x (C.Optional p)
-      → ListedIn ws end inner_depth bs x → CallAt ws bs x p.index
-  call_corner {bs} {x} {p} k l = call_at l k.within.index (call_in k).is
 
 -- One tree stands at a place.
 one_tree : (ws : List ℕ) (end d : ℕ) {at p q : ℕ} {r t : RuleOf (Block d)} → RuleSpans ws end d at r p → RuleSpans ws end d at t q → r ≡ t
