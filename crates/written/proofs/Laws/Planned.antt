@@ -16,7 +16,6 @@ use Rattle.reference.specs.Apply.{Fresh, past, apply_new, apply_alternative, ren
 use Rattle.reference.specs.Run.{encode_entry}
 use Rattle.planned.specs.Layout.{is_marked, meaning}
 use Rattle.planned.specs.Laws.Parts.{options_count}
-use Rattle.planned.specs.Laws.Items.{unmarked, is_marked_lem}
 use Rattle.planned.specs.declared.list.Listed.{Listed}
 use Rattle.writing.specs.Wrote.{Wrote}
 use Rattle.writing.specs.Taken.{counters_of}
@@ -230,6 +229,3 @@ module _ (ws : List ℕ) (end d : ℕ) (bs : List ℕ) (x : Listed) {t : List �
 pub ruleset sames = (origin_room, head_drawn, inside_low, inside_readable, same_items, same_drawn, same_head)
 
 pub ruleset news = (origin_room, new_readable, new_entry, new_head, new_items, new_drawn)
-
--- Which of the two it is.
-pub ruleset slots = (unmarked, is_marked_lem)
