@@ -2,7 +2,7 @@
 use Prim.Native.Nat.{ℕ, ◌+◌, ◌≤◌, ◌<◌}
 use mathlib.Core.Path.{◌≡◌, refl, sym, ◌∙◌}
 use Rattle.std.specs.Prelude.{Ok, Err}
-use mathlib.Core.Bool.{Bool, true, false, ◌&&◌, not}
+use mathlib.Core.Bool.{Bool, true, false, ◌&&◌, not, and-true}
 use native.Mathlib.Omega.{arith}
 use lib.Dec.{ltb}
 use borrow.Author.Tests.{le-leb, lt-leb, not-true, not-false}
@@ -17,16 +17,12 @@ use Rattle.sizes.specs.declared.sums.Measure.{Measure}
 use Rattle.words.specs.declared.numbers.Refusal.TheVariants.{CounterPastEnd, ResultTooLong}
 use Rattle.apply.specs.Judged.{verdict_on, verdict, AllLast, Judged}
 
-and_true : (b : Bool) → (b && true) ≡ b
-and_true true = refl
-and_true false = refl
-
 and_chain : (a e l n p : Bool) → ((((a && e) && l) && n) && p) ≡ (a && (e && (l && (n && (p && true)))))
 and_chain false e l n p = refl
 and_chain true false l n p = refl
 and_chain true true false n p = refl
 and_chain true true true false p = refl
-and_chain true true true true p = sym (and_true p)
+and_chain true true true true p = sym (and-true p)
 
 pub all_last_lem : {c : Counters} {m : Measure} {a e l n p : Bool}
     → a ≡ ltb (c.alternative + m.alternatives) counter_end → e ≡ ltb (c.element + m.elements) counter_end
