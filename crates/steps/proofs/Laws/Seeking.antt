@@ -1,11 +1,12 @@
 -- The search for the corner of an alternative that is listed, element by element.
 use Prim.Native.Nat.{ℕ, zero, suc, ◌+◌, ◌<◌, ◌≤◌}
 use mathlib.Core.Path.{◌≡◌, refl, ap, ◌∙◌}
-use mathlib.Core.List.{List, [], ◌∷◌}
+use mathlib.Core.List.{List}
 use native.Mathlib.Omega.{arith}
 use native.Mathlib.Numerals.{add-one}
 use mathlib.Core.Bool.{Bool}
 use lib.ListN.{length, get_or, drop}
+use Rattle.std.proofs.lemmas.List.{drop_all}
 use Rattle.grammar.specs.Tree.{Element, Block}
 use Rattle.grammar.specs.Found.{FoundElement}
 use Rattle.reference.specs.Analysis.{Grammar}
@@ -45,12 +46,6 @@ unfolding shifted further
 shift_satellite zero j t = ap (λ k. satellite k t) (omega arith)
 shift_satellite (suc i) j t = shift_satellite i (suc j) t ∙ ap (λ k. satellite k t) (omega arith)
 
-drop_all : {A : Type 0} (xs : List A) (i : ℕ) → length xs ≤ i → drop i xs ≡ []
-drop_all [] zero l = refl
-drop_all [] (suc i) l = refl
-drop_all (x ∷ xs) zero l = absurd (omega arith)
-drop_all (x ∷ xs) (suc i) l = drop_all xs i (omega arith)
-
 count_elements : (ws : List ℕ) (end d : ℕ) (bs : List ℕ) (at n : ℕ) → length (elements_from ws end d bs at n) ≡ n
 unfolding elements_from
 count_elements ws end d bs at zero = refl
@@ -79,7 +74,7 @@ module _ {names : List ℕ} {c : Cycle} {ws : List ℕ} {end d : ℕ} {bs : List
         is = λ g cycle ids b.
             s.is g cycle ids b
             ∙ ap (λ zs. shifted i (planned_corner g cycle (get_or ids c.hub 0) zs))
-            (drop_all (es names c ws end d bs x) i (let n = count_elements ws end d bs x.e x.ne in omega arith))
+            (drop_all i (es names c ws end d bs x) (let n = count_elements ws end d bs x.e x.ne in omega arith))
             ∙ shift_settled i;
         within = tt;
       }
