@@ -1,5 +1,4 @@
 use Rattle.words.specs.Sheet.{text}
-use Rattle.grammar.specs.Words.{words}
 use Rattle.heads.proofs.Laws.Options.{OptionsTo}
 use Rattle.heads.proofs.head.write_options.Given as goal
 
