@@ -1,5 +1,4 @@
 use Rattle.words.specs.Sheet.{text}
-use Rattle.grammar.specs.Words.{words}
 use Rattle.hub.specs.Budget.{Summed}
 use Rattle.hub.proofs.budget.alternatives.Given as goal
 

@@ -1,6 +1,5 @@
 use Rattle.words.specs.Sheet.{text}
 use Prim.Native.Nat.{◌-◌}
-use Rattle.grammar.specs.Words.{words}
 use Rattle.grammar.specs.Tree.{inner_depth}
 use Rattle.hub.proofs.Laws.Able.{Trying}
 use Rattle.hub.proofs.corner.any_settled.Given as goal

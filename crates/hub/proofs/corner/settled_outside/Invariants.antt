@@ -1,6 +1,5 @@
 use Rattle.words.specs.Sheet.{text}
 use Prim.Native.Nat.{◌-◌}
-use Rattle.grammar.specs.Words.{words}
 use Rattle.hub.proofs.Laws.Corner.{Seeking}
 use Rattle.hub.proofs.corner.settled_outside.Given as goal
 
