@@ -89,7 +89,7 @@ fn run(
     let c = task.c;
     let at = index(task.places[c.hub]);
     let z = hub_size(task.s, at);
-    if is_within(limits, z) {
+    if is_within(limits.most(), z) {
         let st = begin(task.s, at, z, budget);
         return stored(task, limits, budget, st, work);
     }

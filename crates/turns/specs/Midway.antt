@@ -27,8 +27,14 @@ pub record IsStandard (x : Limits) : Type 0 where
   pub is : limits_of x ≡ R.standard
 
 -- A size is within them.
+abbrev pub within : Size → Size → Bool
+within most z = leb z.a most.a && (leb z.e most.e && leb z.o most.o)
+
+abbrev pub most_of : Limits → Size
+most_of x = record { a = x.alternatives; e = x.elements; o = x.options }
+
 abbrev pub within_limits : Limits → Size → Bool
-within_limits x z = leb z.a x.alternatives && (leb z.e x.elements && leb z.o x.options)
+within_limits x = within (most_of x)
 
 module _ (ws : List ℕ) (end : ℕ) (bs : List ℕ) (st : State) where
   -- The two ends of the list in the work area, the hub's remaining alternatives in the sheet, and how large all of it is, with

@@ -4,7 +4,7 @@ ghost use Rattle.grammar.specs.Numbers.{most_words};
 ghost use Rattle.words.specs.Room.{Room};
 ghost use Rattle.planned.specs.List.{Laid, HasTop, HasRoom, Located, Movable};
 ghost use Rattle.planned.specs.Moves.{IsDrained};
-ghost use Rattle.turns.specs.Midway.{IsStandard, Shut, Ready, HasNext, StackTaken, TakenFrom, PutSettled};
+ghost use Rattle.turns.specs.Midway.{IsStandard, most_of, Shut, Ready, HasNext, StackTaken, TakenFrom, PutSettled};
 ghost use Rattle.words.specs.Sheet.{text};
 
 use crate::limits::Limits;
@@ -29,6 +29,17 @@ impl Limits {
             alternatives: Sizes::ALTERNATIVES,
             elements: Sizes::ELEMENTS,
             options: Sizes::OPTIONS,
+        }
+    }
+
+    // How large a list may be.
+    pub fn most(self) -> Size
+        ensures { result ≡ most_of self }
+    {
+        Size {
+            a: self.alternatives,
+            e: self.elements,
+            o: self.options,
         }
     }
 }

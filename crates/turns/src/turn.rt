@@ -10,7 +10,7 @@ ghost use Rattle.steps.specs.Decide.{SmallSize};
 ghost use Rattle.turns.specs.Ground.{Grounded};
 ghost use Rattle.steps.specs.Step.{splits, Goable, PushedBy};
 ghost use Rattle.turns.specs.Turn.{Called, CalledAt, SteppedTo, StuckAt, ActedOn, TurnedTo};
-ghost use Rattle.turns.specs.Midway.{Shut, Ready, HasNext, With, within_limits, Held, CanReplace, SizeAfter};
+ghost use Rattle.turns.specs.Midway.{Shut, Ready, HasNext, With, within, Held, CanReplace, SizeAfter};
 ghost use Rattle.words.specs.Sheet.{text};
 
 use crate::limits::Limits;
@@ -39,10 +39,11 @@ fn hold(work: &mut [u8], t: Taken) -> Listed
     into_hand(work, l, x)
 }
 
-pub fn is_within(limits: Limits, z: Size) -> bool
-    ensures { result ≡ within_limits limits z }
+// Whether a list is no larger than another, in none of its three numbers.
+pub fn is_within(most: Size, z: Size) -> bool
+    ensures { result ≡ within most z }
 {
-    z.a <= limits.alternatives && z.e <= limits.elements && z.o <= limits.options
+    z.a <= most.a && z.e <= most.e && z.o <= most.o
 }
 
 // All of the list, with z in the place of the alternative in hand.
@@ -109,7 +110,7 @@ fn advance(
     let all = st.all;
     let l = st.l;
     let more = size_after(all, h, z);
-    if is_within(limits, more) {
+    if is_within(limits.most(), more) {
         let l = push(s, work, l, h, k, z);
         return Ok(State {
             l,

@@ -16,8 +16,10 @@ begin-st-requires c = search (rules, beginning, unstored, begun_ready, begun_goi
 
 -- src/turning.rt:113:9
 pub stored-requires-clause-shut : goal.stored-requires-clause-shut
-stored-requires-clause-shut c = search (rules, beginning, unstored, begun_ready, begun_going)
+stored-requires-clause-shut c =
+    let z = rw c.most.ensures at c.is_within.ensures in search (rules, beginning, unstored, begun_ready, begun_going)
 
 -- src/turning.rt:113:9
 pub stored-requires-clause-going : goal.stored-requires-clause-going
-stored-requires-clause-going c = search (rules, beginning, unstored, begun_ready, begun_going)
+stored-requires-clause-going c =
+    let z = rw c.most.ensures at c.is_within.ensures in search (rules, beginning, unstored, begun_ready, begun_going)
