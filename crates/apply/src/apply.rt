@@ -51,8 +51,8 @@ fn words_after(s: &Sheet, to: usize, rules: Rules, p: Plan, work: &[u8], m: Meas
 {
     let n = rules.n as usize;
     let row = p.removable;
-    let front = words_left(s, rules, row, 0, p.hub);
-    let rest = words_left(s, rules, row, p.hub + 1, n);
+    let front = words_left(s.bytes, s.end, rules, row, 0, p.hub);
+    let rest = words_left(s.bytes, s.end, rules, row, p.hub + 1, n);
     front + (Fixed::RULE + m.words) + rest + (to - s.end) + Sheet::TRAILER_WORDS
 }
 

@@ -9,14 +9,14 @@ use Rattle.apply.proofs.Laws.Left.{none_taken, ends_within, rule_taken, counting
 -- src/left.rt:30:22
 pub overflow_sub-total : goal.overflow_sub-total
 overflow_sub-total c =
-    let z : (c.index.result ≤ c.rule_end.result) × (c.rule_end.result ≤ c.args.s.now.end) =
+    let z : (c.index.result ≤ c.rule_end.result) × (c.rule_end.result ≤ c.args.end) =
     ends_within c.requires.0 (search rules) (c.rule_end.ensures.is _ refl refl) c.index.ensures in
     z.0
 
 -- src/left.rt:30:13
 pub overflow_add-total : goal.overflow_add-total
 overflow_add-total c =
-    let z : (c.index.result ≤ c.rule_end.result) × (c.rule_end.result ≤ c.args.s.now.end) =
+    let z : (c.index.result ≤ c.rule_end.result) × (c.rule_end.result ≤ c.args.end) =
     ends_within c.requires.0 (search rules) (c.rule_end.ensures.is _ refl refl) c.index.ensures in
     search rules
 
