@@ -46,6 +46,7 @@ pub struct Given {
 }
 
 // What is drawn into, the words of copies and the entries of the trail, and the pen.
+// Stays: that the pen stands behind the planned list is a clause of those who draw there. Copies are drawn into any buffer.
 #[derive(Drop)]
 pub struct Drawing<'a> {
     pub out: &'a mut [u8],

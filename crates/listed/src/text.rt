@@ -4,6 +4,7 @@ ghost use Rattle.listed.specs.Text as T;
 ghost use Rattle.listed.specs.Put.{Wrote, WroteFew};
 
 // The buffer, and how long the text in it is so far.
+// Stays: how long the text is at most is a clause of what writes, since each line that is written leaves less.
 #[derive(Drop)]
 pub struct Text<'a> {
     pub bytes: &'a mut [u8],

@@ -14,6 +14,8 @@ use words::numbers::{Block, RuleFlags};
 use words::words::word;
 
 // One row of each array for each rule, zeros behind; a place is counted in words.
+// Stays: three arrays and their number, as SPECIFICATION 17.5 has them. That they are the rules of a sheet is a clause: the fact has the
+// trees of the rules, and a ghost field takes no data.
 #[derive(Clone, Copy, Debug, PartialEq, Eq)]
 pub struct Rules {
     pub ids: [u32; 128],

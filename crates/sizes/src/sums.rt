@@ -2,6 +2,7 @@
 use std::ops::Add;
 
 // How many fresh ids of each sort, and how many words.
+// Stays: how large the numbers may be is a clause, since what is added and what is judged have other bounds.
 #[derive(Clone, Copy, Debug, Default, PartialEq, Eq)]
 pub struct Measure {
     pub alternatives: usize,

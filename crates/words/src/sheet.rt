@@ -2,6 +2,8 @@
 ghost use Rattle.words.specs.Room.{Room};
 
 // Its bytes, and the word at which its rules end. Behind that word there is room for the trailer.
+// Stays: that a sheet ends within 8,192 words is a clause where it is needed. What only walks takes longer ones, and a type may not
+// ask more of them.
 #[derive(Clone, Copy, Debug, PartialEq, Eq)]
 pub struct Sheet<'a> {
     pub bytes: &'a [u8],

@@ -9,6 +9,9 @@ use crate::numbers::Kind;
 use crate::sheet::Sheet;
 use crate::words::word;
 
+// That a record is found at a place is a clause, here and in all that walks.
+// Stays: the fact is data, since it has the tree that stands there, and a ghost field takes facts alone.
+
 // Where an element's payload begins, and its kind.
 #[derive(Clone, Copy, Debug, PartialEq, Eq)]
 pub struct Head {
