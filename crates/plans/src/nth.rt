@@ -77,6 +77,7 @@ pub fn decide_nth(s: &Sheet, to: usize, rules: Rules, past: bool, nth: u32, work
 }
 
 // A number as one of 32 bits; a larger one is told as the largest.
+// Stays: what it gives is the definition's `capped`, under the same name.
 pub fn capped(n: usize) -> u32
     ensures { result ≡ capped n }
 {

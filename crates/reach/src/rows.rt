@@ -4,7 +4,8 @@ ghost use Rattle.grammar.specs.Numbers.{rule_limit};
 ghost use Rattle.reach.specs.Rows.{bit, One, With, Without, Union, Meet, Minus, AddIf, Collected, Empty};
 
 // Stays: rows are arrays by value and the functions over them are free ones, since SPECIFICATION 17.1 fixes reachability over
-// `[[u64; 2]; 128]` by value; `Row` has no more than their sizes. That a place is below 128 is a clause, as it is of std's index.
+// `[[u64; 2]; 128]` by value, of which the first n are those of a sheet's n rules; `Row` has no more than their sizes. That a place is
+// below 128 is a clause, as it is of std's index.
 #[derive(Drop)]
 pub struct Row;
 

@@ -9,7 +9,7 @@ use words::sheet::Sheet;
 
 // The sheet, the names and the places of its rules, and a cycle among them with its hub.
 // Stays: that they belong together is a clause and no ghost field: it holds data, such as the rules, and a ghost field takes facts alone.
-#[derive(Clone, Copy)]
+#[derive(Clone, Copy, Debug, PartialEq, Eq)]
 pub struct Task<'a> {
     pub s: &'a Sheet<'a>,
     pub names: &'a [u32],

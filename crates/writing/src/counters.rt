@@ -20,6 +20,7 @@ pub struct Taken {
 
 // The number behind a number. Behind the last there is none, and a counter stays there: who hands out ids sees to it that it is
 // not reached (SPECIFICATION 4.8).
+// Stays: what it gives is the definition's `following`, which the five methods below cite.
 fn next(id: u32) -> u32
     ensures { result ≡ following id }
 {
