@@ -14,7 +14,7 @@ use Rattle.grammar.specs.Corners.{Corners}
 use Rattle.records.specs.Rules.{row}
 use Rattle.sheet.specs.Answer.{read_lent, work_after, ReadAs}
 use Rattle.sheet.specs.declared.answer.Reading.{Reading}
-use Rattle.std.specs.Prelude.{Ok, Err}
+use Rattle.words.specs.declared.numbers.Refusal.{Refusal}
 use Rattle.sheet.proofs.Laws.Sizes.{was_read}
 use Rattle.analysis.specs.Survey.{reading}
 use Rattle.analysis.proofs.Laws.Standing.{all_rules}
