@@ -15,4 +15,3 @@ pub mod Around
 pub mod Quiet
 pub mod Silent
 pub mod Inlinable
-pub mod Collide

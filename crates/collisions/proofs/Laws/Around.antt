@@ -33,17 +33,11 @@ module _ {ws : List ℕ} {end : ℕ} (d : ℕ) {bs cs : List ℕ} {x : Listed} (
   item_kept : ItemAt ws end d (meaning ws end d bs x).elements i place made
   item_kept = rw (same_meaning k.list at ws end d) at (t.is ws end d (same_listed k.list at ws end d l))
 
-  pub marked_found : FoundElement ws end d place
-  marked_found = item_kept.found
-
   pub marking_more : (name : ℕ) {from to : ℕ} {s₀ u v : Marks} {p : ℕ}
       → Itemizing (marking name) d (meaning ws end d bs x).elements from to s₀ i u → i < to
       → ElementWalked (marking name) ws end d place u p v
       → Itemizing (marking name) d (meaning ws end d bs x).elements from to s₀ (i + 1) v
   marking_more name g h w = itemizing_at mark_label (mark_leaf name) g h item_kept w
-
-pub kept_located : {ws : List ℕ} {end : ℕ} {bs cs : List ℕ} {x : Listed} → Kept ws end bs cs → Located bs x → Located cs x
-kept_located k l = same_located k.list l
 
 -- What the marks are then.
 member_append : (n : ℕ) (xs ys : List ℕ) → member n (xs ++ ys) ≡ (member n xs || member n ys)
@@ -137,8 +131,6 @@ around_left same m = rw same m
 
 -- While marks are put, a record is listed as it was.
 module _ {bs cs : List ℕ} {x : Listed} (z : Cleared bs cs) (at : Located bs x) where
-  pub clear_located : Located cs x
-  clear_located = same_located z.list at
 
   pub clear_listed : {ws : List ℕ} {end d : ℕ} → ListedIn ws end d bs x → ListedIn ws end d cs x
   clear_listed {ws} {end} {d} l = same_listed z.list at ws end d l

@@ -51,11 +51,6 @@ module _ (bs : List ℕ) {ws : List ℕ} {at w : ℕ} (e : w ≡ get_or ws (at +
       go unlabelled f t = absurd (some (e ∙ f))
       go (labelled i n) f t = same_clash (ap (λ x. c.label || x) (one labels_bit (e ∙ f) p)) (ap (λ x. c.binding || x) (one references_bit (e ∙ f) q))
 
--- A name that a call or a token binds.
-pub name_bound : (ws bs : List ℕ) {name : ℕ} (c : Clash) {h : Bool} → h ≡ has_name ws bs references_bit name
-    → NameBound ws bs name c (record { label = c.label; binding = c.binding || h })
-name_bound ws bs c e = record { label = refl; binding = ap (λ x. c.binding || x) e }
-
 module _ (ws bs : List ℕ) where
   bound : {w n : ℕ} {c r : Clash} → NameBound ws bs w c r → w ≡ n → r ≡ record { label = c.label; binding = c.binding || (has_name ws bs references_bit n || false) }
   bound {n = n} {c} b e =

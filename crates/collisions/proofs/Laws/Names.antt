@@ -30,14 +30,6 @@ module _ {ws : List ℕ} {end : ℕ} {bs : List ℕ} (o : Ordered ws end bs) (at
   pub put_joined : b ≡ true → (s : Set) → {cs : List ℕ} → InSet bs cs k (set_bit s) → NamePut ws end bs cs (set_bit s) (get_or ws at 0)
   put_joined t s j = rw e at (name_joined o a t (set_is s) refl j.joined refl j.put)
 
-pub in_set : (bs : List ℕ) {cs : List ℕ} (k : ℕ) {w h r low : ℕ} → h ≡ entry bs k → Joined h w r → low ≡ low_in bs → HalfPut bs cs (low + k) r → InSet bs cs k w
-in_set bs {cs} k {w} {r = r} e j l p =
-    record {
-      value = r;
-      joined = subst (λ x. Joined x w r) e j;
-      put = subst (λ x. HalfPut bs cs (x + k) r) l p;
-    }
-
 -- Nothing at all.
 pub cleared : {bs cs ds : List ℕ} {m : ℕ} → work_bytes ≤ length bs → entries_at ≤ m → m ≤ entries_end → HalfPut bs cs hand_end m → HalfPut cs ds (hand_end + 1) m
     → Cleared bs ds

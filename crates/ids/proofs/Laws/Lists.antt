@@ -69,23 +69,6 @@ module _ (bs : List ℕ) (at n i : ℕ) (room : 4 * (at + n) ≤ length bs) (so 
 
 pub ruleset risings = (rising_start, rising_done, rising_stop, rising_more)
 
--- past the largest
-pub range_none : (xs : List ℕ) (past : ℕ) → InRange xs 0 0 0 past
-range_none xs past = record { from = λ k a b. omega arith; under = λ k a b. absurd (omega arith) }
-
-pub range_more : (xs : List ℕ) (i : ℕ) {w past r : ℕ} → InRange xs 0 i 0 past → w ≡ get_or xs i 0 → past ≤ r → w + 1 ≤ r
-    → InRange xs 0 (i + 1) 0 r
-range_more xs i {w} {past} {r} so e h g = record { from = λ k a b. omega arith; under = λ k a b. go k b (eqb k i) refl }
-  where
-    go : (k : ℕ) → k < i + 1 → (b : Bool) → eqb k i ≡ b → get_or xs k 0 < 0 + r
-    go k b true t = rw (eqb-true k i t, ← e) (omega arith)
-    go k b false t = let z : k ≢ i = eqb-false k i t in let u = so.under k (omega arith) (omega arith) in omega arith
-
-pub range_all : (xs : List ℕ) (n i : ℕ) {past : ℕ} → i ≤ n → n ≤ i → InRange xs 0 i 0 past → InRange xs 0 n 0 past
-range_all xs n i h g so = let e : i ≡ n = omega arith in rw e at so
-
-pub ruleset ranges = (range_none, range_more, range_all)
-
 -- a row copied: the first `i` words are its first `i` numbers
 pub record Copying (row before s : List ℕ) (i : ℕ) : Type 0 where
   pub within : i ≤ length row

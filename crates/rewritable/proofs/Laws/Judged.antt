@@ -176,5 +176,3 @@ module _ (v : View) {hub : ℕ} (low : hub < v.n) (d : ℕ) (es : List (Element 
               (λ k. record { fit = f ∙ k; primary = ap not n ∙ sym (p ∙ k); recursive = n ∙ sym q; calls = walked.calls w })
               e;
         }
-
-pub ruleset verdicts = (verdict_no, verdict_recursive, verdict_primary)

@@ -159,8 +159,6 @@ module _ (bs : List ℕ) {t end : ℕ} {rules : Rules} (k : EndAt bs t end) {a :
       go true y true z =
           read_sheet {s = sheet_of (words bs) f.found.trees} (rw (y, z, judge) refl) (parts_same bs k f w p q n) f.rows
 
-pub ruleset judges = (ids_refused, sheet_read)
-
 -- what reading the rules found
 got_of : {A : Type 0} (g : Got A) → is_got g ≡ true → (a : A) × (q : ℕ) × (g ≡ got a q)
 got_of (got a q) e = (a, q, refl)
@@ -260,5 +258,3 @@ module _ (bs : List ℕ) {b : Bool} (e : b ≡ is_trailer (words bs)) where
               let z : read_words (words bs) ≡ judge (words bs) (got (rules_got f g).rows.found.trees end) =
               opened ∙ rw ((rules_got f g).is, ids_are, sym i ∙ j) refl in
               rw z (p (rules_got f g).rows)
-
-pub ruleset examines = (trailer_refused, rules_refused, rows_found, rising_refused, goes_on)

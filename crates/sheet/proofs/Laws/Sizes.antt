@@ -129,18 +129,6 @@ module _ (bs work : List ℕ) {e : Refusal} (a : ReadAs (read_lent bs work) (Err
   pub summary_refused : SummedAs (read_lent bs work) (Err e)
   summary_refused = rw is_refused (record { summary = refl; number = refl; values = refl })
 
-  pub numbers_refused : {n : ℕ} {ns : List ℕ} → n ≡ refusal_number e → ns ≡ n ∷ replicate 11 0 → ns ≡ numbers_of (read_lent bs work)
-  numbers_refused k f = f ∙ ap (λ n. n ∷ replicate 11 0) k ∙ sym (ap numbers_of is_refused)
-
-  pub ids_refused : replicate rule_limit 0 ≡ ids_of (read_lent bs work)
-  ids_refused = sym (ap ids_of is_refused)
-
-  pub names_refused : replicate rule_limit 0 ≡ names_of (read_lent bs work)
-  names_refused = sym (ap names_of is_refused)
-
-  pub places_refused : replicate rule_limit 0 ≡ places_of (read_lent bs work)
-  places_refused = sym (ap places_of is_refused)
-
 -- a sheet that was read, as its walks need it
 module _ (bs work : List ℕ) {x : Reading} (a : ReadAs (read_lent bs work) (Ok x)) where
   was : WasSheet (read_lent bs work) x.parts
@@ -206,15 +194,8 @@ module _ (bs work : List ℕ) {x : Reading} (a : ReadAs (read_lent bs work) (Ok 
     pub numbers_sheet : {ns : List ℕ} → ns ≡ numbers_from (numbers_in x.parts) z → ns ≡ numbers_of (read_lent bs work)
     numbers_sheet f = f ∙ ap₂ numbers_from was.parts sizes_are ∙ sym (ap numbers_of was.is)
 
-  pub ids_sheet : x.rules.ids ≡ ids_of (read_lent bs work)
-  ids_sheet = rows_of.ids ∙ sym (ap ids_of was.is)
-
   pub names_sheet : x.rules.names ≡ names_of (read_lent bs work)
   names_sheet = rows_of.names ∙ sym (ap names_of was.is)
 
   pub places_sheet : x.rules.places ≡ places_of (read_lent bs work)
   places_sheet = rows_of.places ∙ sym (ap places_of was.is)
-
-pub ruleset summaries = (summary_refused, numbers_refused, standing, summary_sheet, numbers_sheet)
-
-pub ruleset rows_out = (ids_refused, names_refused, places_refused, ids_sheet, names_sheet, places_sheet)

@@ -69,5 +69,3 @@ module _ (bs : List ℕ) {t : ℕ} (e : t ≡ length bs / 4 - trailer_words) whe
                 good = sym (le-leb y x l) ∙ decided;
                 kind = λ b e. let same : a ≡ b = cc in rw (← same) ((rw h at m) ∙ f);
               }
-
-pub ruleset trailers = (kind_other, first_other, second_past, trailer_named)
