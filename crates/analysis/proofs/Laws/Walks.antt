@@ -91,6 +91,29 @@ no_skips {v} {w} e {r} {x} m f = go (λ a b. (rw f at m).1 a (b ∙ ap (λ k. k 
         (λ b. rw (a, b) refl))
         (λ a. rw a refl)
 
+-- An outermost alternative: its label is looked at behind it.
+pub outer_walked : (v : View) {ws : List ℕ} {end at : ℕ} {s : Seen} {q : ℕ} (r : Held)
+    → AlternativeWalked (surveying v) ws end inner_depth at s q (seen_of r) → {m : ℕ} → m ≡ get_or ws (at + 2) 0
+    → OutermostWalked v ws end at s q
+    (seen_of (record {
+      calls = r.calls;
+      corners = r.corners;
+      stops = r.stops || not (eqb m 0);
+      seeks = r.seeks;
+      null = r.null;
+    }))
+unfolding past_outermost seen_of
+outer_walked v r w e =
+    record {
+      passed = w.passed;
+      value = λ a z u.
+          let f = e ∙ (alternative_words_lem inner_depth u).flag_is in
+          rw f
+          (ap (λ t. record { calls = t.calls; corners = t.corners; stops = t.stops || not (eqb a.flag 0); seeks = t.seeks; null = t.null })
+          (w.value a z u));
+      within = w.within;
+    }
+
 -- A loop that counts up to n, of which k trees are done.
 module _ {ws : List ℕ} {end : ℕ} {A S : Type 0} {enc : A → List ℕ} {ok : A → Bool} {step : S → A → S} {n at : ℕ} {s₀ : S} {k p : ℕ}
     {s : S} (g : Folding ws end enc ok step n at s₀ (n - k) p s) where

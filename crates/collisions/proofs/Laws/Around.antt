@@ -11,7 +11,6 @@ use lib.Seq.{take_all}
 use Rattle.grammar.specs.Numbers.{most_words}
 use Rattle.grammar.specs.Tree.{Element, Block}
 use Rattle.grammar.specs.Lists.{nothing, member}
-use Rattle.grammar.specs.Found.{FoundElement}
 use Rattle.grammar.specs.Fold.{folded, element_fold, block_fold, ElementWalked}
 use Rattle.reference.specs.Walks.{elements_give, label_names}
 use Rattle.reference.specs.Substitute.{without, remaining_actions_reference, collect_labels, action_reference_names}

@@ -1,6 +1,6 @@
 -- The name that stands at a place comes into a set; and no set has any.
 use Prim.Native.Nat.{ℕ, ◌+◌, ◌<◌, ◌≤◌}
-use mathlib.Core.Path.{◌≡◌, refl, ap, ◌∙◌, subst}
+use mathlib.Core.Path.{◌≡◌, refl, ap, ◌∙◌}
 use mathlib.Core.List.{List}
 use mathlib.Core.Bool.{Bool, true, false}
 use native.Mathlib.Omega.{arith}
@@ -8,8 +8,8 @@ use lib.ListN.{length, get_or}
 use Rattle.grammar.specs.Numbers.{work_bytes}
 use Rattle.planned.specs.Layout.{hand_end}
 use Rattle.planned.specs.Halves.{HalfPut}
-use Rattle.collisions.specs.Names.{set_bit, entries_at, entries_end, low_in, count_in, entry, has_among, has_name, Ordered, NamePut, Cleared}
-use Rattle.collisions.specs.Order.{IsAt, Joined, Insertable, Inserted, InSet}
+use Rattle.collisions.specs.Names.{set_bit, entries_at, entries_end, low_in, count_in, has_among, has_name, Ordered, NamePut, Cleared}
+use Rattle.collisions.specs.Order.{IsAt, Insertable, Inserted, InSet}
 use Rattle.collisions.specs.declared.names.Set.{Set}
 use Rattle.collisions.proofs.Laws.Bits.{set_is, new_fits}
 use Rattle.collisions.proofs.Laws.Entry.{insertable, name_inserted}

@@ -1,7 +1,6 @@
 -- Tests of a run of words, one word at a time; and no two equal, by places and by the definition.
 use Prim.Native.Nat.{ℕ, zero, suc, ◌+◌, ◌-◌, ◌*◌, ◌/◌, ◌<◌, ◌≤◌}
 use mathlib.Core.Path.{◌≡◌, refl, sym, ap, ◌∙◌}
-use mathlib.Core.Logic.{◌≢◌}
 use mathlib.Core.List.{List, [], ◌∷◌}
 use mathlib.Core.Bool.{Bool, true, false, ◌&&◌, ◌||◌}
 use native.Mathlib.Omega.{arith}
@@ -9,12 +8,12 @@ use native.Mathlib.Numerals.{add-one}
 use lib.ListN.{length, get_or, set, take, drop, length-take}
 use lib.Seq.{drop-cons, take-suc, take-suc-set, take-length, take_all}
 use lib.Dec.{ltb, eqb}
-use borrow.Author.Tests.{lt-ltb, le-ltb, ltb-true, eq-eqb, eqb-true, eqb-false}
+use borrow.Author.Tests.{lt-ltb, le-ltb, ltb-true, eq-eqb, eqb-true}
 use Rattle.grammar.specs.Words.{words, word_of}
 use Rattle.grammar.specs.Lists.{rising, member, distinct}
 use Rattle.grammar.specs.Laws.Words.{length_words}
 use Rattle.grammar.specs.Laws.Parse.{left_true, right_true}
-use Rattle.ids.specs.Distinct.{Injective, InRange, Judged}
+use Rattle.ids.specs.Distinct.{Injective, Judged}
 
 -- strictly rising
 two_rise : (ws : List ℕ) (at m : ℕ) → at + m + 2 ≤ length ws

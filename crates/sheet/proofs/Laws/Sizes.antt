@@ -4,7 +4,7 @@ use mathlib.Core.Path.{◌≡◌, refl, sym, ap, ap₂, subst, ◌∙◌}
 use mathlib.Core.List.{List, ◌∷◌, ◌++◌, append_assoc}
 use mathlib.Core.Bool.{Bool, true, false}
 use native.Mathlib.Omega.{arith}
-use lib.ListN.{length, replicate, length-append}
+use lib.ListN.{length, length-append}
 use lib.Dec.{leb}
 use borrow.Author.Tests.{leb-true}
 use Rattle.grammar.specs.Stands.{Stands}
@@ -29,7 +29,7 @@ use Rattle.sheet.specs.declared.answer.Reading.{Reading}
 use Rattle.sheet.specs.declared.counts.Sizes.{Sizes}
 use Rattle.records.specs.Rules.{RowsOf}
 use Rattle.sheet.specs.Answer.{numbers_in, answer_of, parts_of, read_lent, work_after, ReadAs, Lent}
-use Rattle.sheet.specs.Sizes.{Standing, Counted, sizes_of, numbers_from, numbers_of, ids_of, names_of, places_of}
+use Rattle.sheet.specs.Sizes.{Standing, Counted, sizes_of, numbers_from, numbers_of, names_of, places_of}
 use Rattle.sheet.specs.Sizes.{values_of, SummedAs}
 use Rattle.sheet.specs.Read.{WasRead}
 use Rattle.sheet.proofs.Laws.Lent.{lent_all}
