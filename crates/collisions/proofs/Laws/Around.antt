@@ -130,7 +130,6 @@ around_left same m = rw same m
 
 -- While marks are put, a record is listed as it was.
 module _ {bs cs : List ℕ} {x : Listed} (z : Cleared bs cs) (at : Located bs x) where
-
   pub clear_listed : {ws : List ℕ} {end d : ℕ} → ListedIn ws end d bs x → ListedIn ws end d cs x
   clear_listed {ws} {end} {d} l = same_listed z.list at ws end d l
 
