@@ -29,7 +29,8 @@ fn slot(name: u32) -> usize
 }
 
 // Puts the places of the first n names into the table.
-// Stays: names and their number, here and in `scan`, since the definitions are of the array of a sheet's rules and how many there are.
+// Stays: names and their number are two parameters, here and in `scan`, since the definitions are of the array of a sheet's rules and
+// of how many there are.
 pub fn put_names(names: &[u32], n: usize, table: &mut [u8])
     requires few_rules { (n ≤ rule_limit) × (slots ≤ length table.old) }
     requires told { Told names.now n }

@@ -22,7 +22,7 @@ pub struct Composed {
 }
 
 // By the plan in the work area, for the sheet whose rules end at `end` and whose trailer stands at `to`.
-// Stays: the bytes and their end. The caller has no `Sheet` of them, since it writes the new sheet over them right behind this call.
+// Stays: this takes the bytes and their end, which its one caller has. The `Sheet` would be made there where it is made here.
 pub fn compose(
     s: &[u8],
     end: usize,

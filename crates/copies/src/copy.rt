@@ -12,7 +12,7 @@ use words::words::word;
 
 impl Drawing<'_> {
     // The element at `at`, made plain or not; returned is where it ends.
-    // Stays: copying a block calls itself, since blocks nest and the pass has no heap for a stack of its own.
+    // Stays: SPECIFICATION 17.8 fixes that copying a block calls itself for the blocks inside.
     #[cycle(tree)]
     pub fn copy_element(&mut self, s: &Sheet, depth: u32, at: usize, plain: bool) -> usize
         requires element_fits { ElementFits (text s.now) s.now.end depth plain at self.old.out.now self.old.trail.now self.old.pen }

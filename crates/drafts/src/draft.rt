@@ -18,8 +18,8 @@ impl Draft {
     pub const FIRST: usize = 8192;
 
     // A rule whose n words are drawn next.
-    // Stays: the row is written as `Rules::add` writes one, and not by it. Callers outside have a value of `Rules`, and no open method of
-    // what they have may ask for anything.
+    // Stays: the row is written here as `Rules::add` writes one. `Rules` is handed to callers outside, so a public method of it may have
+    // no `requires`, and `add` needs one.
     pub fn add_row(&mut self, id: u32, name: u32, n: usize)
         requires { (self.old.rules.n < rule_limit) × (compose_at ≤ self.old.pen.to) × (self.old.pen.to + n ≤ compose_end) }
         ensures { RowAdded id name n self.old self.new }

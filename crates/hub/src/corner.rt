@@ -19,6 +19,7 @@ use words::walk::{alternative_head, element_head, leaf_end};
 use words::words::word;
 
 // A cycle among n rules: which rules are its members, and which rules are nullable.
+// Stays: the names go along beside it, since they are lent, and it is a value of three fields that is handed on as it is.
 #[derive(Clone, Copy, Debug, PartialEq, Eq)]
 pub struct Cycle {
     pub n: usize,

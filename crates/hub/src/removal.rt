@@ -20,7 +20,7 @@ fn thinned(
     ensures { Thinned calls.now n planned hub row result }
 {
     let mut m = row;
-    // Stays: a `loop`, since the rounds have no number that anything reads: they end with the first one that takes nothing.
+    // Stays: this is a `loop`, since the rounds have no number that anything reads. They end with the first one that takes nothing.
     loop {
         let called = calls_from(calls, n, with(m, hub), planned);
         if is_empty(meet(m, called)) {

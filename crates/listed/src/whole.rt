@@ -22,7 +22,7 @@ pub fn list_refused(number: u32, text: &mut [u8]) -> usize
 
 // The sheet and the trail that the pass hands back, with its plans and steps. The sheet has so many words, the trail so many
 // entries.
-// Stays: both stand at the front of buffers that are longer, and a caller need not cut a slice of just that length.
+// Stays: the buffers come as the pass leaves them, with what it tells of them, since the definition is of both.
 pub fn list_joined(
     res: &[u8],
     n: usize,

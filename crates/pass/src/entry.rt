@@ -87,7 +87,7 @@ fn call(
 }
 
 // The pass by the original's reading of left corners.
-// Stays: an entry for each reading, as the C interface has one. They differ in the flag alone, and `call` stands under both.
+// Stays: there is an entry for each reading, as in the C interface. They differ in the flag alone, and `call` stands under both.
 pub fn pass(
     sheet: &[u8],
     res: &mut [u8],

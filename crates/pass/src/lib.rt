@@ -15,7 +15,7 @@ use answer::told;
 
 // The pass by the original's reading of left corners. The numbers are the refusal's or 0, plans, steps, and the bytes of result and
 // trail.
-// Stays: a function for each reading, since both are what the C interface exports.
+// Stays: there is a function for each reading, since both are what the C interface exports.
 pub fn pass(sheet: &[u8], res: &mut [u8], trail: &mut [u8], work: &mut [u8], numbers: &mut [u32; 5])
     ensures { HandedOver rust sheet.now res.old trail.old work.old
         numbers.new res.new trail.new work.new }

@@ -27,7 +27,7 @@ pub fn into_hand(work: &mut [u8], l: Sizes, x: Listed) -> Listed
 }
 
 // A place without its mark.
-// Stays: no twin of `place` in `collisions`, which takes two marks off an entry, at other bits.
+// Stays: this is no twin of `place` in `collisions`, which takes two marks off an entry, at other bits.
 pub fn place(h: u16) -> u16
     ensures { (result ≡ place_of h) × (result < marked) }
 {

@@ -132,6 +132,7 @@ pub fn tell_nth(r: Nth) -> Told
 }
 
 // The list of a plan stays in the work area; without a plan nothing does.
+// Stays: what was decided is asked of the numbers, since they are what a caller in another language is told.
 pub fn leave(numbers: [u32; 8], work: &mut [u8])
     ensures { work.new ≡ left_by numbers work.old }
 {

@@ -175,7 +175,7 @@ fn element_at(s: &Input, depth: u32, at: usize) -> Option<usize>
     payload_at(s, depth, kind, p)
 }
 
-// Stays: a loop of its own, as that of alternatives is: a closure for `many` would state the contract of what it calls once more,
+// Stays: this loop is its own, as that of alternatives is: a closure for `many` would state the contract of what it calls once more,
 // and put two more frames on the stack at each depth.
 #[cycle(tree)]
 fn elements_at(s: &Input, depth: u32, n: u32, at: usize) -> Option<usize>

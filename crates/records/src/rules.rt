@@ -14,7 +14,7 @@ use words::numbers::{Block, RuleFlags};
 use words::words::word;
 
 // One row of each array for each rule, zeros behind; a place is counted in words.
-// Stays: three arrays and their number, as SPECIFICATION 17.5 has them. That they are the rules of a sheet is a clause: the fact has the
+// Stays: SPECIFICATION 17.5 has three arrays and their number. That they are the rules of a sheet is a clause: the fact has the
 // trees of the rules, and a ghost field takes no data.
 #[derive(Clone, Copy, Debug, PartialEq, Eq)]
 pub struct Rules {
@@ -69,6 +69,7 @@ fn rule_at(s: &Input, at: usize) -> Option<usize>
 }
 
 // Every rule from the first word up to the end exactly, where every record is good.
+// Stays: this takes bytes and an end, since `Input` is made of them here and is known in no other crate.
 pub fn read_rules(s: &[u8], end: usize) -> Option<Rules>
     requires { (4 * end ≤ length s.now) × (end < 2 ^ 31) }
     ensures { RulesRead (words s.now) end result }

@@ -92,8 +92,7 @@ fn advance(
 }
 
 // The first cycle with a plan, and the plan applied; none where no cycle has one.
-// Stays: limits, reading and room are three parameters, since each goes to another callee: the limits to the search, the reading to
-// `Facts`, the room to `apply`; a struct of the three would be made in one place and taken apart at once.
+// Stays: limits, reading and room are three parameters, as docs/DECISIONS.md has them ("Room, limits and entries so far are arguments").
 pub fn take_turn(
     res: &mut [u8],
     trail: &mut [u8],

@@ -20,7 +20,7 @@ use words::walk::element_head;
 use words::words::word;
 
 // A cycle among n rules, and its hub: places of rules.
-// Stays: the names go along beside it, here and in `hub`. The value that has both (turns) lends places too, which nothing here reads.
+// Stays: the names go along beside it. The value that has both (turns) lends the places too, which nothing here reads.
 #[derive(Clone, Copy, Debug, PartialEq, Eq)]
 pub struct Cycle {
     pub n: usize,

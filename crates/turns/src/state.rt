@@ -15,7 +15,8 @@ use splices::splice::Size;
 use words::numbers::Block;
 use words::sheet::Sheet;
 
-// Here and not beside the struct, since what `standard` promises names the struct, and what its ghost field rests on may not.
+// The methods stand here and not beside the struct. What `standard` promises names the struct, and the file of a struct with a ghost
+// field may use nothing that does.
 impl Limits {
     // The least number of steps that a substitution may take (SPECIFICATION 8.10).
     pub const LEAST_BUDGET: usize = 64;

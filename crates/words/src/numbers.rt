@@ -4,7 +4,7 @@ ghost use Rattle.words.specs.Kinds.{Names, unit_number, quantifier_number, kind_
 ghost use Rattle.words.specs.Refusal.{refusal_number};
 
 // The area that a caller lends.
-// Stays: a slice, whose length is a clause. The C interface lends it, and an array of this length would refuse a longer one.
+// Stays: it is a slice, whose length is a clause. The C interface lends it so, and an array of this length would refuse a longer one.
 #[derive(Drop)]
 pub struct Work;
 

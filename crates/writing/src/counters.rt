@@ -27,8 +27,8 @@ fn next(id: u32) -> u32
     id.saturating_add(1)
 }
 
-// Stays: a method for each sort. One for all would be handed the sort's number and choose the field by it twice, to read it and
-// to move it on, and say no less.
+// Stays: SPECIFICATION 17.3 fixes that the methods take the counters by value and give them moved on. There is one for each sort, since
+// one for all would choose the field by the sort twice, to read it and to move it on.
 impl Counters {
     pub fn take_alternative(mut self) -> Taken
         ensures { TookAlternative self result.id result.counters }

@@ -11,7 +11,7 @@ use planned::read::item;
 use words::sheet::Sheet;
 
 // One element: a copy with fresh ids, or as it stands.
-// Stays: `fresh` as a bool. The definitions of what is drawn have it by this name, and a function for each case would be its twin.
+// Stays: `fresh` is a flag. The definitions of what is drawn have it by this name, and a function for each case would be its twin.
 fn write_item(d: &mut Drawing<'_>, s: &Sheet, depth: u32, e: Item, fresh: bool)
     requires item_fits { ItemFits (text s.now) s.now.end depth e.at e.plain fresh d.old.out.now d.old.trail.now d.old.pen }
     ensures same_out { d.old.out.ghost_name ≡ d.new.out.ghost_name }
