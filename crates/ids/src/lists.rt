@@ -8,8 +8,8 @@ use crate::distinct::apart;
 use words::words::{put_word, word};
 
 // Whether the n words from `at` on rise strictly.
-#[tactic(auto, using(crate::proofs::Laws::Lists::risings))]
 // Stays: a place and a number say which words are meant, since the definition is of a part in the middle of a sheet.
+#[tactic(auto, using(crate::proofs::Laws::Lists::risings))]
 pub fn is_rising(s: &[u8], at: usize, n: usize) -> bool
     requires { 4 * (at + n) ≤ length s.now }
     ensures { result ≡ rising (take n (drop at (words s.now))) }
