@@ -15,14 +15,14 @@ unfoldable pub seen : Track → ℕ → Track
 seen t id =
     elim (leb t.top id) [
       | true ↦ record { top = id + 1; falls = t.falls }
-      | false ↦ record { top = t.top; falls = 1 }
+      | false ↦ record { top = t.top; falls = true }
     ]
 
 abbrev pub tracked : Track → List ℕ → Track
 tracked = folded seen
 
 abbrev pub fresh : Track
-fresh = record { top = 0; falls = 0 }
+fresh = record { top = 0; falls = false }
 
 -- More ids of each sort.
 unfoldable pub surveyed : Survey → (ℕ → List ℕ) → Survey
@@ -53,8 +53,8 @@ pub record AlternativeSeen (ws : List ℕ) (at : ℕ) (v w : Survey) : Type 0 wh
   pub elements : w.elements ≡ v.elements
 
 -- What a track tells of all ids of its sort.
-pub record RisesApart (ws : List ℕ) (end n sort falls : ℕ) : Type 0 where
-  pub apart : (f : FoundRules ws end n 0) → falls ≡ 0 → distinct (body_ids sort f.trees) ≡ true
+pub record RisesApart (ws : List ℕ) (end n sort : ℕ) (falls : Bool) : Type 0 where
+  pub apart : (f : FoundRules ws end n 0) → falls ≡ false → distinct (body_ids sort f.trees) ≡ true
 
 pub record Under (ws : List ℕ) (end n sort top : ℕ) : Type 0 where
   pub under : (f : FoundRules ws end n 0) (c : ℕ) → below c (body_ids sort f.trees) ≡ leb top c

@@ -18,11 +18,11 @@ use words::visit::{Visitor, walk_rules};
 use words::walk::Head;
 use words::words::word;
 
-// Ids of one sort: past the largest, and 0 where each was larger than all in front of it.
+// Ids of one sort: past the largest, and whether one was not larger than all in front of it.
 #[derive(Clone, Copy, Debug, PartialEq, Eq, Default)]
 pub struct Track {
     pub top: u64,
-    pub falls: u64,
+    pub falls: bool,
 }
 
 impl Track {
@@ -34,7 +34,7 @@ impl Track {
         if self.top <= id {
             self.top = id + 1;
         } else {
-            self.falls = 1;
+            self.falls = true;
         }
     }
 

@@ -40,12 +40,12 @@ fn rows_are_distinct(rules: Rules, work: &mut [u8]) -> bool
 
 // Whether no two ids of one sort are equal: those that rise are not, the others are collected and parted.
 #[tactic(auto, using(ids::proofs::Laws::Lists::words_take))]
-fn sort_is_distinct(s: &Sheet, n: u32, sort: Sort, falls: u64, work: &mut [u8]) -> bool
+fn sort_is_distinct(s: &Sheet, n: u32, sort: Sort, falls: bool, work: &mut [u8]) -> bool
     requires bounds { 4 * s.now.end + 4 ≤ length work.old }
     requires found_rules { FoundRules (text s.now) s.now.end n 0 × RisesApart (text s.now) s.now.end n (sort_number sort) falls }
     ensures { SortDistinct (text s.now) s.now.end n (sort_number sort) result }
 {
-    if falls == 0 {
+    if !falls {
         return true;
     }
     let k = collect(s, n, sort, work);

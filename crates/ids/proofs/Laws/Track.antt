@@ -2,7 +2,7 @@
 use Prim.Native.Nat.{ℕ, ◌+◌, ◌<◌, ◌≤◌}
 use mathlib.Core.Path.{◌≡◌, refl, sym, ap, ◌∙◌}
 use mathlib.Core.List.{List, [], ◌∷◌}
-use mathlib.Core.Bool.{Bool, true, false, ◌&&◌, ◌||◌, and-true}
+use mathlib.Core.Bool.{Bool, true, false, false≢true, ◌&&◌, ◌||◌, and-true}
 use native.Mathlib.Omega.{arith}
 use lib.Dec.{eqb, leb, ltb}
 use borrow.Author.Tests.{le-leb, lt-leb, lt-ltb, leb-true, leb-false, ltb-true, ltb-false, eqb-true}
@@ -16,14 +16,14 @@ pub see_higher : (t : Track) (id : ℕ) → t.top ≤ id → record { top = id +
 unfolding seen
 see_higher t id h = rw (le-leb t.top id h, seen) refl
 
-pub see_lower : (t : Track) (id : ℕ) → id < t.top → record { top = t.top; falls = 1 } ≡ seen t id
+pub see_lower : (t : Track) (id : ℕ) → id < t.top → record { top = t.top; falls = true } ≡ seen t id
 unfolding seen
 see_lower t id h = rw (lt-leb t.top id h, seen) refl
 
 -- an id that is seen moves the top, or shows that the ids do not rise
 data See (t : Track) (x : ℕ) : Type 0 where
   higher : t.top ≤ x → seen t x ≡ record { top = x + 1; falls = t.falls } → See t x
-  lower : x < t.top → seen t x ≡ record { top = t.top; falls = 1 } → See t x
+  lower : x < t.top → seen t x ≡ record { top = t.top; falls = true } → See t x
 
 see_case : (t : Track) (x : ℕ) → See t x
 see_case t x = go (leb t.top x) refl
@@ -61,15 +61,15 @@ fresh_under xs c = top_under fresh xs c ∙ ap (λ b. b && below c xs) (le-leb 0
 pub record Risen (t : Track) (xs : List ℕ) : Type 0 where
   pub apart : distinct xs ≡ true
   pub from : (y : ℕ) → member y xs ≡ true → t.top ≤ y
-  pub rose : t.falls ≡ 0
+  pub rose : t.falls ≡ false
 
-pub risen : (t : Track) (xs : List ℕ) → (tracked t xs).falls ≡ 0 → Risen t xs
+pub risen : (t : Track) (xs : List ℕ) → (tracked t xs).falls ≡ false → Risen t xs
 unfolding distinct member
 risen t [] e = record { apart = refl; from = λ y m. never m; rose = e }
 risen t (x ∷ xs) e = go (see_case t x) (risen (seen t x) xs e)
   where
     go : See t x → Risen (seen t x) xs → Risen t (x ∷ xs)
-    go (lower h f) r = absurd (let z = ap (λ u. u.falls) f in let y = r.rose in omega arith)
+    go (lower h f) r = absurd (false≢true (sym r.rose ∙ ap (λ u. u.falls) f))
     go (higher h f) r =
         record { apart = rw fresh_here r.apart; from = λ y m. least y (eqb y x) refl m; rose = sym (ap (λ u. u.falls) f) ∙ r.rose }
       where
