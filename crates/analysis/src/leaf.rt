@@ -67,7 +67,7 @@ pub fn see_symbol(past: bool, skips: bool, t: &mut Seen)
 fn see_name(v: &Known, name: u32, skips: bool, t: &mut Seen)
     ensures { NameSeen (view_of v.now) name skips (seen_of t.old) (seen_of t.new) }
 {
-    match look_up(v, name) {
+    match look_up(v.names, v.n, v.table, name) {
         None => see_symbol(v.past, skips, t),
         Some(i) => {
             let empty = skips | has(v.nullable, i);

@@ -3,8 +3,6 @@ ghost use Rattle.std.specs.Prelude.{◌≡◌, ◌<◌, ◌≤◌, ◌%◌, leng
 ghost use Rattle.grammar.specs.Numbers.{rule_limit};
 ghost use Rattle.analysis.specs.Names.{Told, Tabled, IsTarget, table_with, slots};
 
-use crate::known::Known;
-
 // Names that leave one remainder share a byte of the table.
 #[derive(Drop)]
 struct Table;
@@ -29,8 +27,8 @@ fn slot(name: u32) -> usize
 }
 
 // Puts the places of the first n names into the table.
-// Stays: names and their number are two parameters, here and in `scan`, since the definitions are of the array of a sheet's rules and
-// of how many there are.
+// Stays: names and their number are two parameters, here and below, since the definitions are of the array of a sheet's rules and of
+// how many there are.
 pub fn put_names(names: &[u32], n: usize, table: &mut [u8])
     requires few_rules { (n ≤ rule_limit) × (slots ≤ length table.old) }
     requires told { Told names.now n }
@@ -52,15 +50,16 @@ pub fn scan(names: &[u32], n: usize, name: u32) -> Option<usize>
 
 // A byte of the table says where to look. Where another name stands there, or without a table, the names are looked through.
 #[tactic(auto, using(crate::proofs::Laws::Names::lookups))]
-pub fn look_up(v: &Known, name: u32) -> Option<usize>
-    ensures { IsTarget v.now.names.now v.now.n name result }
+pub fn look_up(names: &[u32], n: usize, table: &[u8], name: u32) -> Option<usize>
+    requires { Tabled names.now n table.now }
+    ensures { IsTarget names.now n name result }
 {
-    if v.table.is_empty() {
-        return scan(v.names, v.n, name);
+    if table.is_empty() {
+        return scan(names, n, name);
     }
-    let i = usize::from(v.table[slot(name)]);
-    if i < v.n && v.names[i] == name {
+    let i = usize::from(table[slot(name)]);
+    if i < n && names[i] == name {
         return Some(i);
     }
-    scan(v.names, v.n, name)
+    scan(names, n, name)
 }

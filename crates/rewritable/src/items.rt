@@ -16,12 +16,18 @@ use words::walk::element_head;
 use words::words::word;
 
 // Whether the quantifier of an element is 0, as it is once it was made plain.
-// Stays: one number is asked for, so that the word is compared with that of the quantifier and none of the others need be named.
+#[tactic(auto, using(crate::proofs::Laws::Items::never_once))]
 fn is_one(s: &Sheet, e: Item) -> bool
     requires { e.at + 6 ≤ s.now.end }
     ensures { result ≡ (e.plain || eqb (get_or (text s.now) (e.at + 2) 0 / kind_end) once) }
 {
-    e.plain || word(s.bytes, e.at + 2) / Kind::END == u32::from(Quantifier::Once)
+    if e.plain {
+        return true;
+    }
+    match Quantifier::try_from(word(s.bytes, e.at + 2) / Kind::END) {
+        Ok(Quantifier::Once) => true,
+        _ => false,
+    }
 }
 
 // Whether an element is a call of a name, with quantifier 0.

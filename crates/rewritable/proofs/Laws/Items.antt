@@ -7,7 +7,7 @@ use mathlib.Core.Bool.{Bool, true, false, ◌&&◌, ◌||◌, not, true≢false,
 use native.Mathlib.Omega.{arith}
 use lib.ListN.{get_or}
 use lib.Dec.{eqb, ltb}
-use borrow.Author.Tests.{lt-ltb, le-ltb}
+use borrow.Author.Tests.{eqb-true, lt-ltb, le-ltb}
 use Rattle.grammar.specs.Numbers.{once, call_kind, kind_end}
 use Rattle.grammar.specs.Tree.{ElementHead, Call, Leaf, epsilon, action, predicate, call, token, terminal, end_of_input, Element, leaf, block}
 use Rattle.grammar.specs.Tree.{Block}
@@ -15,17 +15,29 @@ use Rattle.grammar.specs.Encode.{leaf_kind, encode_leaf}
 use Rattle.grammar.specs.Valid.{ok_leaf}
 use Rattle.grammar.specs.Stands.{Spans}
 use Rattle.grammar.specs.Found.{ElementSpans, HeadAt}
+use Rattle.grammar.specs.Laws.Parse.{either}
 use Rattle.grammar.specs.Laws.Stands.{stands_head}
 use Rattle.grammar.specs.Laws.Opened.{HeadWords, Opened, opened_leaf, opened_block, opened}
 use Rattle.reference.specs.Walks.{sort_of, is_epsilon_only}
 use Rattle.reference.specs.Substitute.{plain}
 use Rattle.planned.specs.Layout.{made_if}
-use Rattle.std.specs.Prelude.{◌⊎◌}
+use Rattle.std.specs.Prelude.{◌⊎◌, Result, Err}
 use Rattle.words.specs.declared.numbers.Kind.{Kind}
 use Rattle.words.specs.declared.numbers.Kind.TheVariants as kind
-use Rattle.words.specs.Kinds.{kind_number}
+use Rattle.words.specs.declared.numbers.Quantifier.{Quantifier}
+use Rattle.words.specs.declared.numbers.Quantifier.TheVariants.{Once}
+use Rattle.words.specs.declared.numbers.Unnamed.{Unnamed}
+use Rattle.words.specs.Kinds.{Names, kind_number, quantifier_number}
 use Rattle.words.specs.Laws.Kinds.{silent_kind}
 use Rattle.rewritable.specs.Items.{call_of, is_call_of, gives_arguments, ItemTested}
+
+-- A number that names no quantifier isn't that of an element that is there once.
+pub never_once : {v w : ℕ} → v ≡ w → {r : Result Quantifier Unnamed} {x : Unnamed} → Names quantifier_number (v / kind_end) r → r ≡ Err x
+    → false ≡ eqb (w / kind_end) once
+never_once {v} {w} e {r} {x} m f = go (λ a b. (rw f at m).1 a (b ∙ ap (λ k. k / kind_end) (sym e)))
+  where
+    go : ((a : Quantifier) → quantifier_number a ≡ w / kind_end → ⊥) → false ≡ eqb (w / kind_end) once
+    go never = either (eqb (w / kind_end) once) (λ a. absurd (never Once (sym (eqb-true (w / kind_end) once a)))) (λ a. sym a)
 
 -- What an element is as a call of a name.
 abbrev is_some : Option Call → Bool
