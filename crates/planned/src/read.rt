@@ -15,7 +15,7 @@ pub fn item(work: &[u8], x: Listed, i: usize) -> Item
 {
     let h = half(work, x.e + i);
     Item {
-        at: place(h) as usize,
+        at: usize::from(place(h)),
         plain: Mark::BIT <= h,
     }
 }

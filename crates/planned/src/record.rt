@@ -18,8 +18,8 @@ pub fn record_at(work: &[u8], a: usize, e: usize, o: usize) -> Listed
     Listed {
         slot: half(work, i),
         origin: half(work, i + 1),
-        ne: half(work, i + 2) as usize,
-        no: half(work, i + 3) as usize,
+        ne: usize::from(half(work, i + 2)),
+        no: usize::from(half(work, i + 3)),
         e,
         o: Sizes::FIRST_OPTION + o,
     }

@@ -16,6 +16,7 @@ use Rattle.hub.specs.Preserved.{between}
 use Rattle.steps.specs.Decide.{DeclinedByNumber}
 use Rattle.plan.specs.declared.search.FoundPlan.{FoundPlan}
 use Rattle.words.specs.declared.numbers.Refusal.{Refusal}
+use Rattle.words.specs.declared.numbers.Refusal.TheVariants.{PlanTooLarge}
 use Rattle.plan.specs.declared.search.Found.{Found}
 use Rattle.plan.specs.Decision.{PlanAs}
 use Rattle.plans.specs.Nth.{capped, cycles_of}
@@ -34,11 +35,12 @@ module _ (limits : Limits) (ws : List ℕ) (end : ℕ) (ids : List ℕ) (n : ℕ
     pub all : place ≡ length (cycles_of c rs)
     pub is : searched ≡ no_plan
 
-  -- The cycle at a place passes a limit.
-  pub record FullFirst (place : ℕ) : Type 0 where
+  -- The cycle at a place passes a limit, which is refusal 7.
+  pub record FullFirst (place : ℕ) (e : Refusal) : Type 0 where
     pub low : place < length (cycles_of c rs)
     pub over : decision_at place ≡ overfull
     pub is : searched ≡ too_large
+    pub refusal : e ≡ PlanTooLarge
 
   -- The cycle at a place, its members as a row, and its plan; the plan's list stands in the work area.
   pub record PlannedFirst (place : ℕ) (p : FoundPlan) : Type 0 where
@@ -51,7 +53,7 @@ module _ (limits : Limits) (ws : List ℕ) (end : ℕ) (ids : List ℕ) (n : ℕ
   abbrev pub SearchAs : ℕ → Result (Option FoundPlan) Refusal → Type 0
   SearchAs place (Ok None) = NoneFirst place
   SearchAs place (Ok (Some p)) = PlannedFirst place p
-  SearchAs place (Err e) = FullFirst place
+  SearchAs place (Err e) = FullFirst place e
 
   -- The cycles in front of the answer's were declined by their clauses, with zeros behind them.
   pub record FirstAs (r : Found) : Type 0 where

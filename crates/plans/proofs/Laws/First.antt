@@ -29,7 +29,7 @@ module _ {ws : List ℕ} {end to : ℕ} {rules : Rules} {past : Bool} {calls cor
     answer_as s place (Ok None) x = record { all = x.all; is = x.is }
     answer_as s place (Ok (Some p)) x =
         record { plan = x.plan; low = x.low; is = x.is; members = x.is_cycle.row; same = x.same }
-    answer_as s place (Err e) x = record { low = x.low; over = x.over; is = x.is }
+    answer_as s place (Err e) x = record { low = x.low; over = x.over; is = x.is; refusal = x.refusal }
 
   module _ {limits : Limits} {bs : List ℕ} {r : Found} where
     pub first_found : IsStandard limits → FoundOf ws end rules past calls corners marks kept limits bs r → FirstOf ws end to rules past bs r

@@ -84,7 +84,7 @@ module _ (ws : List ℕ) (end : ℕ) (ids : List ℕ) (n : ℕ) (list : List ℕ
   unfolding left_by
   search_left place (Ok None) e h = record { all = h.all; is = h.is }
   search_left place (Ok (Some p)) e h = subst (λ b. SearchAs standard ws end ids n b c rs ps place (Ok (Some p))) (sym e) h
-  search_left place (Err f) e h = record { low = h.low; over = h.over; is = h.is }
+  search_left place (Err f) e h = record { low = h.low; over = h.over; is = h.is; refusal = h.refusal }
 
   first_left : {t : Found} {numbers : List ℕ} → numbers ≡ search_numbers t.declined t.answer → after ≡ left_by numbers list
       → FirstAs standard ws end ids n list c rs ps t → FirstAs standard ws end ids n after c rs ps t
