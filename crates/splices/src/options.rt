@@ -60,7 +60,13 @@ fn meets_listed(
     ensures { result ≡ meets (options_from (text s.now) s.now.end depth work.now from n)
         (record { name = name; value = value }) }
 {
-    meets_among(s.bytes, n, |i| usize::from(half(work, from + i)), name, value)
+    meets_among(
+        s.bytes,
+        n,
+        |i| usize::from(half(work, from + i)),
+        name,
+        value,
+    )
 }
 
 // Against n options that stand from `at` on.
