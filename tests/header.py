@@ -57,7 +57,7 @@ SHARED = ("words/src/numbers.rt", "words/src/sheet.rt", "reach/src/rows.rt", "co
 PARAGRAPHS = {1: ["4.1"], 2: ["3.1"], 3: ["2.3"], 4: ["2.15", "2.19"], 5: [], 6: [], 7: ["4.7"], 8: ["4.8"], 9: ["4.9"]}
 # Where the numbers of a sheet stand, by their names in the crate.
 PLACES = {
-    "parts.kind": "SHEET_KIND",
+    "u32::from(parts.kind)": "SHEET_KIND",
     "parts.preserved": "SHEET_PRESERVED",
     "parts.count": "SHEET_PRESERVED_COUNT",
     **{f"parts.counters.{sort}": f"SHEET_{sort.upper()}_COUNTER" for sort in ("alternative", "element", "label", "action", "predicate")},

@@ -1,3 +1,3 @@
-pub mod Input
+pub mod Lent
 pub mod Step
 pub mod Rules

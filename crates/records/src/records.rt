@@ -6,10 +6,10 @@ ghost use Rattle.grammar.specs.Read.{is_name, is_label, action_of, option_at, re
 ghost use Rattle.grammar.specs.Read.{head_at, payload_at, element_at, alternative_at, block_at};
 ghost use Rattle.grammar.specs.Parse.{many};
 ghost use Rattle.words.specs.Kinds.{kind_number};
-ghost use Rattle.records.specs.Input.{text};
+ghost use Rattle.records.specs.Lent.{text};
 ghost use Rattle.records.specs.Step.{is_fixed, named, repeated, step_of};
 
-use crate::input::Input;
+use crate::lent::Records;
 use words::numbers::{AlternativeFlag, Kind, Name, Quantifier, ReferenceKind};
 use words::words::word;
 
@@ -26,7 +26,7 @@ fn is_label(id: u32, name: u32) -> bool
 }
 
 // A name in the first of n words.
-fn named_at(s: &Input, n: usize, at: usize) -> Option<usize>
+fn named_at(s: &Records, n: usize, at: usize) -> Option<usize>
     requires { 1 ≤ n }
     ensures { result ≡ step_of (named (text s.now) s.now.end n at) }
 {
@@ -54,20 +54,20 @@ fn many<F: Fn(usize) -> Option<usize>>(one: F, n: u32, at: usize) -> Option<usiz
 }
 
 #[tactic(auto, using(crate::proofs::Laws::Records::names))]
-fn option_at(s: &Input, at: usize) -> Option<usize>
+fn option_at(s: &Records, at: usize) -> Option<usize>
     ensures { result ≡ step_of (option_at (text s.now) s.now.end at) }
 {
     named_at(s, 2, at)
 }
 
-fn options_at(s: &Input, n: u32, at: usize) -> Option<usize>
+fn options_at(s: &Records, n: u32, at: usize) -> Option<usize>
     ensures { result ≡ step_of (many (option_at (text s.now) s.now.end) n at) }
 {
     many(|p| option_at(s, p), n, at)
 }
 
 #[tactic(auto, using(crate::proofs::Laws::Records::shorts, crate::proofs::Laws::Records::references))]
-fn reference_at(s: &Input, at: usize) -> Option<usize>
+fn reference_at(s: &Records, at: usize) -> Option<usize>
     ensures { result ≡ step_of (reference_at (text s.now) s.now.end at) }
 {
     if s.end.saturating_sub(at) < 2 {
@@ -82,7 +82,7 @@ fn reference_at(s: &Input, at: usize) -> Option<usize>
     None
 }
 
-fn references_at(s: &Input, n: u32, at: usize) -> Option<usize>
+fn references_at(s: &Records, n: u32, at: usize) -> Option<usize>
     ensures { result ≡ step_of (many (reference_at (text s.now) s.now.end) n at) }
 {
     many(|p| reference_at(s, p), n, at)
@@ -90,7 +90,7 @@ fn references_at(s: &Input, n: u32, at: usize) -> Option<usize>
 
 // The payload of an action; a predicate's is the same.
 #[tactic(auto, using(crate::proofs::Laws::Records::shorts, crate::proofs::Laws::Records::references))]
-fn body_at(s: &Input, at: usize) -> Option<usize>
+fn body_at(s: &Records, at: usize) -> Option<usize>
     ensures { result ≡ step_of (body_at (text s.now) s.now.end action_of at) }
 {
     if s.end.saturating_sub(at) < 2 {
@@ -100,21 +100,21 @@ fn body_at(s: &Input, at: usize) -> Option<usize>
 }
 
 #[tactic(auto, using(crate::proofs::Laws::Records::names))]
-fn call_at(s: &Input, at: usize) -> Option<usize>
+fn call_at(s: &Records, at: usize) -> Option<usize>
     ensures { result ≡ step_of (call_at (text s.now) s.now.end at) }
 {
     named_at(s, 2, at)
 }
 
 #[tactic(auto, using(crate::proofs::Laws::Records::names))]
-fn token_at(s: &Input, at: usize) -> Option<usize>
+fn token_at(s: &Records, at: usize) -> Option<usize>
     ensures { result ≡ step_of (token_at (text s.now) s.now.end at) }
 {
     named_at(s, 1, at)
 }
 
 #[tactic(auto, using(crate::proofs::Laws::Records::leaves))]
-fn leaf_at(s: &Input, kind: Kind, at: usize) -> Option<usize>
+fn leaf_at(s: &Records, kind: Kind, at: usize) -> Option<usize>
     ensures { result ≡ step_of (leaf_at (text s.now) s.now.end (kind_number kind) at) }
 {
     match kind {
@@ -140,7 +140,7 @@ fn is_head(s: &[u8], at: usize) -> bool
 
 // An element's fixed words and options, where the fixed words have room.
 #[tactic(auto, using(crate::proofs::Laws::Trees::heads))]
-fn head_at(s: &Input, at: usize) -> Option<usize>
+fn head_at(s: &Records, at: usize) -> Option<usize>
     requires { 6 ≤ s.now.end - at }
     ensures { result ≡ step_of (head_at (text s.now) s.now.end at) }
 {
@@ -152,7 +152,7 @@ fn head_at(s: &Input, at: usize) -> Option<usize>
 
 #[tactic(auto, using(crate::proofs::Laws::Trees::trees))]
 #[cycle(tree)]
-fn payload_at(s: &Input, depth: u32, kind: Kind, at: usize) -> Option<usize>
+fn payload_at(s: &Records, depth: u32, kind: Kind, at: usize) -> Option<usize>
     ensures { (h : ElementHead)
         → result ≡ step_of (payload_at (text s.now) s.now.end (block_at (text s.now) s.now.end depth) h (kind_number kind) at) }
 {
@@ -164,7 +164,7 @@ fn payload_at(s: &Input, depth: u32, kind: Kind, at: usize) -> Option<usize>
 
 #[tactic(auto, using(crate::proofs::Laws::Trees::trees))]
 #[cycle(tree)]
-fn element_at(s: &Input, depth: u32, at: usize) -> Option<usize>
+fn element_at(s: &Records, depth: u32, at: usize) -> Option<usize>
     ensures { result ≡ step_of (element_at (text s.now) s.now.end (block_at (text s.now) s.now.end depth) at) }
 {
     if s.end.saturating_sub(at) < 6 {
@@ -178,7 +178,7 @@ fn element_at(s: &Input, depth: u32, at: usize) -> Option<usize>
 // Stays: this loop is its own, as that of alternatives is: a closure for `many` would state the contract of what it calls once more,
 // and put two more frames on the stack at each depth.
 #[cycle(tree)]
-fn elements_at(s: &Input, depth: u32, n: u32, at: usize) -> Option<usize>
+fn elements_at(s: &Records, depth: u32, n: u32, at: usize) -> Option<usize>
     ensures { result ≡ step_of (many (element_at (text s.now) s.now.end (block_at (text s.now) s.now.end depth)) n at) }
 {
     let mut p = at;
@@ -190,7 +190,7 @@ fn elements_at(s: &Input, depth: u32, n: u32, at: usize) -> Option<usize>
 
 #[tactic(auto, using(crate::proofs::Laws::Trees::trees))]
 #[cycle(tree)]
-fn alternative_at(s: &Input, depth: u32, at: usize) -> Option<usize>
+fn alternative_at(s: &Records, depth: u32, at: usize) -> Option<usize>
     ensures { result ≡ step_of (alternative_at (text s.now) s.now.end (block_at (text s.now) s.now.end depth) at) }
 {
     if s.end.saturating_sub(at) < 5 {
@@ -205,7 +205,7 @@ fn alternative_at(s: &Input, depth: u32, at: usize) -> Option<usize>
 }
 
 #[cycle(tree)]
-fn alternatives_at(s: &Input, depth: u32, n: u32, at: usize) -> Option<usize>
+fn alternatives_at(s: &Records, depth: u32, n: u32, at: usize) -> Option<usize>
     ensures { result ≡ step_of (many (alternative_at (text s.now) s.now.end (block_at (text s.now) s.now.end depth)) n at) }
 {
     let mut p = at;
@@ -218,7 +218,7 @@ fn alternatives_at(s: &Input, depth: u32, n: u32, at: usize) -> Option<usize>
 // The count and the alternatives of a block that may nest blocks less than `depth` deep.
 #[tactic(auto, using(crate::proofs::Laws::Trees::trees))]
 #[cycle(tree)]
-pub fn block_at(s: &Input, depth: u32, at: usize) -> Option<usize>
+pub fn block_at(s: &Records, depth: u32, at: usize) -> Option<usize>
     ensures { result ≡ step_of (block_at (text s.now) s.now.end depth at) }
 {
     if depth == 0 {

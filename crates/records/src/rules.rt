@@ -4,11 +4,11 @@ ghost use Rattle.grammar.specs.Numbers.{rule_limit};
 ghost use Rattle.grammar.specs.Tree.{body_depth};
 ghost use Rattle.grammar.specs.Words.{words};
 ghost use Rattle.grammar.specs.Read.{block_at, rule_at};
-ghost use Rattle.records.specs.Input.{text};
+ghost use Rattle.records.specs.Lent.{text};
 ghost use Rattle.records.specs.Step.{step_of};
 ghost use Rattle.records.specs.Rules.{IsEmpty, IsWith, RulesRead};
 
-use crate::input::Input;
+use crate::lent::Records;
 use crate::records::{block_at, is_name};
 use words::numbers::{Block, RuleFlags};
 use words::words::word;
@@ -53,7 +53,7 @@ impl Rules {
 
 // One rule between a place and the end of the rules.
 #[tactic(auto, using(crate::proofs::Laws::Trees::rule_laws))]
-fn rule_at(s: &Input, at: usize) -> Option<usize>
+fn rule_at(s: &Records, at: usize) -> Option<usize>
     ensures { result ≡ step_of (rule_at (text s.now) s.now.end (block_at (text s.now) s.now.end body_depth) at) }
 {
     if s.end.saturating_sub(at) < 3 {
@@ -69,12 +69,12 @@ fn rule_at(s: &Input, at: usize) -> Option<usize>
 }
 
 // Every rule from the first word up to the end exactly, where every record is good.
-// Stays: this takes bytes and an end, since `Input` is made of them here and is known in no other crate.
+// Stays: this takes bytes and an end, since `Records` is made of them here and is known in no other crate.
 pub fn read_rules(s: &[u8], end: usize) -> Option<Rules>
     requires { (4 * end ≤ length s.now) × (end < 2 ^ 31) }
     ensures { RulesRead (words s.now) end result }
 {
-    let input = Input { bytes: s, end };
+    let lent = Records { bytes: s, end };
     let mut rules = Rules::empty();
     let mut at: usize = 0;
     while at != end {
@@ -85,7 +85,7 @@ pub fn read_rules(s: &[u8], end: usize) -> Option<Rules>
         if end.saturating_sub(at) < 3 {
             return None;
         }
-        let p = rule_at(&input, at)?;
+        let p = rule_at(&lent, at)?;
         rules.add(word(s, at), word(s, at + 1), at as u32);
         at = p;
     }

@@ -1,5 +1,5 @@
 use Prim.Native.Nat.{◌+◌, ◌*◌}
-use Rattle.records.specs.Input.{text}
+use Rattle.records.specs.Lent.{text}
 use Rattle.records.specs.Step.{step_of}
 use Rattle.records.proofs.Laws.Steps.{Left}
 use Rattle.grammar.specs.Read.{element_at, alternative_at, block_at}

@@ -1,6 +1,6 @@
 use Rattle.std.proofs.Common.{rules, ◌∙◌}
 use Rattle.grammar.specs.Read.{reference_at}
-use Rattle.records.specs.Input.{text}
+use Rattle.records.specs.Lent.{text}
 use Rattle.records.specs.Step.{step_of}
 use Rattle.records.proofs.records.references_at.Goals as goal
 use Rattle.records.proofs.Laws.Steps.{many_steps}

@@ -1,7 +1,7 @@
 -- The words of what is read.
 use Rattle.std.specs.Prelude.{ℕ, List}
 use Rattle.grammar.specs.Words.{words}
-use Rattle.records.specs.declared.input.Input.{Input}
+use Rattle.records.specs.declared.lent.Records.{Records}
 
-abbrev pub text : Input → List ℕ
+abbrev pub text : Records → List ℕ
 text s = words s.bytes.now
