@@ -27,8 +27,6 @@ LEVELS = {
     "copies": DEPTH,
     "ends": DEPTH,
     "ids::distinct::apart": 33,
-    "ids::ids::alternatives": 9,
-    "ids::survey::alternatives": 9,
     "records": DEPTH,
     "rewritable": DEPTH,
     "sizes": DEPTH,
