@@ -2,6 +2,7 @@
 use Rattle.std.specs.Prelude.{ℕ, ◌+◌, ◌-◌, ◌≤◌, ◌≡◌, List, ◌∷◌, ◌++◌, true, length, get_or}
 use Rattle.std.proofs.Math.Path.{refl, sym}
 use Rattle.std.proofs.Common.{ap, ◌∙◌, subst, append_assoc, arith, length-append}
+use Rattle.std.specs.Cmp.{first_so, second_so}
 use borrow.Author.Tests.{leb-true}
 use Rattle.grammar.specs.Numbers.{trailer_words, most_words, rule_limit}
 use Rattle.grammar.specs.Tree.{Sheet}
@@ -12,7 +13,6 @@ use Rattle.grammar.specs.Stands.{Stands}
 use Rattle.grammar.specs.Encode.{encode, encode_rules, encode_counters}
 use Rattle.grammar.specs.Valid.{valid}
 use Rattle.grammar.specs.Laws.Words.{length_words}
-use Rattle.grammar.specs.Laws.Parse.{left_true, right_true}
 use Rattle.grammar.specs.Laws.Stands.{stands_split, stands_length, stands_within, stands_slice, stands_head}
 use Rattle.grammar.specs.Laws.Whole.{valid_parts}
 use Rattle.words.specs.Room.{Room}
@@ -119,8 +119,8 @@ module _ {bs : List ℕ} {t : Sheet} {end to : ℕ} (h : Held bs t end to) where
                 rows = r;
                 few = let e = r.count in let l = leb-true (length t.rules) rule_limit p.few in omega arith;
               };
-          ids = left_true (distinct (rule_ids t.rules)) _ d;
-          names = left_true (distinct (rule_names t.rules)) _ (right_true (distinct (rule_ids t.rules)) _ d);
+          ids = first_so (distinct (rule_ids t.rules)) _ d;
+          names = first_so (distinct (rule_names t.rules)) _ (second_so (distinct (rule_ids t.rules)) _ d);
         }
 
     pub standing_trees : {rules : Rules} (r : RowsOf t.rules rules) → (held_standing r).rows.found.trees ≡ t.rules

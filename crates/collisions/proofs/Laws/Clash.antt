@@ -7,6 +7,7 @@ use native.Mathlib.Omega.{arith}
 use lib.ListN.{get_or}
 use lib.Dec.{leb, eqb}
 use borrow.Author.Tests.{eqb-true, eqb-false, leb-true, eq-eqb, ne_eqb}
+use Rattle.std.specs.Cmp.{first_so}
 use Rattle.grammar.specs.Numbers.{most_name, call_kind, token_kind}
 use Rattle.grammar.specs.Tree.{Label, unlabelled, labelled, Leaf, epsilon, action, predicate, call, token, terminal, end_of_input, Element}
 use Rattle.grammar.specs.Tree.{Block}
@@ -15,7 +16,7 @@ use Rattle.grammar.specs.Stands.{Spans}
 use Rattle.grammar.specs.Valid.{ok_label, ok_leaf}
 use Rattle.grammar.specs.Lists.{nothing, any, member, meet}
 use Rattle.grammar.specs.Fold.{folded, element_fold, alternative_fold, block_fold, AlternativeWalked}
-use Rattle.grammar.specs.Laws.Parse.{left_true, either}
+use Rattle.grammar.specs.Laws.Parse.{either}
 use Rattle.grammar.specs.Laws.Stands.{stands_head}
 use Rattle.reference.specs.Walks.{elements_give, label_names, leaf_names}
 use Rattle.reference.specs.Substitute.{collect_labels, bindable_names}
@@ -36,7 +37,7 @@ module _ (bs : List ℕ) {ws : List ℕ} {at w : ℕ} (e : w ≡ get_or ws (at +
     where
       go : (b : Label) → get_or ws (at + 4) 0 ≡ label_name b → ok_label b ≡ true → c ≡ clash_label (has_name ws bs labels_bit) (has_name ws bs references_bit) c b
       go unlabelled f k = same_clash (sym (or-false c.label)) (sym (or-false c.binding))
-      go (labelled i n) f k = absurd (let h = leb-true 1 n (left_true (leb 1 n) (leb n most_name) k) in omega arith)
+      go (labelled i n) f k = absurd (let h = leb-true 1 n (first_so (leb 1 n) (leb n most_name) k) in omega arith)
 
   pub clash_labelled : (w ≡ 0 → ⊥) → {h k : Bool} → h ≡ has_name ws bs labels_bit w → k ≡ has_name ws bs references_bit w
       → LabelSeen ws at (clash_label (has_name ws bs labels_bit) (has_name ws bs references_bit)) c (record { label = c.label || h; binding = c.binding || k })

@@ -12,7 +12,6 @@ use Rattle.grammar.specs.Tree.{Rule, body_depth}
 use Rattle.grammar.specs.Ids.{rule_ids, rule_names, is_distinct}
 use Rattle.grammar.specs.Lists.{distinct}
 use Rattle.grammar.specs.Corners.{Corners}
-use Rattle.grammar.specs.Laws.Parse.{left_true, right_true}
 use Rattle.grammar.specs.Laws.Whole.{valid_parts}
 use Rattle.reference.specs.Analysis.{Grammar, row_ids, row_of, grammar_of, left_corner_cycles}
 use Rattle.records.specs.Rules.{row}
@@ -21,6 +20,7 @@ use Rattle.words.specs.Room.{Room}
 use Rattle.sheet.specs.Answer.{read_lent, work_after, ReadAs}
 use Rattle.sheet.specs.declared.answer.Reading.{Reading}
 use Rattle.std.specs.Prelude.{Ok, Err}
+use Rattle.std.specs.Cmp.{first_so, second_so}
 use Rattle.words.specs.declared.numbers.Refusal.{Refusal}
 use Rattle.words.specs.Refusal.{refusal_number}
 use Rattle.sheet.proofs.Laws.Sizes.{is_refused, was_read}
@@ -110,10 +110,10 @@ read_stands w =
     let d = (valid_parts w.tree w.good).distinct in
     record {
       rows = w.rows;
-      ids = ap (λ rs. distinct (rule_ids rs)) w.trees ∙ left_true (distinct (rule_ids w.tree.rules)) _ d;
+      ids = ap (λ rs. distinct (rule_ids rs)) w.trees ∙ first_so (distinct (rule_ids w.tree.rules)) _ d;
       names =
           ap (λ rs. distinct (rule_names rs)) w.trees
-          ∙ left_true (distinct (rule_names w.tree.rules)) _ (right_true (distinct (rule_ids w.tree.rules)) _ d);
+          ∙ first_so (distinct (rule_names w.tree.rules)) _ (second_so (distinct (rule_ids w.tree.rules)) _ d);
     }
 
 module _ {bs work : List ℕ} {end : ℕ} {rules : Rules} (w : WasRead bs work end rules) where

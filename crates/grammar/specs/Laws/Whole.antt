@@ -5,6 +5,8 @@ use Rattle.std.proofs.Common.{ap, subst}
 use Rattle.std.proofs.Math.Bool.{true}
 use native.Mathlib.Omega.{arith}
 use Rattle.std.proofs.Math.ListN.{length}
+use Rattle.std.proofs.lemmas.Bool.{and_from}
+use Rattle.std.specs.Cmp.{first_so, second_so}
 use borrow.Author.Tests.{leb-true, eqb-true, le-leb, eq-eqb}
 use Rattle.grammar.specs.Numbers.{trailer_words}
 use Rattle.grammar.specs.Stands.{Stands}
@@ -19,7 +21,7 @@ use Rattle.grammar.specs.Reading.{rules_end}
 use Rattle.grammar.specs.Reading.{preserved_ids, counters_of, rules_of, sheet_of, judge, read_words}
 use Rattle.grammar.specs.Laws.Stands.{first, stands_head, stands_length, stands_append, stands_within, stands_slice, slice_stands}
 use Rattle.grammar.specs.Laws.Stands.{stands_split, stands_whole}
-use Rattle.grammar.specs.Laws.Parse.{both_true, left_true, right_true, either, Yields, found, nothing, yields, yields_then}
+use Rattle.grammar.specs.Laws.Parse.{either, Yields, found, nothing, yields, yields_then}
 use Rattle.grammar.specs.Laws.Parse.{yields_given, then_got, given_got}
 use Rattle.grammar.specs.Laws.Sound.{RulesAt, rules_sound}
 use Rattle.grammar.specs.Laws.Complete.{rules_complete}
@@ -53,23 +55,23 @@ pub record Parts (s : Sheet) : Type 0 where
 pub parts_valid : (s : Sheet) → Parts s → valid s ≡ true
 unfolding valid ok_rules
 parts_valid s v =
-    both_true _ _ v.kind (both_true _ _ (both_true _ _ (both_true _ _ v.few v.rules) v.preserved)
-    (both_true _ _ v.distinct v.below))
+    and_from _ _ v.kind (and_from _ _ (and_from _ _ (and_from _ _ v.few v.rules) v.preserved)
+    (and_from _ _ v.distinct v.below))
 
 pub valid_parts : (s : Sheet) → valid s ≡ true → Parts s
 unfolding valid ok_rules
 valid_parts s v =
-    let r = right_true (is_kind s.kind) _ v in
-    let a = left_true (ok_rules s.rules && rising s.preserved) _ r in
-    let b = right_true (ok_rules s.rules && rising s.preserved) _ r in
-    let c = left_true (ok_rules s.rules) (rising s.preserved) a in
+    let r = second_so (is_kind s.kind) _ v in
+    let a = first_so (ok_rules s.rules && rising s.preserved) _ r in
+    let b = second_so (ok_rules s.rules && rising s.preserved) _ r in
+    let c = first_so (ok_rules s.rules) (rising s.preserved) a in
     record {
-      kind = left_true (is_kind s.kind) _ v;
-      few = left_true (leb (length s.rules) rule_limit) _ c;
-      rules = right_true (leb (length s.rules) rule_limit) _ c;
-      preserved = right_true (ok_rules s.rules) (rising s.preserved) a;
-      distinct = left_true (is_distinct s.rules) _ b;
-      below = right_true (is_distinct s.rules) _ b;
+      kind = first_so (is_kind s.kind) _ v;
+      few = first_so (leb (length s.rules) rule_limit) _ c;
+      rules = second_so (leb (length s.rules) rule_limit) _ c;
+      preserved = second_so (ok_rules s.rules) (rising s.preserved) a;
+      distinct = first_so (is_distinct s.rules) _ b;
+      below = second_so (is_distinct s.rules) _ b;
     }
 
 module _ (ws : List ℕ) where
@@ -124,13 +126,13 @@ module _ (ws : List ℕ) where
       → IsSheet (sheet_of ws rs)
   unfolding is_trailer sheet_of
   sheet_found h t rs q x d b =
-      let u = right_true (is_kind (unit_kind ws)) _ t in
-      let f = eqb-true (first_distance ws) (trailer ws) (left_true _ (leb (second_distance ws) (first_distance ws)) u) in
-      let g = leb-true (second_distance ws) (first_distance ws) (right_true (eqb (first_distance ws) (trailer ws)) _ u) in
+      let u = second_so (is_kind (unit_kind ws)) _ t in
+      let f = eqb-true (first_distance ws) (trailer ws) (first_so _ (leb (second_distance ws) (first_distance ws)) u) in
+      let g = leb-true (second_distance ws) (first_distance ws) (second_so (eqb (first_distance ws) (trailer ws)) _ u) in
       record {
         words = whole h f (omega arith) rs q x;
         parts = record {
-          kind = left_true (is_kind (unit_kind ws)) _ t;
+          kind = first_so (is_kind (unit_kind ws)) _ t;
           few = le-leb (length rs) rule_limit x.rules.few;
           rules = x.rules.spans.fine;
           preserved = x.preserved;
@@ -196,7 +198,7 @@ module _ (ws : List ℕ) where
     unfolding is_trailer
     is_trailer_complete =
         let k : is_kind (unit_kind ws) ≡ true = rw p.kind v.kind in
-        both_true _ _ k (both_true _ _ (eq-eqb _ _ p.first_distance_is) (le-leb _ _ p.second_distance_is))
+        and_from _ _ k (and_from _ _ (eq-eqb _ _ p.first_distance_is) (le-leb _ _ p.second_distance_is))
 
     rules_of_complete : rules_of ws ≡ got s.rules (rules_end ws)
     unfolding rules_of

@@ -9,10 +9,11 @@ use native.Mathlib.Omega.{arith}
 use lib.ListN.{get_or, length-map}
 use lib.Dec.{eqb, ltb}
 use borrow.Author.Tests.{eqb-true, eq-eqb, lt-ltb, ltb-true, ltb-false}
+use Rattle.std.specs.Cmp.{first_so, second_so}
 use Rattle.grammar.specs.Tree.{Rule, body_depth}
 use Rattle.grammar.specs.Lists.{member, keep, distinct}
 use Rattle.grammar.specs.Laws.Lists.{member_in, in_member, in_map}
-use Rattle.grammar.specs.Laws.Parse.{either, left_true, right_true}
+use Rattle.grammar.specs.Laws.Parse.{either}
 use Rattle.graph.specs.Members.{one_with, in_keep, keep_in}
 use Rattle.reference.specs.Analysis.{Grammar, names_of, ids_of, target, rule_with_id, collect_calls_into, grammar_of}
 use Rattle.records.specs.declared.rules.Rules.{Rules}
@@ -36,7 +37,7 @@ row_bit {n = n} r {i} l = r.at i ∙ rw (lt-ltb i n l) refl
 
 pub row_low : {ids : List ℕ} {n : ℕ} {xs row : List ℕ} → RowOf ids n xs row → {i : ℕ} → bit row i ≡ true → i < n
 unfolding holds
-row_low {n = n} r {i} t = ltb-true i n (left_true (ltb i n) _ (sym (r.at i) ∙ t))
+row_low {n = n} r {i} t = ltb-true i n (first_so (ltb i n) _ (sym (r.at i) ∙ t))
 
 -- A row by the bits of the rules that are there, and what is behind them.
 pub row_of : {ids : List ℕ} {n : ℕ} {xs row : List ℕ} → ((j : ℕ) → j < n → bit row j ≡ member (get_or ids j 0) xs)
@@ -130,7 +131,7 @@ module _ {ws : List ℕ} {end : ℕ} {rules : Rules} (s : Standing ws end rules)
         go : (t : Option ℕ) → target grammar m ≡ t → target grammar m ≡ some (get_or rules.ids i 0)
         go none e = absurd (true≢false (sym (told m i a none e) ∙ and-false (ltb i rules.n)))
         go (some t) e =
-            let h = right_true (ltb i rules.n) (eqb (get_or rules.ids i 0) t || false) (told m i a (some t) e) in
+            let h = second_so (ltb i rules.n) (eqb (get_or rules.ids i 0) t || false) (told m i a (some t) e) in
             e ∙ ap some (sym (eqb-true (get_or rules.ids i 0) t (sym (or-false (eqb (get_or rules.ids i 0) t)) ∙ h)))
 
     pub target_none : (m : ℕ) → Nowhere rules.names rules.n m → target grammar m ≡ none

@@ -7,9 +7,10 @@ use native.Mathlib.Omega.{arith}
 use lib.ListN.{get_or}
 use lib.Dec.{eqb}
 use borrow.Author.Tests.{eqb-true, eqb-false, eq-eqb, ne_eqb, not-true}
+use Rattle.std.specs.Cmp.{first_so, second_so}
 use Rattle.grammar.specs.Tree.{Rule, inner_depth}
 use Rattle.grammar.specs.Lists.{all, member, keep}
-use Rattle.grammar.specs.Laws.Parse.{left_true, right_true, either}
+use Rattle.grammar.specs.Laws.Parse.{either}
 use Rattle.graph.specs.Members.{in_keep, keep_in}
 use Rattle.reference.specs.Plan.{satellite_is_inlinable, satellites}
 use Rattle.records.specs.declared.rules.Rules.{Rules}
@@ -75,15 +76,15 @@ module _ {ws : List ℕ} {end : ℕ} {rules : Rules} {past : Bool} {calls corner
         nope : r ≡ false → r ≡ all (satellite_is_inlinable inner_depth) (keep is_satellite rs)
         nope f =
             let (j, l, b) = e.some f in
-            let both-in = left_true (bit both j) (not (eqb j hub)) (sym (y.at j) ∙ b) in
-            let inside = right_true (bit m.stops j) (bit members j) (sym (x.at j) ∙ both-in) in
+            let both-in = first_so (bit both j) (not (eqb j hub)) (sym (y.at j) ∙ b) in
+            let inside = second_so (bit m.stops j) (bit members j) (sym (x.at j) ∙ both-in) in
             let a = at_place k.standing j (row_low cy.row inside) in
             let c = sym (row_is a) ∙ b in
             f
             ∙ sym
             (all_false (satellite_is_inlinable inner_depth)
-            (keep_in is_satellite (is_among a) (right_true (not (satellite_is_inlinable inner_depth a.rule)) _ c))
-            (not-true (satellite_is_inlinable inner_depth a.rule) (left_true (not (satellite_is_inlinable inner_depth a.rule)) _ c)))
+            (keep_in is_satellite (is_among a) (second_so (not (satellite_is_inlinable inner_depth a.rule)) _ c))
+            (not-true (satellite_is_inlinable inner_depth a.rule) (first_so (not (satellite_is_inlinable inner_depth a.rule)) _ c)))
 
 pub inlined : {stops members : List ℕ} {hub : ℕ} {both row : List ℕ} {r : Bool} → Meet stops members both → Without both hub row
     → Empty row r → AllInlinable stops members hub r

@@ -9,9 +9,10 @@ use mathlib.Core.Bool.{Bool, true, false, ◌&&◌, ◌||◌, true≢false, or_a
 use native.Mathlib.Omega.{arith}
 use lib.ListN.{length}
 use lib.Dec.{eqb}
+use Rattle.std.proofs.lemmas.Bool.{and_from}
 use Rattle.grammar.specs.Tree.{Rule}
 use Rattle.grammar.specs.Lists.{each, all, member, keep, push, first}
-use Rattle.grammar.specs.Laws.Parse.{either, both_true}
+use Rattle.grammar.specs.Laws.Parse.{either}
 use Rattle.graph.specs.Order.{Rising}
 use Rattle.analysis.specs.Names.{any_below}
 use Rattle.analysis.specs.Facts.{Among}
@@ -45,7 +46,7 @@ module _ {A : Type 0} (test : A → Bool) where
   pub all_true : (xs : List A) → ((a : A) → Memᴰ a xs → test a ≡ true) → all test xs ≡ true
   unfolding all
   all_true [] h = refl
-  all_true (x ∷ xs) h = both_true (test x) (all test xs) (h x (Memᴰ.head refl)) (all_true xs λ a m. h a (Memᴰ.tail m))
+  all_true (x ∷ xs) h = and_from (test x) (all test xs) (h x (Memᴰ.head refl)) (all_true xs λ a m. h a (Memᴰ.tail m))
 
   pub all_false : {a : A} {xs : List A} → Memᴰ a xs → test a ≡ false → all test xs ≡ false
   unfolding all

@@ -9,10 +9,10 @@ use lib.ListN.{length, get_or, set, take, drop, length-take}
 use lib.Seq.{drop-cons, take-suc, take-suc-set, take-length, take_all}
 use lib.Dec.{ltb, eqb}
 use borrow.Author.Tests.{lt-ltb, le-ltb, ltb-true, eq-eqb, eqb-true}
+use Rattle.std.specs.Cmp.{first_so, second_so}
 use Rattle.grammar.specs.Words.{words, word_of}
 use Rattle.grammar.specs.Lists.{rising, member, distinct}
 use Rattle.grammar.specs.Laws.Words.{length_words}
-use Rattle.grammar.specs.Laws.Parse.{left_true, right_true}
 use Rattle.ids.specs.Distinct.{Injective, Judged}
 
 -- strictly rising
@@ -204,8 +204,8 @@ rising_above : (x : ℕ) (xs : List ℕ) → rising (x ∷ xs) ≡ true → Abov
 unfolding rising member distinct
 rising_above x [] e = record { each = λ y m. never m; apart = refl }
 rising_above x (y ∷ ys) e =
-    let h = ltb-true x y (left_true (ltb x y) (rising (y ∷ ys)) e) in
-    let a = rising_above y ys (right_true (ltb x y) (rising (y ∷ ys)) e) in
+    let h = ltb-true x y (first_so (ltb x y) (rising (y ∷ ys)) e) in
+    let a = rising_above y ys (second_so (ltb x y) (rising (y ∷ ys)) e) in
     record { each = λ z m. go h a z (eqb z y) refl m; apart = rw (above_none y ys a) a.apart }
   where
     go : x < y → Above y ys → (z : ℕ) (b : Bool) → eqb z y ≡ b → (eqb z y || member z ys) ≡ true → x < z

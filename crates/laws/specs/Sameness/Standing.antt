@@ -3,6 +3,8 @@ use Rattle.std.specs.Prelude.{ℕ, ◌≤◌, ◌≡◌, refl, List, ◌∷◌, 
 use Rattle.std.proofs.Math.Bool.{true}
 use native.Mathlib.Omega.{arith}
 use Rattle.std.proofs.Math.ListN.{length}
+use Rattle.std.proofs.lemmas.Bool.{and_from}
+use Rattle.std.specs.Cmp.{first_so, second_so}
 use borrow.Author.Tests.{leb-true, eqb-true, le-leb, eq-eqb}
 use Rattle.grammar.specs.Numbers.{trailer_words}
 use Rattle.grammar.specs.Stands.{Stands}
@@ -15,7 +17,7 @@ use Rattle.grammar.specs.Reading.{trailer, unit_kind, first_distance, second_dis
 use Rattle.grammar.specs.Reading.{rules_of, sheet_of}
 use Rattle.grammar.specs.Laws.Stands.{first, stands_head, stands_length, stands_append, stands_within, stands_slice, slice_stands}
 use Rattle.grammar.specs.Laws.Stands.{stands_split, stands_whole, stands_self}
-use Rattle.grammar.specs.Laws.Parse.{both_true, left_true, right_true, Yields, yields, yields_then, yields_got, yields_given, then_got}
+use Rattle.grammar.specs.Laws.Parse.{Yields, yields, yields_then, yields_got, yields_given, then_got}
 use Rattle.grammar.specs.Laws.Parse.{given_got}
 use Rattle.grammar.specs.Laws.Sound.{RulesAt, rules_sound}
 use Rattle.grammar.specs.Laws.Complete.{rules_complete}
@@ -63,12 +65,12 @@ module _ (ws : List ℕ) where
   unfolding is_trailer sheet_of
   stands_encoded h t rs q e =
       let x = yields_got rules_of_sound e in
-      let u = right_true (is_kind (unit_kind ws)) _ t in
-      let f = eqb-true (first_distance ws) (trailer ws) (left_true _ (leb (second_distance ws) (first_distance ws)) u) in
-      let g = leb-true (second_distance ws) (first_distance ws) (right_true (eqb (first_distance ws) (trailer ws)) _ u) in (
+      let u = second_so (is_kind (unit_kind ws)) _ t in
+      let f = eqb-true (first_distance ws) (trailer ws) (first_so _ (leb (second_distance ws) (first_distance ws)) u) in
+      let g = leb-true (second_distance ws) (first_distance ws) (second_so (eqb (first_distance ws) (trailer ws)) _ u) in (
         whole h f (omega arith) rs q x,
         record {
-          kind = left_true (is_kind (unit_kind ws)) _ t;
+          kind = first_so (is_kind (unit_kind ws)) _ t;
           few = le-leb (length rs) rule_limit x.rules.few;
           rules = x.rules.spans.fine;
           preserved = x.preserved;
@@ -126,7 +128,7 @@ module _ (ws : List ℕ) where
     unfolding is_trailer
     is_trailer_complete =
         let k : is_kind (unit_kind ws) ≡ true = rw p.kind v.kind in
-        both_true _ _ k (both_true _ _ (eq-eqb _ _ p.first_distance_is) (le-leb _ _ p.second_distance_is))
+        and_from _ _ k (and_from _ _ (eq-eqb _ _ p.first_distance_is) (le-leb _ _ p.second_distance_is))
 
     rules_of_complete : rules_of ws ≡ got s.rules (rules_end ws)
     unfolding rules_of

@@ -6,6 +6,7 @@ use native.Mathlib.Omega.{arith}
 use lib.ListN.{length, get_or}
 use lib.Dec.{leb}
 use borrow.Author.Tests.{leb-true}
+use Rattle.std.specs.Cmp.{first_so, second_so}
 use Rattle.grammar.specs.Numbers.{trailer_words, rule_limit}
 use Rattle.grammar.specs.Lists.{all}
 use Rattle.grammar.specs.Tree.{Sheet, body_depth}
@@ -13,7 +14,6 @@ use Rattle.grammar.specs.Words.{words}
 use Rattle.grammar.specs.Stands.{Stands}
 use Rattle.grammar.specs.Encode.{encode, encode_rules, encode_counters}
 use Rattle.grammar.specs.Valid.{ok_rule, ok_block, ok_rules}
-use Rattle.grammar.specs.Laws.Parse.{left_true, right_true}
 use Rattle.grammar.specs.Laws.Stands.{stands_split, stands_length, stands_within}
 use Rattle.listed.specs.Text.{line}
 use Rattle.listed.specs.Listed.{ok_word, refused_word, listed_refusal, listed_rules}
@@ -82,9 +82,9 @@ module _ {result : List ℕ} {n : ℕ} (h : Held result n) where
           rules = r;
           spans = record {
             stands = rw (← e) at (stands_within (length (encode_rules r)) (omega arith) s);
-            fine = right_true (leb (length r) rule_limit) (all (ok_rule (ok_block body_depth)) r) h.good;
+            fine = second_so (leb (length r) rule_limit) (all (ok_rule (ok_block body_depth)) r) h.good;
           };
-          few = leb-true (length r) rule_limit (left_true (leb (length r) rule_limit) _ h.good);
+          few = leb-true (length r) rule_limit (first_so (leb (length r) rule_limit) _ h.good);
         }
 
 -- The lines one behind the other, in the buffer as it is handed back.

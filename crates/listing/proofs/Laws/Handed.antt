@@ -1,5 +1,7 @@
 -- What the pass hands over is listed as the definition says.
 use Rattle.std.specs.Prelude.{Result, Ok, Err}
+use Rattle.std.proofs.lemmas.Bool.{and_from}
+use Rattle.std.specs.Cmp.{first_so}
 use Prim.Native.Nat.{ℕ, zero, suc, ◌-◌, ◌*◌, ◌/◌, ◌%◌, ◌≤◌, ◌<◌}
 use mathlib.Core.Path.{◌≡◌, refl, sym, ap, ◌∙◌}
 use mathlib.Core.List.{List, [], ◌∷◌, ◌++◌, Memᴰ}
@@ -20,7 +22,7 @@ use Rattle.grammar.specs.Valid.{ok_rules, fits}
 use Rattle.grammar.specs.Reading as reading
 use Rattle.grammar.specs.Reading.{refused, sheet, is_length, read}
 use Rattle.grammar.specs.Laws.Words.{AreBytes, AreWords, length_bytes, words_bytes}
-use Rattle.grammar.specs.Laws.Parse.{either, left_true, both_true}
+use Rattle.grammar.specs.Laws.Parse.{either}
 use Rattle.grammar.specs.Laws.Stands.{slice_stands}
 use Rattle.grammar.specs.Laws.Whole.{valid_parts}
 use Rattle.grammar.specs.Laws.Codec.{is_encoding_words, refuses_only}
@@ -128,11 +130,11 @@ module _ {bs : List ℕ} {plans steps : ℕ} {ws ts : List ℕ} (a : Answered st
       let same : words (bytes ws) ≡ ws = rw g.is_encoding at (sym (is_encoding_words (bytes (encode t)) t r.found)) in
       record {
         sheet = t;
-        good = let v = valid_parts t r.is_valid in both_true _ _ v.few v.rules;
+        good = let v = valid_parts t r.is_valid in and_from _ _ v.few v.rules;
         stands = rw (f, e, g.is_encoding) (front_stands buffer same);
         room = rw (f, e) (front_long ws buffer);
         most =
-            let l = leb-true (length (encode t)) most_words (left_true (leb (length (encode t)) most_words) _ r.is_fitting) in
+            let l = leb-true (length (encode t)) most_words (first_so (leb (length (encode t)) most_words) _ r.is_fitting) in
             let m = ap length g.is_encoding in
             omega arith;
       }
@@ -243,8 +245,8 @@ handed_answers {bs} {result} {trail} {work} {a} {result'} {trail'} {work'} k l h
   where
     lent : are_lent result trail work ≡ true
     lent =
-        both_true _ _ (le-leb result_bytes (length result) l.result)
-        (both_true _ _ (le-leb trail_bytes (length trail) l.trail) (le-leb work_bytes (length work) l.work))
+        and_from _ _ (le-leb result_bytes (length result) l.result)
+        (and_from _ _ (le-leb trail_bytes (length trail) l.trail) (le-leb work_bytes (length work) l.work))
 
     go : (a : Result Totals Refusal) → outcome_of a result' trail' work' ≡ outcome standard rust bs result trail work → Answers bs a result' trail'
     go (Err r) e = refused_answers bs result trail work k lent r e (came bs result trail work k lent)

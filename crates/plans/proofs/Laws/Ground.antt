@@ -13,7 +13,6 @@ use Rattle.grammar.specs.Tree as tree
 use Rattle.grammar.specs.Words.{words}
 use Rattle.grammar.specs.Lists.{rising, distinct}
 use Rattle.grammar.specs.Ids.{rule_ids, rule_names, is_distinct}
-use Rattle.grammar.specs.Laws.Parse.{left_true, right_true}
 use Rattle.analysis.specs.Facts.{Standing}
 use Rattle.grammar.specs.Encode.{encode, encode_rules, encode_counters}
 use Rattle.grammar.specs.Reading.{refused, sheet, is_length, read_words, read}
@@ -24,6 +23,7 @@ use Rattle.hub.specs.Preserved.{between}
 use Rattle.sheet.specs.Answer.{read_lent, numbers_in, answer_of, parts_of, ReadAs, Lent}
 use Rattle.sheet.specs.declared.answer.Reading.{Reading}
 use Rattle.std.specs.Prelude.{Ok}
+use Rattle.std.specs.Cmp.{first_so, second_so}
 use Rattle.sheet.specs.Read.{WasRead}
 use Rattle.sheet.proofs.Laws.Lent.{lent_all}
 use Rattle.sheet.proofs.Laws.Sizes.{was_read}
@@ -75,10 +75,10 @@ read_stands w =
     let d = (valid_parts w.tree w.good).distinct in
     record {
       rows = w.rows;
-      ids = ap (λ rs. distinct (rule_ids rs)) w.trees ∙ left_true (distinct (rule_ids w.tree.rules)) _ d;
+      ids = ap (λ rs. distinct (rule_ids rs)) w.trees ∙ first_so (distinct (rule_ids w.tree.rules)) _ d;
       names =
           ap (λ rs. distinct (rule_names rs)) w.trees
-          ∙ left_true (distinct (rule_names w.tree.rules)) _ (right_true (distinct (rule_ids w.tree.rules)) _ d);
+          ∙ first_so (distinct (rule_names w.tree.rules)) _ (second_so (distinct (rule_ids w.tree.rules)) _ d);
     }
 
 -- The same of an answer of the reader.

@@ -8,9 +8,11 @@ use mathlib.Core.Bool.{Bool, true, false, ◌&&◌}
 use native.Mathlib.Omega.{arith}
 use lib.Dec.{eqb}
 use borrow.Author.Tests.{eqb-true, eqb-false, eq-eqb, lt-ltb}
+use Rattle.std.proofs.lemmas.Bool.{and_from}
+use Rattle.std.specs.Cmp.{first_so, second_so}
 use Rattle.grammar.specs.Laws.Lists.{in_member, member_in}
 use Rattle.grammar.specs.Lists.{each, member, sorted}
-use Rattle.grammar.specs.Laws.Parse.{both_true, left_true, right_true, either}
+use Rattle.grammar.specs.Laws.Parse.{either}
 use Rattle.reference.specs.Analysis.{Row, row_ids, reach, component, is_cycle, cycles_from, left_corner_cycles}
 use Rattle.graph.specs.Members.{in_each, each_in}
 use Rattle.graph.specs.Order.{Rising, distinct_of, sorted_in, sorted_rising, rising_same}
@@ -61,18 +63,18 @@ module _ {rows : List Row} {n : ℕ} {corners closed : List (List ℕ)} (h : Edg
     where
       there : (edge closed i j && edge closed j i) ≡ true → member (id j) (comp (id i)) ≡ true
       there b =
-          let p = (f.reaches i l t i j l).0 (left_true (edge closed i j) _ b) in
-          let q = (f.reaches i l t j i m).0 (right_true (edge closed i j) _ b) in
+          let p = (f.reaches i l t i j l).0 (first_so (edge closed i j) _ b) in
+          let q = (f.reaches i l t j i m).0 (second_so (edge closed i j) _ b) in
           in_member (ways_component rows (id_in h.numbered m) (id_in h.numbered l) (other_way l m p) (other_way m l q))
 
       own : i ≡ j → (edge closed i j && edge closed j i) ≡ true
-      own e = subst (λ x. (edge closed i x && edge closed x i) ≡ true) e (both_true (edge closed i i) _ t t)
+      own e = subst (λ x. (edge closed i x && edge closed x i) ≡ true) e (and_from (edge closed i i) _ t t)
 
       apart : Way rows (id i) (id j) → Way rows (id j) (id i) → (edge closed i j && edge closed j i) ≡ true
       apart a b =
           ⊎_elim own
           (λ p. ⊎_elim (λ e. own (sym e))
-          (λ q. both_true (edge closed i j) _ ((f.reaches i l t i j l).1 p) ((f.reaches i l t j i m).1 q)) (way_other m l b))
+          (λ q. and_from (edge closed i j) _ ((f.reaches i l t i j l).1 p) ((f.reaches i l t j i m).1 q)) (way_other m l b))
           (way_other l m a)
 
       back : member (id j) (comp (id i)) ≡ true → (edge closed i j && edge closed j i) ≡ true
