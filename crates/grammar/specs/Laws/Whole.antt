@@ -20,9 +20,9 @@ use Rattle.grammar.specs.Reading.{Reading, refused, sheet, refusals, trailer, un
 use Rattle.grammar.specs.Reading.{rules_end}
 use Rattle.grammar.specs.Reading.{preserved_ids, counters_of, rules_of, sheet_of, judge, read_words}
 use Rattle.grammar.specs.Laws.Stands.{first, stands_head, stands_length, stands_append, stands_within, stands_slice, slice_stands}
-use Rattle.grammar.specs.Laws.Stands.{stands_split, stands_whole}
+use Rattle.grammar.specs.Laws.Stands.{stands_split, stands_whole, stands_self}
 use Rattle.grammar.specs.Laws.Parse.{either, Yields, found, nothing, yields, yields_then}
-use Rattle.grammar.specs.Laws.Parse.{yields_given, then_got, given_got}
+use Rattle.grammar.specs.Laws.Parse.{yields_got, yields_given, then_got, given_got}
 use Rattle.grammar.specs.Laws.Sound.{RulesAt, rules_sound}
 use Rattle.grammar.specs.Laws.Complete.{rules_complete}
 
@@ -74,6 +74,13 @@ valid_parts s v =
       below = second_so (is_distinct s.rules) _ b;
     }
 
+-- What 4 asks of a tree: the parts but for 5 and 6.
+pub record Records (s : Sheet) : Type 0 where
+  pub kind : is_kind s.kind ≡ true
+  pub few : leb (length s.rules) rule_limit ≡ true
+  pub rules : all (ok_rule (ok_block body_depth)) s.rules ≡ true
+  pub preserved : rising s.preserved ≡ true
+
 module _ (ws : List ℕ) where
   judge_reads : {Q : List Rule → ℕ → Type 0} {P : Sheet → Type 0} {g : Got (List Rule)} → Yields Q g
       → ((rs : List Rule) (q : ℕ) → Q rs q → is_distinct rs ≡ true → is_below (counters_of ws) rs ≡ true → P (sheet_of ws rs))
@@ -116,6 +123,27 @@ module _ (ws : List ℕ) where
         );
       }))
 
+  -- What passes 3 and 4 is encoded by these very words.
+  records_found : trailer_words ≤ length ws → is_trailer ws ≡ true → (rs : List Rule) (q : ℕ) → Found rs q
+      → (encode (sheet_of ws rs) ≡ ws) × Records (sheet_of ws rs)
+  unfolding is_trailer sheet_of
+  records_found h t rs q x =
+      let u = second_so (is_kind (unit_kind ws)) _ t in
+      let f = eqb-true (first_distance ws) (trailer ws) (first_so _ (leb (second_distance ws) (first_distance ws)) u) in
+      let g = leb-true (second_distance ws) (first_distance ws) (second_so (eqb (first_distance ws) (trailer ws)) _ u) in (
+        whole h f (omega arith) rs q x,
+        record {
+          kind = first_so (is_kind (unit_kind ws)) _ t;
+          few = le-leb (length rs) rule_limit x.rules.few;
+          rules = x.rules.spans.fine;
+          preserved = x.preserved;
+        },
+      )
+
+  pub stands_encoded : trailer_words ≤ length ws → is_trailer ws ≡ true → (rs : List Rule) (q : ℕ) → rules_of ws ≡ got rs q
+      → (encode (sheet_of ws rs) ≡ ws) × Records (sheet_of ws rs)
+  stands_encoded h t rs q e = records_found h t rs q (yields_got rules_of_sound e)
+
   -- What is found is valid and encoded by these very words.
   pub record IsSheet (s : Sheet) : Type 0 where
     pub words : encode s ≡ ws
@@ -124,21 +152,12 @@ module _ (ws : List ℕ) where
   sheet_found : trailer_words ≤ length ws → is_trailer ws ≡ true → (rs : List Rule) (q : ℕ) → Found rs q → is_distinct rs ≡ true
       → is_below (counters_of ws) rs ≡ true
       → IsSheet (sheet_of ws rs)
-  unfolding is_trailer sheet_of
+  unfolding sheet_of
   sheet_found h t rs q x d b =
-      let u = second_so (is_kind (unit_kind ws)) _ t in
-      let f = eqb-true (first_distance ws) (trailer ws) (first_so _ (leb (second_distance ws) (first_distance ws)) u) in
-      let g = leb-true (second_distance ws) (first_distance ws) (second_so (eqb (first_distance ws) (trailer ws)) _ u) in
+      let (e, r) = records_found h t rs q x in
       record {
-        words = whole h f (omega arith) rs q x;
-        parts = record {
-          kind = first_so (is_kind (unit_kind ws)) _ t;
-          few = le-leb (length rs) rule_limit x.rules.few;
-          rules = x.rules.spans.fine;
-          preserved = x.preserved;
-          distinct = d;
-          below = b;
-        };
+        words = e;
+        parts = record { kind = r.kind; few = r.few; rules = r.rules; preserved = r.preserved; distinct = d; below = b };
       }
 
   pub words_sound : trailer_words ≤ length ws → Reads IsSheet (read_words ws)
@@ -193,7 +212,7 @@ module _ (ws : List ℕ) where
       let (o, a, b) = stands_split (encode_rules s.rules) s.preserved x in
       placed_at s o p a b c
 
-  module _ (s : Sheet) (p : Placed s) (v : Parts s) where
+  module _ (s : Sheet) (p : Placed s) (v : Records s) where
     is_trailer_complete : is_trailer ws ≡ true
     unfolding is_trailer
     is_trailer_complete =
@@ -211,12 +230,21 @@ module _ (ws : List ℕ) where
     unfolding sheet_of
     sheet_of_complete = λ i. record { kind = p.kind i; rules = s.rules; preserved = p.preserved i; counters = p.counters i }
 
-    placed_complete : read_words ws ≡ sheet s
-    unfolding read_words judge
-    placed_complete =
-        let b : is_below (counters_of ws) s.rules ≡ true = rw p.counters v.below in
-        rw (is_trailer_complete, read_words) (rw rules_of_complete (rw (v.distinct, b, judge) (ap sheet sheet_of_complete)))
+  placed_complete : (s : Sheet) → Placed s → Parts s → read_words ws ≡ sheet s
+  unfolding read_words judge
+  placed_complete s p v =
+      let r : Records s = record { kind = v.kind; few = v.few; rules = v.rules; preserved = v.preserved } in
+      let b : is_below (counters_of ws) s.rules ≡ true = rw p.counters v.below in
+      rw (is_trailer_complete s p r, read_words)
+      (rw (rules_of_complete s p r) (rw (v.distinct, b, judge) (ap sheet (sheet_of_complete s p r))))
 
   -- A valid sheet that these words encode is found.
   pub words_complete : (s : Sheet) → Stands ws (length ws) (encode s) 0 (length ws) → Parts s → read_words ws ≡ sheet s
   words_complete s t v = placed_complete s (placed s t) v
+
+-- What is encoded of a tree that 4 allows is found again.
+pub encoded_stands : (s : Sheet) → Records s
+    → (is_trailer (encode s) ≡ true) × (rules_of (encode s) ≡ got s.rules (rules_end (encode s))) × (sheet_of (encode s) s.rules ≡ s)
+encoded_stands s v =
+    let p = placed (encode s) s (stands_self (encode s)) in
+    (is_trailer_complete (encode s) s p v, rules_of_complete (encode s) s p v, sheet_of_complete (encode s) s p v)

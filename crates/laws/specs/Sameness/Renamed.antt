@@ -17,12 +17,12 @@ use Rattle.grammar.specs.Ids.{is_distinct, is_below}
 use Rattle.grammar.specs.Valid.{rule_limit}
 use Rattle.grammar.specs.Reading.{Reading, refused, sheet, is_length, is_trailer, rules_of, sheet_of, judge, read_words, read}
 use Rattle.grammar.specs.Tree.{Sheet, body_depth}
+use Rattle.grammar.specs.Laws.Whole.{Records, stands_encoded, encoded_stands}
 use Rattle.laws.specs.Demands.Sameness.{TreeIn}
 use Rattle.laws.specs.Lists.Every.{all_members}
 use Rattle.laws.specs.Proved.Table.{good_length_lem, length_good}
 use Rattle.laws.specs.Demands.Marks.{on_rule, on_block, on_sheet, names_in}
 use Rattle.laws.specs.Sameness.Lengths.{body_length, whole_length}
-use Rattle.laws.specs.Sameness.Standing.{Records, stands_encoded, encoded_stands}
 use Rattle.laws.specs.Sameness.Good.{Good, rules_good}
 use Rattle.laws.specs.Sameness.Fitting.{W, Wordy, wordy_both, wordy_left, wordy_right, rules_words}
 
