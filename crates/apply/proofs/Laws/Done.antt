@@ -42,7 +42,7 @@ use Rattle.apply.specs.Applied.{Applicable, after_of, Done, AppliedOf, WordsAfte
 use Rattle.words.specs.declared.numbers.Refusal.{Refusal}
 use Rattle.apply.proofs.Laws.Sizes.{refused_by}
 
-entries_long : (es : List Entry) → length (each encode_entry es) ≡ entry_words * length es
+pub entries_long : (es : List Entry) → length (each encode_entry es) ≡ entry_words * length es
 unfolding encode_entry
 entries_long [] = refl
 entries_long (e ∷ es) = let h = entries_long es in omega arith

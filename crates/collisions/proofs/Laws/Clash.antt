@@ -6,7 +6,7 @@ use mathlib.Core.Bool.{Bool, true, false, ◌||◌, or-false, or_assoc}
 use native.Mathlib.Omega.{arith}
 use lib.ListN.{get_or}
 use lib.Dec.{leb, eqb}
-use borrow.Author.Tests.{eqb-true, eqb-false, leb-true, eq-eqb, ne_eqb}
+use borrow.Author.Tests.{leb-true}
 use Rattle.std.specs.Cmp.{first_so}
 use Rattle.grammar.specs.Numbers.{most_name, call_kind, token_kind}
 use Rattle.grammar.specs.Tree.{Label, unlabelled, labelled, Leaf, epsilon, action, predicate, call, token, terminal, end_of_input, Element}
@@ -16,8 +16,8 @@ use Rattle.grammar.specs.Stands.{Spans}
 use Rattle.grammar.specs.Valid.{ok_label, ok_leaf}
 use Rattle.grammar.specs.Lists.{nothing, any, member, meet}
 use Rattle.grammar.specs.Fold.{folded, element_fold, alternative_fold, block_fold, AlternativeWalked}
-use Rattle.grammar.specs.Laws.Parse.{either}
 use Rattle.grammar.specs.Laws.Stands.{stands_head}
+use Rattle.grammar.specs.Laws.Lists.{eqb_swap}
 use Rattle.reference.specs.Walks.{elements_give, label_names, leaf_names}
 use Rattle.reference.specs.Substitute.{collect_labels, bindable_names}
 use Rattle.collisions.specs.Names.{labels_bit, references_bit, has_name}
@@ -114,10 +114,6 @@ same_any : (f g : ℕ → Bool) → ((n : ℕ) → f n ≡ g n) → (xs : List �
 unfolding any
 same_any f g h [] = refl
 same_any f g h (x ∷ xs) = ap₂ ◌||◌ (h x) (same_any f g h xs)
-
-eqb_swap : (x y : ℕ) → eqb x y ≡ eqb y x
-eqb_swap x y =
-    either (eqb x y) (λ t. t ∙ sym (eq-eqb y x (sym (eqb-true x y t)))) (λ f. f ∙ sym (ne_eqb y x (λ e. eqb-false x y f (sym e))))
 
 meet_none : (xs : List ℕ) → meet xs [] ≡ false
 unfolding meet any member

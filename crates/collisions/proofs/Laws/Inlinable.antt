@@ -12,11 +12,12 @@ use Rattle.grammar.specs.Numbers.{action_sort, predicate_sort}
 use Rattle.grammar.specs.Tree.{Leaf, epsilon, action, predicate, call, token, terminal, end_of_input, Element, leaf, block, AlternativeOf}
 use Rattle.grammar.specs.Tree.{Block, RuleOf}
 use Rattle.grammar.specs.Ids.{head_ids, leaf_ids, element_ids, alternative_ids, block_ids}
+use Rattle.grammar.specs.Laws.Lists.{empty_none, append_none}
 use Rattle.reference.specs.Walks.{element_gives, block_gives, elements_give, references}
 use Rattle.reference.specs.Substitute.{Elements, action_reference_names, bindable_names, implicit_bindings_collide}
 use Rattle.reference.specs.Plan.{satellite_has_embedded_semantics, satellite_is_inlinable}
 use Rattle.collisions.specs.Walks.{binding_names}
-use Rattle.collisions.proofs.Laws.Silent.{append_none, empty_none, each_none}
+use Rattle.collisions.proofs.Laws.Silent.{each_none}
 
 leaf_none : (l : Leaf) → leaf_ids action_sort l ≡ [] → leaf_ids predicate_sort l ≡ [] → binding_names l ≡ []
 unfolding leaf_ids references keep

@@ -5,10 +5,11 @@ use mathlib.Core.Logic.{◌⊎◌, inl, inr}
 use mathlib.Core.List.{List, [], ◌∷◌, map}
 use mathlib.Core.Bool.{Bool, true, false, ◌&&◌, ◌||◌, or-false, or_assoc}
 use native.Mathlib.Omega.{arith}
-use lib.ListN.{length, get_or}
+use lib.ListN.{get_or}
 use lib.Dec.{leb, eqb}
 use borrow.Author.Tests.{leb-true, le-leb, lt-leb}
 use Rattle.std.specs.Cmp.{first_so}
+use Rattle.std.proofs.lemmas.List.{nil_from_length}
 use Rattle.grammar.specs.Numbers.{most_name, action_kind, predicate_kind, qualified}
 use Rattle.grammar.specs.Tree.{Reference, Label, unlabelled, labelled, Leaf, epsilon, action, predicate, call, token, terminal, end_of_input}
 use Rattle.grammar.specs.Stands.{Spans}
@@ -158,13 +159,9 @@ module _ (name : ℕ) where
   no_references s l e =
       rw e (same_marks (λ n. refl) (λ n. sym (or-false (s.references n))) (sym (or-false s.dangling)))
 
-  nothing_left : (rs : List Reference) → length rs ≡ 0 → rs ≡ []
-  nothing_left [] e = refl
-  nothing_left (r ∷ rs) e = absurd (omega arith)
-
   module _ {ws : List ℕ} {end k p n : ℕ} (c : Refers ws end k p n) where
     pub leaf_unmarked : (s : Marks) → n ≡ 0 → LeafSeen ws end k p (mark_leaf name) s s
-    leaf_unmarked s z = record { is = λ l q e u. no_references s l (nothing_left (references l) (sym (c.count l q e u) ∙ z)) }
+    leaf_unmarked s z = record { is = λ l q e u. no_references s l (nil_from_length (references l) (sym (c.count l q e u) ∙ z)) }
 
     pub refers_found : (n ≡ 0 → ⊥) → FoundReferences ws end n (p + 2)
     refers_found some = c.found some

@@ -28,7 +28,7 @@ words_all [] h = refl
 words_all (w ∷ ws) h = and_from (ltb w word_end) _ (lt-ltb w word_end (h 0)) (words_all ws λ i. h (suc i))
 
 -- An encoding holds at least the trailer.
-encode_length : (s : Sheet) → 8 ≤ length (encode s)
+pub encode_length : (s : Sheet) → 8 ≤ length (encode s)
 unfolding encode
 encode_length s = simp length-append (omega arith)
 

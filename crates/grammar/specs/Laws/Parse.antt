@@ -15,6 +15,10 @@ pub either : {R : Type 0} (b : Bool) → (b ≡ true → R) → (b ≡ false →
 either true f g = f refl
 either false f g = g refl
 
+-- What cannot be, as two numbers that differ would be equal.
+pub never : {A : Type 0} → ◌≡◌ {A = ℕ} 0 1 → A
+never z = absurd (omega arith)
+
 -- What is found, if anything is, has the property P; a rule for each way of making a parser.
 pub data Yields {A : Type 0} (P : A → ℕ → Type 0) : Got A → Type 0 where
   found : {a : A} {q : ℕ} → P a q → Yields P (got a q)

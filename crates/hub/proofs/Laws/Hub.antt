@@ -7,7 +7,7 @@ use mathlib.Core.Bool.{Bool, true, ◌&&◌, ◌||◌, not, and-true, true≢fal
 use lib.ListN.{get_or}
 use Rattle.grammar.specs.Tree.{RuleOf, Block, body_depth, inner_depth}
 use Rattle.grammar.specs.Lists.{member, keep, first}
-use Rattle.grammar.specs.Laws.Lists.{in_member, member_in}
+use Rattle.grammar.specs.Laws.Lists.{in_member, member_in, member_append}
 use Rattle.grammar.specs.Laws.Parse.{either}
 use Rattle.graph.specs.Members.{in_keep, keep_in, keep_is_part}
 use Rattle.graph.specs.Order.{Rising, part_rising}
@@ -26,7 +26,7 @@ use Rattle.hub.specs.Grounds.{Known, rules_of, grammar_at, IsCycle}
 use Rattle.hub.specs.Corner.{Candidates}
 use Rattle.hub.specs.Calls.{CallsFrom}
 use Rattle.hub.specs.Hub.{HubIs, Chosen}
-use Rattle.hub.proofs.Laws.Lists.{member_append, first_none, first_least, kept_any}
+use Rattle.hub.proofs.Laws.Lists.{first_none, first_least, kept_any}
 use Rattle.hub.proofs.Laws.Grounds.{row_bit, at_place, place_low, with_id, id_place, tells, call_bit}
 
 -- The candidates among the members, by the rules' arrays and a row of nullable rules.

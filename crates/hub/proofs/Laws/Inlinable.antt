@@ -18,10 +18,11 @@ use Rattle.reach.specs.Rows.{bit, Meet, Without, Empty}
 use Rattle.analysis.specs.Facts.{Among, stopping}
 use Rattle.analysis.specs.declared.rounds.Marks.{Marks}
 use Rattle.analysis.proofs.Laws.Standing.{all_rules, id_at, one_rule}
+use Rattle.analysis.proofs.Laws.Rounded.{is_among, kept_id}
 use Rattle.hub.specs.Grounds.{Known, rules_of, IsCycle}
 use Rattle.hub.specs.Inlinable.{AllInlinable}
 use Rattle.hub.proofs.Laws.Lists.{all_true, all_false}
-use Rattle.hub.proofs.Laws.Grounds.{row_bit, row_low, is_among, in_among, kept_id, at_place, place_low}
+use Rattle.hub.proofs.Laws.Grounds.{row_bit, row_low, in_among, at_place, place_low}
 
 module _ {ws : List ℕ} {end : ℕ} {rules : Rules} {past : Bool} {calls corners : List (List ℕ)} {m : Marks}
     (k : Known ws end rules past calls corners m) {cycle members : List ℕ} (cy : IsCycle ws end rules k.standing cycle members)

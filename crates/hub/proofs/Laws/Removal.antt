@@ -8,25 +8,24 @@ use lib.ListN.{length, get_or}
 use lib.Dec.{eqb}
 use borrow.Author.Tests.{eqb-true, eq-eqb}
 use Rattle.std.proofs.lemmas.Bool.{and_from}
-use Rattle.std.specs.Cmp.{first_so, second_so}
+use Rattle.std.specs.Cmp.{first_so, second_so, both_ways}
 use Rattle.grammar.specs.Numbers.{rule_limit}
 use Rattle.grammar.specs.Tree.{body_depth, inner_depth}
 use Rattle.grammar.specs.Lists.{member, keep}
-use Rattle.grammar.specs.Laws.Lists.{in_member, member_in}
+use Rattle.grammar.specs.Laws.Lists.{in_member, member_in, member_append}
 use Rattle.grammar.specs.Laws.Parse.{either}
 use Rattle.graph.specs.Members.{in_keep, keep_is_part}
 use Rattle.graph.specs.Fixpoint.{part_length}
 use Rattle.reference.specs.Analysis.{ids_of, collect_calls_into}
 use Rattle.reference.specs.Plan.{calls_kept, removable_round, removable_satellites}
 use Rattle.reach.specs.Rows.{bit, edge, With, Without, Meet, Minus, Empty}
-use Rattle.reach.proofs.Laws.Listed.{same_test}
 use Rattle.analysis.specs.Names.{any_below}
 use Rattle.analysis.specs.Rounds.{count_below}
 use Rattle.analysis.specs.Facts.{Among}
 use Rattle.analysis.proofs.Laws.Standing.{all_rules, id_at}
 use Rattle.hub.specs.Calls.{CallsFrom}
 use Rattle.hub.specs.Removal.{planned_calls, Planning, plan_rules, plan_grammar, hub_id, IsRow, Thinned, Removable}
-use Rattle.hub.proofs.Laws.Lists.{member_append, kept_any}
+use Rattle.hub.proofs.Laws.Lists.{kept_any}
 use Rattle.hub.proofs.Laws.Rounds.{member_keep, keep_same, keep_less, rounds_enough, rounds_fixed, rounds_moves, count_falls}
 use Rattle.hub.proofs.Laws.Grounds.{row_bit, row_low, row_of, row_none, id_place, place_low, call_bit, same_place}
 
@@ -42,7 +41,7 @@ module _ {calls : List (List ℕ)} {n : ℕ} {planned : List ℕ} {hub : ℕ} (x
 
   hub_bit : {j : ℕ} → j < x.rules.n → eqb j hub ≡ eqb (id j) (hub_id x)
   hub_bit {j} l =
-      same_test (eqb j hub) (eqb (id j) (hub_id x)) (λ t. eq-eqb (id j) (hub_id x) (ap id (eqb-true j hub t)))
+      both_ways (eqb j hub) (eqb (id j) (hub_id x)) (λ t. eq-eqb (id j) (hub_id x) (ap id (eqb-true j hub t)))
       (λ t. eq-eqb j hub (same_place x.known.standing l x.low (eqb-true (id j) (hub_id x) t)))
 
   module _ {xs row : List ℕ} (r : IsRow x xs row) {out w : List ℕ} (o : With row hub out) (c : CallsFrom calls out planned n w) where

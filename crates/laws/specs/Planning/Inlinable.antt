@@ -1,6 +1,6 @@
 -- A satellite passes the test exactly if it can be inlined.
 use Rattle.std.specs.Prelude.{ℕ, zero, suc, ◌≡◌, refl, ◌↔◌, Bool, true, false, ◌&&◌, not, eqb}
-use Rattle.std.proofs.Common.{sym, ap, ap₂, true≢false, arith, eqb-true, eq-eqb}
+use Rattle.std.proofs.Common.{ap, ap₂, arith, eqb-true, eq-eqb}
 use Rattle.std.proofs.lemmas.Bool.{and_from}
 use Rattle.std.specs.Cmp.{first_so, second_so}
 use mathlib.Core.List.{List, [], ◌∷◌, ◌++◌, Memᴰ}
@@ -9,6 +9,7 @@ use Rattle.grammar.specs.Numbers.{action_sort, predicate_sort}
 use Rattle.grammar.specs.Tree.{Label, unlabelled, labelled, Leaf, epsilon, action, predicate, call, token, terminal, end_of_input, Element}
 use Rattle.grammar.specs.Tree.{leaf, block, AlternativeOf, Block, RuleOf}
 use Rattle.grammar.specs.Ids.{label_ids, head_ids, leaf_ids, element_ids, alternative_ids, block_ids}
+use Rattle.grammar.specs.Laws.Lists.{empty_none, append_none}
 use Rattle.language.specs.Shape.{OnElement, OnBlock}
 use Rattle.reference.specs.Plan.{satellite_has_embedded_semantics, satellite_is_inlinable}
 use Rattle.laws.specs.Demands.Inlinable.{NoCode, Inlinable}
@@ -17,14 +18,6 @@ use Rattle.laws.specs.Lists.Lookup.{all_in}
 -- No ids of actions and of predicates.
 abbrev None : List ℕ → List ℕ → Type 0
 None xs ys = (xs ≡ []) × (ys ≡ [])
-
-append_none : (xs ys : List ℕ) → xs ++ ys ≡ [] → None xs ys
-append_none [] ys e = (refl, e)
-append_none (x ∷ xs) ys e = absurd (let z : ◌≡◌ {A = ℕ} 0 1 = cc in omega arith)
-
-empty_none : (xs : List ℕ) → is_empty xs ≡ true → xs ≡ []
-empty_none [] t = refl
-empty_none (x ∷ xs) t = absurd (true≢false (sym t))
 
 label_none : (l : Label) → None (label_ids action_sort l) (label_ids predicate_sort l)
 unfolding label_ids

@@ -1,12 +1,12 @@
 -- What plans leave of what is found out about a grammar: between any rules that are told apart and what plans make of them.
-use Rattle.std.specs.Prelude.{ℕ, suc, ◌≡◌, Bool, true, false, ◌&&◌, eqb}
+use Rattle.std.specs.Prelude.{ℕ, suc, ◌≡◌, false, ◌&&◌, eqb}
 use Rattle.std.proofs.Math.Path.{refl, ap, subst}
 use Rattle.std.proofs.Common.{sym, ◌∙◌}
 use mathlib.Core.List.Memᴰ
 use mathlib.Core.List.{List, [], ◌∷◌, map, Memᴰ}
 use Rattle.std.proofs.Math.Option.{Option, none, some, none-ne-some}
 use Rattle.std.proofs.lemmas.Bool.{eqb-false, or_parts, and_from}
-use Rattle.std.specs.Cmp.{first_so, second_so}
+use Rattle.std.specs.Cmp.{first_so, second_so, both_ways}
 use Rattle.grammar.specs.Lists.{member}
 use Rattle.grammar.specs.Tree.{Rule, RuleOf, Block, body_depth, Counters}
 use Rattle.grammar.specs.Corners.{Corners}
@@ -35,11 +35,6 @@ use Rattle.laws.specs.Running.Leaves.{plan_stands}
 use Rattle.laws.specs.Running.Stages.{rules_after, Chain, chain_leaves}
 use Rattle.laws.specs.Running.Stay.{chain_stands}
 
-same_test : (a b : Bool) → (a ≡ true → b ≡ true) → (b ≡ true → a ≡ true) → a ≡ b
-same_test true b f k = sym (f refl)
-same_test false true f k = k refl
-same_test false false f k = refl
-
 module _ (d : ℕ) {rs ks : Rules d} (told : Told rs) (x : Leaves d rs ks) where
   abbrev g : Grammar
   g = grammar_of d rs
@@ -57,7 +52,7 @@ module _ (d : ℕ) {rs ks : Rules d} (told : Told rs) (x : Leaves d rs ks) where
   nullable_left i =
       let was = rule_empty d rs told.ids told.names i in
       let is = rule_empty d ks x.told.ids x.told.names i in
-      same_test (member i (nullable_rules d ks)) (member i (ids_of ks) && member i (nullable_rules d rs))
+      both_ways (member i (nullable_rules d ks)) (member i (ids_of ks) && member i (nullable_rules d rs))
       (λ y.
       let s = is.0 y in
       let (q, m, e, b) = found_rule d (λ r. r.id) ks i s.derives.found in

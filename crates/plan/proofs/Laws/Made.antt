@@ -18,9 +18,10 @@ use Rattle.analysis.specs.Survey.{reading}
 use Rattle.analysis.specs.Facts.{Among, Standing}
 use Rattle.analysis.specs.declared.rounds.Marks.{Marks}
 use Rattle.analysis.proofs.Laws.Standing.{id_at}
+use Rattle.analysis.proofs.Laws.Rounded.{is_among}
 use Rattle.hub.specs.Budget.{IsBudget}
 use Rattle.hub.proofs.Laws.Lists.{all_false}
-use Rattle.hub.proofs.Laws.Grounds.{row_bit, is_among, at_place, place_low, same_place}
+use Rattle.hub.proofs.Laws.Grounds.{row_bit, at_place, place_low, same_place}
 use Rattle.planned.specs.List.{Laid, AllIn}
 use Rattle.turns.specs.Ground.{Ground}
 use Rattle.turns.specs.Midway.{limits_of}

@@ -21,9 +21,8 @@ use Rattle.reach.specs.Cycles.{Least, NoneLeft, IsNext}
 use Rattle.reach.specs.Listed.{row_at, Numbered, Ids, Members, Left, Given, GivesNext}
 use Rattle.std.specs.Prelude.{Option, Some, None}
 use Rattle.std.proofs.lemmas.Bool.{and_from}
-use Rattle.std.specs.Cmp.{first_so, second_so}
+use Rattle.std.specs.Cmp.{first_so, second_so, both_ways}
 use Rattle.reach.proofs.Laws.Graph.{in_id}
-use Rattle.reach.proofs.Laws.Listed.{same_test}
 
 -- The first of the cycles listed from rising ids; the others are listed from greater ones.
 record Front (closed : List Row) (c : List ℕ) (cs : List (List ℕ)) : Type 0 where
@@ -135,7 +134,7 @@ module _ {rows : List Row} {n : ℕ} (k : Numbered rows n) where
 
       -- Without its members, those of the later cycles are left.
       without_first : {row less : List ℕ} → Members rows n row (comp (id i)) → Minus left row less → Members rows n less (each (λ c. c) cs)
-      without_first {row} {less} a m = record { at = λ j b. m.at j ∙ same_test _ _ (there j b) (back j b) }
+      without_first {row} {less} a m = record { at = λ j b. m.at j ∙ both_ways _ _ (there j b) (back j b) }
         where
           of_row : (j : ℕ) → j < n → bit row j ≡ member (id j) c
           of_row j b = a.at j b ∙ ap (member (id j)) (sym is_first)

@@ -4,12 +4,12 @@ use mathlib.Core.Path.{◌≡◌, refl, sym, ap, ◌∙◌, subst}
 use mathlib.Core.Logic.{◌⊎◌, ⊎_elim}
 use mathlib.Core.List.Memᴰ
 use mathlib.Core.List.{List, [], ◌∷◌, Memᴰ}
-use mathlib.Core.Bool.{Bool, true, false, ◌&&◌}
+use mathlib.Core.Bool.{true, ◌&&◌}
 use native.Mathlib.Omega.{arith}
 use lib.Dec.{eqb}
 use borrow.Author.Tests.{eqb-true, eqb-false, eq-eqb, lt-ltb}
 use Rattle.std.proofs.lemmas.Bool.{and_from}
-use Rattle.std.specs.Cmp.{first_so, second_so}
+use Rattle.std.specs.Cmp.{first_so, second_so, both_ways}
 use Rattle.grammar.specs.Laws.Lists.{in_member, member_in}
 use Rattle.grammar.specs.Lists.{each, member, sorted}
 use Rattle.grammar.specs.Laws.Parse.{either}
@@ -24,11 +24,6 @@ use Rattle.reach.specs.Cycles.{Joined}
 use Rattle.reach.specs.Listed.{row_at, Edges, Left, corner_rows, AllLeft}
 use Rattle.reach.proofs.Laws.Paths.{path_path}
 use Rattle.reach.proofs.Laws.Graph.{other_path, other_differs, path_other, id_in, in_id, one_id, path_way, way_path}
-
-pub same_test : (a b : Bool) → (a ≡ true → b ≡ true) → (b ≡ true → a ≡ true) → a ≡ b
-same_test true b f g = sym (f refl)
-same_test false true f g = g refl
-same_test false false f g = refl
 
 -- A list of two members at least, of which the first is the least.
 cycle_of : (x : ℕ) (xs : List ℕ) → (y z : ℕ) → Memᴰ y (x ∷ xs) → Memᴰ z (x ∷ xs) → (y ≡ z → ⊥) → is_cycle x (x ∷ xs) ≡ true
@@ -59,7 +54,7 @@ module _ {rows : List Row} {n : ℕ} {corners closed : List (List ℕ)} (h : Edg
   -- Who reaches a rule of a cycle and is reached by it is in its component.
   pub around_component : {i : ℕ} → i < n → edge closed i i ≡ true → (j : ℕ) → j < n
       → (edge closed i j && edge closed j i) ≡ member (id j) (comp (id i))
-  around_component {i} l t j m = same_test _ _ there back
+  around_component {i} l t j m = both_ways _ _ there back
     where
       there : (edge closed i j && edge closed j i) ≡ true → member (id j) (comp (id i)) ≡ true
       there b =
@@ -176,7 +171,7 @@ module _ {rows : List Row} {n : ℕ} {corners closed : List (List ℕ)} (h : Edg
         members =
             record {
               at = λ j l.
-                  looping j l ∙ same_test _ _ (λ t. in_member (loop_listed l t)) (λ t. listed_loop l (member_in _ t));
+                  looping j l ∙ both_ways _ _ (λ t. in_member (loop_listed l t)) (λ t. listed_loop l (member_in _ t));
             };
         cycle = λ i l t j m. around_component l (sym (looping i l) ∙ t) j m;
       }
