@@ -7,3 +7,4 @@ pub mod Standing
 pub mod Rounds
 pub mod Agree
 pub mod Rounded
+pub mod Edges

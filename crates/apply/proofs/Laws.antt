@@ -1,6 +1,5 @@
 -- The laws that the answers cite.
 pub mod Judged
 pub mod Left
-pub mod After
 pub mod Sizes
 pub mod Done

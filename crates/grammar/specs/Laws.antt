@@ -12,3 +12,4 @@ pub mod Whole
 pub mod Codec
 pub mod Lists
 pub mod Few
+pub mod Trailer

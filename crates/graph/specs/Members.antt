@@ -7,10 +7,11 @@ use mathlib.Core.List.Memᴰ
 use mathlib.Core.List.{List, [], ◌∷◌, map, Memᴰ}
 use mathlib.Core.List.{Sublistᴰ}
 use Rattle.std.proofs.Math.Bool.{true, true≢false}
+use Rattle.std.specs.Cmp.{first_so, second_so}
 use borrow.Author.Tests.{not-true}
 use Rattle.grammar.specs.Laws.Lists.{in_member, in_map}
 use Rattle.grammar.specs.Lists.{each, member, distinct, push, keep}
-use Rattle.grammar.specs.Laws.Parse.{left_true, right_true, either}
+use Rattle.grammar.specs.Laws.Parse.{either}
 
 module _ {A : Type 0} where
   pub in_push : {a x : A} (b : Bool) {xs : List A} → Memᴰ a (push b x xs) → ((a ≡ x) × (b ≡ true)) ⊎ Memᴰ a xs
@@ -79,7 +80,7 @@ module _ {A : Type 0} where
   shared : (key : A → ℕ) (x : A) (xs : List A) → distinct (map key (x ∷ xs)) ≡ true → {a : A} → Memᴰ a xs → key x ≡ key a → ⊥
   unfolding distinct
   shared key x xs t m e =
-      let f = not-true (member (key x) (map key xs)) (left_true (not (member (key x) (map key xs))) _ t) in
+      let f = not-true (member (key x) (map key xs)) (first_so (not (member (key x) (map key xs))) _ t) in
       true≢false (sym (in_member (subst (λ n. Memᴰ n (map key xs)) (sym e) (in_map key m))) ∙ f)
 
   -- Where numbers are not shared, a number has one item.
@@ -90,5 +91,5 @@ module _ {A : Type 0} where
   one_with key (x ∷ xs) t {b = b} (Memᴰ.head d) (Memᴰ.tail m) k = absurd (shared key x xs t m (ap key (sym d) ∙ k))
   one_with key (x ∷ xs) t (Memᴰ.tail m) (Memᴰ.head e) k = absurd (shared key x xs t m (ap key (sym e) ∙ sym k))
   one_with key (x ∷ xs) t (Memᴰ.tail m) (Memᴰ.tail n) k =
-      one_with key xs (right_true (not (member (key x) (map key xs))) _ t) m n k
+      one_with key xs (second_so (not (member (key x) (map key xs))) _ t) m n k
   one_with key [] t {a = a} {b = b} x4 _ k = elim x4 [ ]

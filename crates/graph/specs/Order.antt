@@ -3,10 +3,11 @@ use Rattle.std.specs.Prelude.{ℕ, ◌≤◌, ◌<◌, ◌≡◌, refl, ◌⊎�
 use Rattle.std.proofs.Common.{sym, ap₂, ◌∙◌, subst, inl, inr, ⊎_elim, true≢false, arith, leb-true, leb-false, lt-ltb, ltb-true}
 use mathlib.Core.List.Memᴰ
 use mathlib.Core.List.{List, [], ◌∷◌, Memᴰ, Sublistᴰ}
-use Rattle.std.proofs.lemmas.Bool.{not-true}
+use Rattle.std.proofs.lemmas.Bool.{not-true, and_from}
+use Rattle.std.specs.Cmp.{first_so, second_so}
 use Rattle.grammar.specs.Laws.Lists.{in_member}
 use Rattle.grammar.specs.Lists.{member, distinct, rising, insert, sorted}
-use Rattle.grammar.specs.Laws.Parse.{both_true, left_true, right_true, either}
+use Rattle.grammar.specs.Laws.Parse.{either}
 use Rattle.graph.specs.Members.{part_in}
 
 -- No two are equal.
@@ -23,9 +24,9 @@ pub distinct_of : (xs : List ℕ) → distinct xs ≡ true → Distinct xs
 unfolding distinct
 distinct_of [] t = tt
 distinct_of (x ∷ xs) t = (
-  λ m. true≢false (sym (in_member m) ∙ not-true (member x xs) (left_true (not (member x xs)) _ t)),
+  λ m. true≢false (sym (in_member m) ∙ not-true (member x xs) (first_so (not (member x xs)) _ t)),
   distinct_of xs
-      (right_true (not (member x xs)) _ t),
+      (second_so (not (member x xs)) _ t),
 )
 
 pub part_distinct : {xs ys : List ℕ} → Sublistᴰ xs ys → Distinct ys → Distinct xs
@@ -42,15 +43,15 @@ pub rising_true : (xs : List ℕ) → Rising xs → rising xs ≡ true
 unfolding rising
 rising_true [] h = refl
 rising_true (x ∷ []) h = refl
-rising_true (x ∷ y ∷ ys) h = both_true (ltb x y) _ (lt-ltb x y (h.0 y (Memᴰ.head refl))) (rising_true (y ∷ ys) h.1)
+rising_true (x ∷ y ∷ ys) h = and_from (ltb x y) _ (lt-ltb x y (h.0 y (Memᴰ.head refl))) (rising_true (y ∷ ys) h.1)
 
 pub true_rising : (xs : List ℕ) → rising xs ≡ true → Rising xs
 unfolding rising
 true_rising [] t = tt
 true_rising (x ∷ []) t = (λ y m. absurd (Memᴰ.not-nil m), tt)
 true_rising (x ∷ y ∷ ys) t =
-    let more = true_rising (y ∷ ys) (right_true (ltb x y) _ t) in
-    let l = ltb-true x y (left_true (ltb x y) _ t) in
+    let more = true_rising (y ∷ ys) (second_so (ltb x y) _ t) in
+    let l = ltb-true x y (first_so (ltb x y) _ t) in
     (λ z m. ⊎_elim (λ e. subst (λ k. x < k) (sym e) l) (λ n. let g = more.0 z n in omega arith) (Memᴰ.cases_cons m), more)
 
 in_insert : {z x : ℕ} (ys : List ℕ) → Memᴰ z (insert x ys) → (z ≡ x) ⊎ Memᴰ z ys

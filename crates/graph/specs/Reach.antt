@@ -11,10 +11,12 @@ use mathlib.Core.List.{Sublistᴰ}
 use Rattle.std.proofs.Math.Bool.{true, false, or-true}
 use native.Mathlib.Omega.{arith}
 use Rattle.std.proofs.Math.ListN.{length-map}
+use Rattle.std.proofs.lemmas.Bool.{and_from}
+use Rattle.std.specs.Cmp.{first_so, second_so}
 use borrow.Author.Tests.{eqb-true, eq-eqb}
 use Rattle.grammar.specs.Laws.Lists.{in_member, member_in, in_map}
 use Rattle.grammar.specs.Lists.{member, distinct, keep}
-use Rattle.grammar.specs.Laws.Parse.{both_true, left_true, right_true, either}
+use Rattle.grammar.specs.Laws.Parse.{either}
 use Rattle.reference.specs.Analysis.{Row, row_ids, lead_from, reach_round, reach_from, reached, reach, component}
 use Rattle.graph.specs.Members.{in_keep, keep_in, in_each, keep_part, keep_is_part, part_map, each_in}
 use Rattle.graph.specs.Fixpoint.{part_length, rounds_keep, rounds_grow}
@@ -200,10 +202,10 @@ module _ (rows : List Row) where
             (λ f.
             let out = lead_from rows (i ∷ []) in
             let both : (member r.id out && member i r.to) ≡ true = rw f at t in
-            let (s, o, g) = in_lead_from (i ∷ []) (member_in out (left_true (member r.id out) _ both)) in
+            let (s, o, g) = in_lead_from (i ∷ []) (member_in out (first_so (member r.id out) _ both)) in
             inr (
               subst (λ x. Edge rows x j) (Memᴰ.eq_of_singleton o) (subst (Edge rows s) e g),
-              record { row = r; there = n; from = e; leads = member_in r.to (right_true (member r.id out) _ both) },
+              record { row = r; there = n; from = e; leads = member_in r.to (second_so (member r.id out) _ both) },
             )),
       )
 
@@ -219,7 +221,7 @@ module _ (rows : List Row) where
       let out = lead_from rows (i ∷ []) in
       let a : member r.id out ≡ true =
       in_member (subst (λ x. Memᴰ x out) (sym e.from) (lead_from_in (i ∷ []) (Memᴰ.head refl) w.0)) in
-      let t : joined i r ≡ true = rw (both_true _ _ a (in_member e.leads)) (or-true (eqb r.id i)) in
+      let t : joined i r ≡ true = rw (and_from _ _ a (in_member e.leads)) (or-true (eqb r.id i)) in
       sorted_in (subst (λ x. Memᴰ x (row_ids (keep (joined i) rows))) e.from (in_map (λ r. r.id) (keep_in (joined i) e.there t)))
 
   pub component_rising : distinct (row_ids rows) ≡ true → (i : ℕ) → Rising (component rows i)

@@ -20,7 +20,6 @@ pub mod Laws
 pub mod Judged
 pub mod Answers
 pub mod Free
-pub mod Standing
 pub mod Good
 pub mod Fitting
 pub mod Renamed

@@ -1,4 +1,3 @@
-pub mod Order
 pub mod Moved
 pub mod Parts
 pub mod Items
@@ -8,3 +7,4 @@ pub mod Same
 pub mod Counts
 pub mod Room
 pub mod Ahead
+pub mod Leaves

@@ -1,3 +1,4 @@
 pub mod Lent
 pub mod Step
 pub mod Rules
+pub mod Laws

@@ -14,6 +14,7 @@ use Rattle.grammar.specs.Ids.{label_ids, head_ids, leaf_ids, element_ids, altern
 use Rattle.grammar.specs.Corners.{rust}
 use Rattle.grammar.specs.Fold.{folded, element_fold, alternative_fold, block_fold}
 use Rattle.grammar.specs.Found.{RuleSpans}
+use Rattle.grammar.specs.Laws.Lists.{member_append}
 use Rattle.reference.specs.Walks.{sort_of, is_end, is_optional, element_gives, block_gives}
 use Rattle.reference.specs.Analysis.{Grammar, target, calls, collect_calls_into, leaf_nullable, element_nullable, block_is_nullable, is_stop}
 use Rattle.reference.specs.Analysis.{collect_left_corner_calls, block_corners}
@@ -24,12 +25,7 @@ use Rattle.analysis.specs.Facts.{Agrees, SurveyOf, Surveyed}
 use Rattle.reach.specs.Rows.{holds}
 use Rattle.analysis.specs.declared.survey.Survey.{Survey}
 
--- Two lists one behind the other: what is in them, and whether anything is.
-member_append : (x : ℕ) (xs ys : List ℕ) → member x (xs ++ ys) ≡ (member x xs || member x ys)
-unfolding member
-member_append x [] ys = refl
-member_append x (y ∷ xs) ys = ap (λ b. eqb x y || b) (member_append x xs ys) ∙ sym (or_assoc (eqb x y) (member x xs) (member x ys))
-
+-- Whether anything is in two lists, one behind the other.
 abbrev pub some_in : List ℕ → List ℕ → Bool
 some_in xs ys = not (is_empty (xs ++ ys))
 

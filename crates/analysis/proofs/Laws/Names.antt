@@ -9,9 +9,10 @@ use lib.ListN.{length, get_or, set, take, length-set}
 use Rattle.std.proofs.Common.{get_or-take, length-take-le}
 use lib.Dec.{eqb, ltb}
 use borrow.Author.Tests.{eqb-true, eqb-false, ltb-true, ltb-false, lt-ltb, eq-eqb}
-use Rattle.grammar.specs.Laws.Parse.{either, left_true, right_true}
+use Rattle.grammar.specs.Laws.Parse.{either}
 use Rattle.analysis.specs.Names.{is_named, slots, table_with, Told, Tabled, At, IsTarget}
 use Rattle.std.specs.Prelude.{Option, Some, None, MatchOption, EachIndex, slice_index, ◌≢◌}
+use Rattle.std.specs.Cmp.{first_so, second_so}
 
 -- The first i names are in the table.
 pub record Putting (names : List ℕ) (n : ℕ) (before table : List ℕ) (i : ℕ) : Type 0 where
@@ -54,7 +55,7 @@ module _ (names : List ℕ) (n m j : ℕ) where
   named_is : is_named names n m j ≡ true → (j < n) × (get_or names j 0 ≡ m)
   unfolding is_named
   named_is e =
-      (ltb-true j n (left_true (ltb j n) _ e), eqb-true (get_or names j 0) m (right_true (ltb j n) (eqb (get_or names j 0) m) e))
+      (ltb-true j n (first_so (ltb j n) _ e), eqb-true (get_or names j 0) m (second_so (ltb j n) (eqb (get_or names j 0) m) e))
 
   is_named_lem : j < n → get_or names j 0 ≡ m → is_named names n m j ≡ true
   unfolding is_named

@@ -3,11 +3,12 @@ use Prim.Native.Nat.{ℕ, zero, suc, ◌+◌, ◌-◌, ◌≤◌}
 use mathlib.Core.Path.{◌≡◌, refl, sym, ap, ap₂, ◌∙◌, subst}
 use mathlib.Core.List.Memᴰ
 use mathlib.Core.List.{List, [], ◌∷◌, Memᴰ}
-use mathlib.Core.Bool.{Bool, true, false, ◌&&◌, not, true≢false, and-false}
+use mathlib.Core.Bool.{Bool, true, false, ◌&&◌, not, and-false}
 use native.Mathlib.Omega.{arith}
 use lib.ListN.{length, get_or, replicate, length-map}
 use lib.Dec.{ltb}
 use borrow.Author.Tests.{ltb-true, ltb-false, eq-eqb, ne_eqb}
+use Rattle.std.specs.Cmp.{both_ways}
 use Rattle.grammar.specs.Tree.{Rule, body_depth, inner_depth}
 use Rattle.grammar.specs.Numbers.{rule_limit}
 use Rattle.grammar.specs.Lists.{member, keep, push, distinct, rounds}
@@ -26,23 +27,22 @@ use Rattle.reach.proofs.Laws.Rows.{no_bits}
 use Rattle.analysis.proofs.Laws.Standing.{among, few, all_rules, id_at, rule_spans}
 use Rattle.analysis.proofs.Laws.Agree.{agrees, behind}
 
--- Of the rules that pass a test, with ids that no two share, one is told by its id.
-is_among : {rs : List Rule} {i : ℕ} (a : Among rs i) → Memᴰ a.rule rs
+pub is_among : {rs : List Rule} {i : ℕ} (a : Among rs i) → Memᴰ a.rule rs
 is_among a = subst (Memᴰ a.rule) a.parts (Memᴰ.append_right a.front (Memᴰ.head refl))
 
-kept_id : (test : Rule → Bool) (rs : List Rule) → distinct (ids_of rs) ≡ true → {i : ℕ} (a : Among rs i)
+-- Of the rules that pass a test, with ids that no two share, one is told by its id.
+pub kept_id : (test : Rule → Bool) (rs : List Rule) → distinct (ids_of rs) ≡ true → {i : ℕ} (a : Among rs i)
     → member a.rule.id (ids_of (keep test rs)) ≡ test a.rule
-kept_id test rs d a = either (test a.rule) yes (λ e. either (member a.rule.id (ids_of (keep test rs))) (λ m. absurd (wrong e m)) (λ m. m ∙ sym e))
+kept_id test rs d a = both_ways (member a.rule.id (ids_of (keep test rs))) (test a.rule) passes kept
   where
-    yes : test a.rule ≡ true → member a.rule.id (ids_of (keep test rs)) ≡ test a.rule
-    yes e = in_member (in_map (λ r. r.id) (keep_in test (is_among a) e)) ∙ sym e
-
-    wrong : test a.rule ≡ false → member a.rule.id (ids_of (keep test rs)) ≡ true → ⊥
-    wrong e m =
+    passes : member a.rule.id (ids_of (keep test rs)) ≡ true → test a.rule ≡ true
+    passes m =
         let (t, k, f) = Memᴰ.of_map (λ r. r.id) (keep test rs) (member_in (ids_of (keep test rs)) m) in
         let there = in_keep test rs k in
-        let same = one_with (λ r. r.id) rs d there.0 (is_among a) f in
-        true≢false (sym there.1 ∙ ap test same ∙ e)
+        ap test (sym (one_with (λ r. r.id) rs d there.0 (is_among a) f)) ∙ there.1
+
+    kept : test a.rule ≡ true → member a.rule.id (ids_of (keep test rs)) ≡ true
+    kept e = in_member (in_map (λ r. r.id) (keep_in test (is_among a) e))
 
 -- How many pass, counted by place.
 count_front : (f : ℕ → Bool) (m : ℕ) → count_below f (suc m) ≡ one_if (f 0) + count_below (λ k. f (suc k)) m

@@ -17,6 +17,7 @@ use Rattle.grammar.specs.Laws.Found.{rule_room}
 use Rattle.records.specs.Rules.{row, places_from, FoundRows}
 use Rattle.records.specs.declared.rules.Rules.{Rules}
 use Rattle.records.proofs.Laws.Rules.{row_long}
+use Rattle.records.specs.Laws.Places.{places_length}
 use Rattle.analysis.specs.Names.{Told}
 use Rattle.analysis.specs.Facts.{Standing, Among}
 use Rattle.reach.proofs.Laws.Graph.{one_place}
@@ -58,11 +59,6 @@ place_spans {ws} {end} t rest (r ∷ front) at q s =
     let f = first_spans s in
     let e : f.0 ≡ at + length (encode_rule (encode_block body_depth) r) = let z = stands_length f.1.stands in omega arith in
     place_spans {ws = ws} {end = end} t rest front (at + length (encode_rule (encode_block body_depth) r)) q (rw (← e) f.2)
-
-places_length : (at : ℕ) (rs : List Rule) → length (places_from at rs) ≡ length rs
-unfolding places_from
-places_length at [] = refl
-places_length at (r ∷ rs) = ap suc (places_length (at + length (encode_rule (encode_block body_depth) r)) rs)
 
 module _ {ws : List ℕ} {end : ℕ} {rules : Rules} (f : FoundRows ws end rules) where
   abbrev rs : List Rule

@@ -1,6 +1,7 @@
 -- A plan that is not refused: the new sheet may be composed, and stands in the result then.
 use Prim.Native.Nat.{ℕ, ◌+◌, ◌-◌, ◌*◌, ◌<◌, ◌≤◌}
 use Rattle.std.specs.Prelude.{Ok, Err}
+use Rattle.std.specs.Cmp.{first_so, second_so}
 use mathlib.Core.Path.{◌≡◌, refl, sym, ap, ap₂, ◌∙◌, subst}
 use mathlib.Core.List.{List, [], ◌∷◌}
 use mathlib.Core.Bool.{Bool, true, false}
@@ -16,7 +17,6 @@ use Rattle.grammar.specs.Words.{words}
 use Rattle.grammar.specs.Lists.{each}
 use Rattle.grammar.specs.Stands.{Stands}
 use Rattle.grammar.specs.Encode.{encode, encode_rules}
-use Rattle.grammar.specs.Laws.Parse.{left_true, right_true}
 use Rattle.reference.specs.Numbers.{most_entries, entry_words}
 use Rattle.reference.specs.Apply.{Fresh, Entry}
 use Rattle.reference.specs.Run.{sheet_with, are_words, is_short, refusal_of, encode_entry}
@@ -42,7 +42,7 @@ use Rattle.apply.specs.Applied.{Applicable, after_of, Done, AppliedOf, WordsAfte
 use Rattle.words.specs.declared.numbers.Refusal.{Refusal}
 use Rattle.apply.proofs.Laws.Sizes.{refused_by}
 
-entries_long : (es : List Entry) → length (each encode_entry es) ≡ entry_words * length es
+pub entries_long : (es : List Entry) → length (each encode_entry es) ≡ entry_words * length es
 unfolding encode_entry
 entries_long [] = refl
 entries_long (e ∷ es) = let h = entries_long es in omega arith
@@ -64,8 +64,8 @@ good kind preserved f recorded e = go (are_words f.counters) refl (is_short kind
     go true x true y =
         record {
           counters = x;
-          words = leb-true _ _ (left_true (leb (length (encode (sheet_with kind preserved f))) most_words) _ y);
-          entries = leb-true _ _ (right_true (leb (length (encode (sheet_with kind preserved f))) most_words) _ y);
+          words = leb-true _ _ (first_so (leb (length (encode (sheet_with kind preserved f))) most_words) _ y);
+          entries = leb-true _ _ (second_so (leb (length (encode (sheet_with kind preserved f))) most_words) _ y);
         }
 
 module _ {result work : List ℕ} {end to : ℕ} {rules : Rules} {p : Plan} (x : Applicable result work end to rules p) (c : Counters) where

@@ -31,7 +31,7 @@ use Rattle.apply.specs.Laws.Held.{encode_long, held_standing}
 use Rattle.apply.specs.Judged.{number_in, verdict_on, verdict, Judged}
 use Rattle.apply.specs.Left.{LeftTake}
 use Rattle.apply.specs.Applied.{Applicable, after_of, WordsAfter, EntriesAfter, RefusedBy}
-use Rattle.apply.proofs.Laws.After.{after_rules}
+use Rattle.compose.specs.Laws.After.{after_rules}
 
 module _ {result work : List ℕ} {end to : ℕ} {rules : Rules} {p : Plan} {m : Measure}
     (w : Measured inner_depth (settled (words result) end inner_depth work p.l) m) (x : Applicable result work end to rules p)

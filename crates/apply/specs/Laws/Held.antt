@@ -1,7 +1,8 @@
 -- What stands in a buffer that holds a sheet: its rules, its preserved ids, its kind.
-use Rattle.std.specs.Prelude.{ℕ, ◌+◌, ◌-◌, ◌≤◌, ◌≡◌, List, ◌∷◌, ◌++◌, true, length, get_or}
+use Rattle.std.specs.Prelude.{ℕ, ◌+◌, ◌-◌, ◌≤◌, ◌≡◌, List, ◌++◌, true, length, get_or}
 use Rattle.std.proofs.Math.Path.{refl, sym}
-use Rattle.std.proofs.Common.{ap, ◌∙◌, subst, append_assoc, arith, length-append}
+use Rattle.std.proofs.Common.{ap, ◌∙◌, subst, arith, length-append}
+use Rattle.std.specs.Cmp.{first_so, second_so}
 use borrow.Author.Tests.{leb-true}
 use Rattle.grammar.specs.Numbers.{trailer_words, most_words, rule_limit}
 use Rattle.grammar.specs.Tree.{Sheet}
@@ -9,12 +10,12 @@ use Rattle.grammar.specs.Words.{words}
 use Rattle.grammar.specs.Lists.{rising, distinct}
 use Rattle.grammar.specs.Ids.{rule_ids, rule_names, is_distinct}
 use Rattle.grammar.specs.Stands.{Stands}
-use Rattle.grammar.specs.Encode.{encode, encode_rules, encode_counters}
+use Rattle.grammar.specs.Encode.{encode, encode_rules}
 use Rattle.grammar.specs.Valid.{valid}
 use Rattle.grammar.specs.Laws.Words.{length_words}
-use Rattle.grammar.specs.Laws.Parse.{left_true, right_true}
 use Rattle.grammar.specs.Laws.Stands.{stands_split, stands_length, stands_within, stands_slice, stands_head}
 use Rattle.grammar.specs.Laws.Whole.{valid_parts}
+use Rattle.grammar.specs.Laws.Trailer.{trailing, encode_split}
 use Rattle.words.specs.Room.{Room}
 use Rattle.records.specs.declared.rules.Rules.{Rules}
 use Rattle.records.specs.Rules.{RowsOf}
@@ -23,14 +24,7 @@ use Rattle.hub.specs.Preserved.{between}
 use Rattle.plan.specs.Ground.{KeptAt}
 use Rattle.apply.specs.Held.{Held}
 
--- The words behind the preserved ids.
-pub trailing : Sheet → List ℕ
-trailing s = s.kind ∷ length (encode_rules s.rules ++ s.preserved) ∷ length s.preserved ∷ encode_counters s.counters
-
-encode_split : (s : Sheet) → encode s ≡ encode_rules s.rules ++ (s.preserved ++ trailing s)
-unfolding encode trailing
-encode_split s = append_assoc (encode_rules s.rules) s.preserved _
-
+-- How many words there are behind the preserved ids.
 trailing_long : (s : Sheet) → length (trailing s) ≡ trailer_words
 unfolding trailing
 trailing_long s = refl
@@ -119,8 +113,8 @@ module _ {bs : List ℕ} {t : Sheet} {end to : ℕ} (h : Held bs t end to) where
                 rows = r;
                 few = let e = r.count in let l = leb-true (length t.rules) rule_limit p.few in omega arith;
               };
-          ids = left_true (distinct (rule_ids t.rules)) _ d;
-          names = left_true (distinct (rule_names t.rules)) _ (right_true (distinct (rule_ids t.rules)) _ d);
+          ids = first_so (distinct (rule_ids t.rules)) _ d;
+          names = first_so (distinct (rule_names t.rules)) _ (second_so (distinct (rule_ids t.rules)) _ d);
         }
 
     pub standing_trees : {rules : Rules} (r : RowsOf t.rules rules) → (held_standing r).rows.found.trees ≡ t.rules

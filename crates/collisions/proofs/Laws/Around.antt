@@ -2,16 +2,16 @@
 use Prim.Native.Nat.{ℕ, suc, ◌+◌, ◌-◌, ◌<◌, ◌≤◌}
 use mathlib.Core.Path.{◌≡◌, refl, sym, ap, ◌∙◌}
 use mathlib.Core.List.{List, [], ◌∷◌, ◌++◌}
-use mathlib.Core.Bool.{Bool, false, ◌||◌, or-false, or_assoc}
+use mathlib.Core.Bool.{Bool, false, ◌||◌, or-false}
 use native.Mathlib.Omega.{arith}
 use native.Mathlib.Numerals.{add-one}
 use lib.ListN.{length, take, drop, length-drop}
-use lib.Dec.{eqb}
 use lib.Seq.{take_all}
 use Rattle.grammar.specs.Numbers.{most_words}
 use Rattle.grammar.specs.Tree.{Element, Block}
 use Rattle.grammar.specs.Lists.{nothing, member}
 use Rattle.grammar.specs.Fold.{folded, element_fold, block_fold, ElementWalked}
+use Rattle.grammar.specs.Laws.Lists.{member_append}
 use Rattle.reference.specs.Walks.{elements_give, label_names}
 use Rattle.reference.specs.Substitute.{without, remaining_actions_reference, collect_labels, action_reference_names}
 use Rattle.planned.specs.Layout.{meaning}
@@ -39,11 +39,6 @@ module _ {ws : List ℕ} {end : ℕ} (d : ℕ) {bs cs : List ℕ} {x : Listed} (
   marking_more name g h w = itemizing_at mark_label (mark_leaf name) g h item_kept w
 
 -- What the marks are then.
-member_append : (n : ℕ) (xs ys : List ℕ) → member n (xs ++ ys) ≡ (member n xs || member n ys)
-unfolding member
-member_append n [] ys = refl
-member_append n (x ∷ xs) ys = ap (λ b. eqb n x || b) (member_append n xs ys) ∙ sym (or_assoc (eqb n x) (member n xs) (member n ys))
-
 module _ (name d : ℕ) (s : Marks) (es : List (Element (Block d))) where
   abbrev all_marked : Marks
   all_marked = folded (element_fold (marking name) (block_fold (marking name) d)) s es

@@ -6,7 +6,8 @@ use mathlib.Core.Bool.{Bool, true, false, ◌||◌, or-false, or_assoc}
 use native.Mathlib.Omega.{arith}
 use lib.ListN.{get_or}
 use lib.Dec.{leb, eqb}
-use borrow.Author.Tests.{eqb-true, eqb-false, leb-true, eq-eqb, ne_eqb}
+use borrow.Author.Tests.{leb-true}
+use Rattle.std.specs.Cmp.{first_so}
 use Rattle.grammar.specs.Numbers.{most_name, call_kind, token_kind}
 use Rattle.grammar.specs.Tree.{Label, unlabelled, labelled, Leaf, epsilon, action, predicate, call, token, terminal, end_of_input, Element}
 use Rattle.grammar.specs.Tree.{Block}
@@ -15,8 +16,8 @@ use Rattle.grammar.specs.Stands.{Spans}
 use Rattle.grammar.specs.Valid.{ok_label, ok_leaf}
 use Rattle.grammar.specs.Lists.{nothing, any, member, meet}
 use Rattle.grammar.specs.Fold.{folded, element_fold, alternative_fold, block_fold, AlternativeWalked}
-use Rattle.grammar.specs.Laws.Parse.{left_true, either}
 use Rattle.grammar.specs.Laws.Stands.{stands_head}
+use Rattle.grammar.specs.Laws.Lists.{eqb_swap}
 use Rattle.reference.specs.Walks.{elements_give, label_names, leaf_names}
 use Rattle.reference.specs.Substitute.{collect_labels, bindable_names}
 use Rattle.collisions.specs.Names.{labels_bit, references_bit, has_name}
@@ -36,7 +37,7 @@ module _ (bs : List ℕ) {ws : List ℕ} {at w : ℕ} (e : w ≡ get_or ws (at +
     where
       go : (b : Label) → get_or ws (at + 4) 0 ≡ label_name b → ok_label b ≡ true → c ≡ clash_label (has_name ws bs labels_bit) (has_name ws bs references_bit) c b
       go unlabelled f k = same_clash (sym (or-false c.label)) (sym (or-false c.binding))
-      go (labelled i n) f k = absurd (let h = leb-true 1 n (left_true (leb 1 n) (leb n most_name) k) in omega arith)
+      go (labelled i n) f k = absurd (let h = leb-true 1 n (first_so (leb 1 n) (leb n most_name) k) in omega arith)
 
   pub clash_labelled : (w ≡ 0 → ⊥) → {h k : Bool} → h ≡ has_name ws bs labels_bit w → k ≡ has_name ws bs references_bit w
       → LabelSeen ws at (clash_label (has_name ws bs labels_bit) (has_name ws bs references_bit)) c (record { label = c.label || h; binding = c.binding || k })
@@ -113,10 +114,6 @@ same_any : (f g : ℕ → Bool) → ((n : ℕ) → f n ≡ g n) → (xs : List �
 unfolding any
 same_any f g h [] = refl
 same_any f g h (x ∷ xs) = ap₂ ◌||◌ (h x) (same_any f g h xs)
-
-eqb_swap : (x y : ℕ) → eqb x y ≡ eqb y x
-eqb_swap x y =
-    either (eqb x y) (λ t. t ∙ sym (eq-eqb y x (sym (eqb-true x y t)))) (λ f. f ∙ sym (ne_eqb y x (λ e. eqb-false x y f (sym e))))
 
 meet_none : (xs : List ℕ) → meet xs [] ≡ false
 unfolding meet any member

@@ -8,9 +8,9 @@ use native.Mathlib.Omega.{arith}
 use lib.ListN.{get_or}
 use lib.Dec.{eqb}
 use borrow.Author.Tests.{eqb-true, eqb-false}
+use Rattle.std.proofs.lemmas.Bool.{cases_lt}
 use Rattle.grammar.specs.Numbers.{most_words}
 use Rattle.grammar.specs.Laws.Parse.{either}
-use Rattle.planned.specs.Laws.Order.{order}
 use Rattle.collisions.specs.Names.{IsSet, most_entries, count_in, entry, has_bit, name_at, Ordered, NamePut}
 use Rattle.collisions.specs.Order.{IsAt, Insertable, Inserted}
 use Rattle.collisions.proofs.Laws.Few.{fewer}
@@ -34,7 +34,7 @@ module _ {ws : List ℕ} {end : ℕ} {bs : List ℕ} (o : Ordered ws end bs) {at
       some (omega arith)
       (λ i l e.
       let y : name_at ws bs i ≡ name = ap (λ p. get_or ws p 0) e in
-      ⊎_elim (λ h. let z = a.less f i h in omega arith) (λ h. let z = a.more f i h l in omega arith) (order i k))
+      ⊎_elim (λ h. let z = a.less f i h in omega arith) (λ h. let z = a.more f i h l in omega arith) (cases_lt i k))
 
   pub insertable : k ≤ count_in bs → Insertable bs k
   insertable l = record { long = o.long; first = o.first; order = o.order; last = o.last; few = few; within = l }
@@ -66,7 +66,7 @@ module _ {ws : List ℕ} {end : ℕ} {bs : List ℕ} (o : Ordered ws end bs) {at
         ⊎_elim front
         (λ h. either (eqb i k) (λ t. here (eqb-true i k t))
         (λ u. let z = eqb-false i k u in let c = g.count in behind (i - 1) (omega arith) (omega arith) (omega arith)))
-        (order i k)
+        (cases_lt i k)
 
     place_at : (P : ℕ → Type 0) → P at → ((i : ℕ) → i < count_in bs → P (entry bs i % most_words)) → (i : ℕ) → i < count_in cs → P (entry cs i % most_words)
     place_at P p q i l = go (spot i l)
@@ -123,7 +123,7 @@ module _ {ws : List ℕ} {end : ℕ} {bs : List ℕ} (o : Ordered ws end bs) {at
               ⊎_elim
               (λ h. let y = g.count in (i, omega arith, ap (has_bit u) (g.front i h) ∙ c, name_front i h ∙ e))
               (λ h. let y = g.count in (i + 1, omega arith, ap (has_bit u) (g.moved i h l) ∙ c, name_moved i h l ∙ e))
-              (order i k);
+              (cases_lt i k);
           new = let y = g.count in (k, omega arith, ap (has_bit w) g.here ∙ new_here low s, name_here);
           none = λ u v n (i, l, c, e). go u v n i c e (spot i l);
         }

@@ -7,8 +7,9 @@ use native.Mathlib.Omega.{arith}
 use lib.ListN.{length, get_or}
 use lib.Dec.{eqb, ltb}
 use borrow.Author.Tests.{eqb-true, eqb-false, ltb-true, ltb-false, eq-eqb}
+use Rattle.std.specs.Cmp.{first_so, second_so}
 use Rattle.grammar.specs.Numbers.{most_words}
-use Rattle.grammar.specs.Laws.Parse.{either, left_true, right_true}
+use Rattle.grammar.specs.Laws.Parse.{either}
 use Rattle.words.specs.Room.{Room}
 use Rattle.planned.specs.Layout.{half}
 use Rattle.collisions.specs.Names.{entries_end, low_in, count_in, entry, has_bit, name_at, has_among, has_name, Ordered}
@@ -63,8 +64,8 @@ module _ (ws bs : List ℕ) (w n : ℕ) where
       let here = has_bit w (entry bs k) && eqb n (name_at ws bs k) in
       either here
       (λ u.
-      let b = left_true (has_bit w (entry bs k)) (eqb n (name_at ws bs k)) u in
-      let e = right_true (has_bit w (entry bs k)) (eqb n (name_at ws bs k)) u in
+      let b = first_so (has_bit w (entry bs k)) (eqb n (name_at ws bs k)) u in
+      let e = second_so (has_bit w (entry bs k)) (eqb n (name_at ws bs k)) u in
       (k, omega arith, b, sym (eqb-true n (name_at ws bs k) e)))
       (λ f. let (i, l, b, e) = has_from k (rw f at t) in (i, omega arith, b, e))
 

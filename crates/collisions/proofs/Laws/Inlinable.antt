@@ -6,17 +6,18 @@ use mathlib.Core.Bool.{true, not, or-false}
 use native.Mathlib.Omega.{arith}
 use lib.Dec.{eqb}
 use borrow.Author.Tests.{not-true, not-false}
+use Rattle.std.specs.Cmp.{second_so}
 use Rattle.grammar.specs.Lists.{each, all, any, is_empty, nothing, meet, keep}
 use Rattle.grammar.specs.Numbers.{action_sort, predicate_sort}
 use Rattle.grammar.specs.Tree.{Leaf, epsilon, action, predicate, call, token, terminal, end_of_input, Element, leaf, block, AlternativeOf}
 use Rattle.grammar.specs.Tree.{Block, RuleOf}
 use Rattle.grammar.specs.Ids.{head_ids, leaf_ids, element_ids, alternative_ids, block_ids}
-use Rattle.grammar.specs.Laws.Parse.{right_true}
+use Rattle.grammar.specs.Laws.Lists.{empty_none, append_none}
 use Rattle.reference.specs.Walks.{element_gives, block_gives, elements_give, references}
 use Rattle.reference.specs.Substitute.{Elements, action_reference_names, bindable_names, implicit_bindings_collide}
 use Rattle.reference.specs.Plan.{satellite_has_embedded_semantics, satellite_is_inlinable}
 use Rattle.collisions.specs.Walks.{binding_names}
-use Rattle.collisions.proofs.Laws.Silent.{append_none, empty_none, each_none}
+use Rattle.collisions.proofs.Laws.Silent.{each_none}
 
 leaf_none : (l : Leaf) → leaf_ids action_sort l ≡ [] → leaf_ids predicate_sort l ≡ [] → binding_names l ≡ []
 unfolding leaf_ids references keep
@@ -61,7 +62,7 @@ unfolding satellite_is_inlinable satellite_has_embedded_semantics action_referen
 inlinable_none d r t a m =
     let acts = block_ids action_sort (suc d) r.body in
     let tests = block_ids predicate_sort (suc d) r.body in
-    let u = right_true (all (λ x. eqb x.flag 0) r.body) _ (right_true (eqb r.flags 0) _ t) in
+    let u = second_so (all (λ x. eqb x.flag 0) r.body) _ (second_so (eqb r.flags 0) _ t) in
     let n = append_none acts tests (empty_none (acts ++ tests) (not-false (is_empty (acts ++ tests)) (not-true (not (is_empty (acts ++ tests))) u))) in
     one_none (λ x. each (element_gives nothing binding_names (block_gives nothing binding_names d)) x.elements) m
     (block_none (suc d) r.body n.0 n.1)

@@ -5,9 +5,11 @@ use mathlib.Core.Logic.{◌⊎◌, inl, inr}
 use mathlib.Core.List.{List, [], ◌∷◌, map}
 use mathlib.Core.Bool.{Bool, true, false, ◌&&◌, ◌||◌, or-false, or_assoc}
 use native.Mathlib.Omega.{arith}
-use lib.ListN.{length, get_or}
+use lib.ListN.{get_or}
 use lib.Dec.{leb, eqb}
 use borrow.Author.Tests.{leb-true, le-leb, lt-leb}
+use Rattle.std.specs.Cmp.{first_so}
+use Rattle.std.proofs.lemmas.List.{nil_from_length}
 use Rattle.grammar.specs.Numbers.{most_name, action_kind, predicate_kind, qualified}
 use Rattle.grammar.specs.Tree.{Reference, Label, unlabelled, labelled, Leaf, epsilon, action, predicate, call, token, terminal, end_of_input}
 use Rattle.grammar.specs.Stands.{Spans}
@@ -16,7 +18,6 @@ use Rattle.grammar.specs.Valid.{ok_reference, ok_label, ok_leaf}
 use Rattle.grammar.specs.Lists.{member, keep, push}
 use Rattle.grammar.specs.Found.{HeadAt}
 use Rattle.grammar.specs.Fold.{folded}
-use Rattle.grammar.specs.Laws.Parse.{left_true}
 use Rattle.grammar.specs.Laws.Stands.{stands_head, stands_length}
 use Rattle.grammar.specs.Laws.Fold.{Folding, folding_done, folding_found}
 use Rattle.words.specs.Kinds.{reference_number}
@@ -52,7 +53,7 @@ module _ {ws : List ℕ} {end at w : ℕ} (e : w ≡ get_or ws (at + 4) 0) where
     where
       go : (dangling : Bool) (b : Label) → get_or ws (at + 4) 0 ≡ label_name b → ok_label b ≡ true → marks_of ws bs dangling ≡ mark_label (marks_of ws bs dangling) b
       go dangling unlabelled f k = same_marks (λ n. sym (or-false ((marks_of ws bs dangling).labels n))) (λ n. refl) refl
-      go dangling (labelled i n) f k = absurd (let h = leb-true 1 n (left_true (leb 1 n) (leb n most_name) k) in omega arith)
+      go dangling (labelled i n) f k = absurd (let h = leb-true 1 n (first_so (leb 1 n) (leb n most_name) k) in omega arith)
 
   pub label_marked : {bs cs : List ℕ} → (w ≡ 0 → ⊥) → NamePut ws end bs cs labels_bit (get_or ws (at + 4) 0) → LabelMarked ws end at bs cs
   unfolding marks_of mark_label member
@@ -158,13 +159,9 @@ module _ (name : ℕ) where
   no_references s l e =
       rw e (same_marks (λ n. refl) (λ n. sym (or-false (s.references n))) (sym (or-false s.dangling)))
 
-  nothing_left : (rs : List Reference) → length rs ≡ 0 → rs ≡ []
-  nothing_left [] e = refl
-  nothing_left (r ∷ rs) e = absurd (omega arith)
-
   module _ {ws : List ℕ} {end k p n : ℕ} (c : Refers ws end k p n) where
     pub leaf_unmarked : (s : Marks) → n ≡ 0 → LeafSeen ws end k p (mark_leaf name) s s
-    leaf_unmarked s z = record { is = λ l q e u. no_references s l (nothing_left (references l) (sym (c.count l q e u) ∙ z)) }
+    leaf_unmarked s z = record { is = λ l q e u. no_references s l (nil_from_length (references l) (sym (c.count l q e u) ∙ z)) }
 
     pub refers_found : (n ≡ 0 → ⊥) → FoundReferences ws end n (p + 2)
     refers_found some = c.found some

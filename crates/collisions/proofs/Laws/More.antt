@@ -3,9 +3,10 @@ use Prim.Native.Nat.{ℕ, ◌<◌}
 use mathlib.Core.Path.{◌≡◌, sym, ap, ◌∙◌, subst}
 use mathlib.Core.Logic.{◌⊎◌, ⊎_elim}
 use mathlib.Core.List.{List}
-use mathlib.Core.Bool.{Bool, true, ◌||◌, or-true, false≢true}
+use mathlib.Core.Bool.{true, ◌||◌, or-true}
 use lib.Dec.{eqb}
 use borrow.Author.Tests.{eqb-true, eq-eqb}
+use Rattle.std.specs.Cmp.{both_ways}
 use Rattle.grammar.specs.Laws.Parse.{either}
 use Rattle.collisions.specs.Names.{IsSet, count_in, entry, has_bit, name_at, has_name, Kept, NamePut}
 use Rattle.collisions.proofs.Laws.Find.{has_at, has_from}
@@ -22,10 +23,6 @@ holds : (ws bs : List ℕ) (u n : ℕ) → has_name ws bs u n ≡ true → Has w
 unfolding has_name
 holds ws bs u n t = has_from ws bs u n (count_in bs) t
 
-same_bool : {a b : Bool} → (a ≡ true → b ≡ true) → (b ≡ true → a ≡ true) → a ≡ b
-same_bool {a} {b} f g =
-    either a (λ t. t ∙ sym (f t)) (λ u. either b (λ t. absurd (false≢true (sym u ∙ g t))) (λ v. u ∙ sym v))
-
 -- The entries from before are there, and one of the name; any other was there before.
 pub record More (ws bs cs : List ℕ) (w name : ℕ) : Type 0 where
   pub old : (u : ℕ) → IsSet u → (n : ℕ) → Has ws bs u n → Has ws cs u n
@@ -35,7 +32,7 @@ pub record More (ws bs cs : List ℕ) (w name : ℕ) : Type 0 where
 module _ {ws : List ℕ} {end : ℕ} {bs cs : List ℕ} {w name : ℕ} (s : IsSet w) (k : Kept ws end bs cs) (m : More ws bs cs w name) where
   more_here : (n : ℕ) → has_name ws cs w n ≡ (has_name ws bs w n || eqb n name)
   more_here n =
-      same_bool
+      both_ways _ _
       (λ t.
       ⊎_elim (λ h. ap (λ b. b || eqb n name) (held ws bs w n h))
       (λ h. ap (λ b. has_name ws bs w n || b) (eq-eqb n name h.1) ∙ or-true (has_name ws bs w n))
@@ -46,7 +43,7 @@ module _ {ws : List ℕ} {end : ℕ} {bs cs : List ℕ} {w name : ℕ} (s : IsSe
 
   more_other : (v : ℕ) → IsSet v → (v ≡ w → ⊥) → (n : ℕ) → has_name ws cs v n ≡ has_name ws bs v n
   more_other v u d n =
-      same_bool
+      both_ways _ _
       (λ t. ⊎_elim (held ws bs v n) (λ h. absurd (d h.0)) (m.none v u n (holds ws cs v n t)))
       (λ t. held ws cs v n (m.old v u n (holds ws bs v n t)))
 

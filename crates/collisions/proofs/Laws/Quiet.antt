@@ -7,12 +7,12 @@ use native.Mathlib.Omega.{arith}
 use lib.ListN.{length, get_or, length-map}
 use lib.Dec.{leb, eqb}
 use borrow.Author.Tests.{leb-true, eq-eqb, ne_eqb}
+use Rattle.std.specs.Cmp.{first_so}
 use Rattle.grammar.specs.Numbers.{most_name}
 use Rattle.grammar.specs.Tree.{Label, unlabelled, labelled, Element, Block}
 use Rattle.grammar.specs.Encode.{label_name}
 use Rattle.grammar.specs.Valid.{ok_label}
 use Rattle.grammar.specs.Lists.{is_empty}
-use Rattle.grammar.specs.Laws.Parse.{left_true}
 use Rattle.grammar.specs.Fold.{folded, element_fold, block_fold}
 use Rattle.reference.specs.Walks.{elements_give, label_names, references}
 use Rattle.collisions.specs.Walks.{reference_names, LabelSeen, LeafSeen, Refers}
@@ -28,7 +28,7 @@ pub label_some : (b : Label) {w : ℕ} → w ≡ label_name b → ok_label b ≡
 unfolding ok_label
 label_some unlabelled {w} e k = ap not (eq-eqb w 0 e)
 label_some (labelled i n) {w} e k =
-    let h = leb-true 1 n (left_true (leb 1 n) (leb n most_name) k) in
+    let h = leb-true 1 n (first_so (leb 1 n) (leb n most_name) k) in
     ap not (ne_eqb w 0 (λ z. omega arith))
 
 pub label_noisy : {ws : List ℕ} {at w : ℕ} (noisy : Bool) → w ≡ get_or ws (at + 4) 0 → LabelSeen ws at noisy_label noisy (noisy || not (eqb w 0))

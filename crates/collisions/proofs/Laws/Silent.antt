@@ -2,25 +2,16 @@
 use Prim.Native.Nat.{ℕ, zero, suc}
 use mathlib.Core.Path.{◌≡◌, refl, sym, ap, ap₂, ◌∙◌}
 use mathlib.Core.List.{List, [], ◌∷◌, ◌++◌, map}
-use mathlib.Core.Bool.{Bool, true, true≢false}
+use mathlib.Core.Bool.{Bool, true}
 use native.Mathlib.Omega.{arith}
 use lib.ListN.{take, drop, take-append-drop}
-use Rattle.grammar.specs.Lists.{each, is_empty, nothing, member, keep}
+use Rattle.grammar.specs.Lists.{each, nothing, member, keep}
 use Rattle.grammar.specs.Tree.{Reference, Label, Leaf, Element, leaf, block, Block}
-use Rattle.grammar.specs.Laws.Lists.{each_append}
+use Rattle.grammar.specs.Laws.Lists.{each_append, empty_none, append_none}
 use Rattle.reference.specs.Walks.{element_gives, block_gives, elements_give, label_names, references}
 use Rattle.reference.specs.Substitute.{without, remaining_actions_reference, collect_labels, action_reference_names}
 use Rattle.collisions.specs.Walks.{reference_names, binding_names}
 use Rattle.collisions.specs.Quiet.{is_quiet, Silent}
-
--- No items.
-pub append_none : (xs ys : List ℕ) → xs ++ ys ≡ [] → (xs ≡ []) × (ys ≡ [])
-append_none [] ys e = (refl, e)
-append_none (x ∷ xs) ys e = absurd (let z : ◌≡◌ {A = ℕ} 0 1 = cc in omega arith)
-
-pub empty_none : (xs : List ℕ) → is_empty xs ≡ true → xs ≡ []
-empty_none [] t = refl
-empty_none (x ∷ xs) t = absurd (true≢false (sym t))
 
 -- Where two functions give nothing of any item, a third gives nothing.
 pub each_none : {A : Type 0} (f g h : A → List ℕ) → ((a : A) → f a ≡ [] → g a ≡ [] → h a ≡ []) → (as' : List A) → each f as' ≡ [] → each g as' ≡ []

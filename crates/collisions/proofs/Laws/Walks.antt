@@ -7,6 +7,7 @@ use mathlib.Core.Bool.{Bool, true, false, ◌||◌, or-false, or_assoc}
 use native.Mathlib.Omega.{arith}
 use lib.ListN.{length, get_or}
 use lib.Dec.{leb}
+use Rattle.std.specs.Cmp.{first_so, second_so}
 use Rattle.grammar.specs.Numbers.{action_kind, predicate_kind, block_kind, one_or_more_nongreedy}
 use Rattle.grammar.specs.Tree.{Label, ElementHead, Leaf, epsilon, action, predicate, call, token, terminal, end_of_input, Element, leaf}
 use Rattle.grammar.specs.Tree.{block, Block}
@@ -16,7 +17,6 @@ use Rattle.grammar.specs.Valid.{ok_reference, ok_label, ok_head, ok_leaf}
 use Rattle.grammar.specs.Lists.{each, all}
 use Rattle.grammar.specs.Found.{FoundElement, HeadAt}
 use Rattle.grammar.specs.Fold.{Steps, folded, element_fold, alternative_fold, block_fold}
-use Rattle.grammar.specs.Laws.Parse.{left_true, right_true}
 use Rattle.grammar.specs.Laws.Stands.{run_stands}
 use Rattle.grammar.specs.Laws.Complete.{leaf_kind_lem}
 use Rattle.grammar.specs.Laws.Opened.{HeadWords, Opened, opened_leaf, opened_block, opened}
@@ -27,7 +27,7 @@ use Rattle.collisions.specs.Walks.{noting, LabelSeen, LeafSeen, FoundReferences,
 -- the label of an element's own words
 pub head_label : {ws : List ℕ} {end at : ℕ} {h : ElementHead} {kind p : ℕ} → HeadWords ws end at h kind p → ok_label h.label ≡ true
 unfolding ok_head
-head_label {h = h} w = left_true (ok_label h.label) _ (right_true (leb h.quantifier one_or_more_nongreedy) _ w.fine)
+head_label {h = h} w = first_so (ok_label h.label) _ (second_so (leb h.quantifier one_or_more_nongreedy) _ w.fine)
 
 -- the steps
 module _ {S : Type 0} (of_label : S → Label → S) (of_leaf : S → Leaf → S) {ws : List ℕ} {end at : ℕ} where

@@ -1,7 +1,7 @@
 -- The grammar that a plan leaves, rule by rule: those that stay in front of the hub, the hub with its new body, those behind it.
 use Prim.Native.Nat.{ℕ, suc, ◌+◌, ◌-◌}
 use Rattle.std.specs.Prelude.{◌≡◌, Bool, true, false, not, ◌&&◌, length, get_or, eqb}
-use Rattle.std.proofs.Math.Path.{refl, sym, ap}
+use Rattle.std.proofs.Math.Path.{refl, sym, ap, subst}
 use Rattle.std.proofs.Common.{◌∙◌, length-append, take_all, eq-eqb, ne_eqb, lt-ltb}
 use mathlib.Core.List.{List, [], ◌∷◌, ◌++◌, map, append-nil, append_assoc}
 use native.Mathlib.Omega.{arith}
@@ -12,13 +12,13 @@ use Rattle.grammar.specs.Laws.Lists.{each_append}
 use Rattle.reference.specs.Apply.{fresh_each, apply_alternative, with_body, apply_plan}
 use Rattle.reference.specs.Run.{encode_entry}
 use Rattle.records.specs.declared.rules.Rules.{Rules}
-use Rattle.reach.specs.Rows.{bit, holds}
-use Rattle.analysis.specs.Facts.{Among}
+use Rattle.reach.specs.Rows.{bit, RowOf, holds}
+use Rattle.analysis.specs.Facts.{Standing, Among}
 use Rattle.analysis.proofs.Laws.Standing.{few, all_rules, id_at, one_rule}
 use Rattle.plan.specs.declared.plan.Plan.{Plan}
 use Rattle.writing.specs.Taken.{counters_of}
 use Rattle.copies.specs.declared.pen.Pen.{Pen}
-use Rattle.drafts.specs.Kept.{kept, part}
+use Rattle.drafts.specs.Kept.{kept, part, kept_of}
 use Rattle.drafts.specs.Laws.Kept.{drop_past}
 use Rattle.drafts.specs.declared.draft.Draft.{Draft}
 use Rattle.compose.specs.Compose.{Applies, rules_before, after}
@@ -110,40 +110,72 @@ module _ {rs : List Rule} {i : ℕ} (a : Among rs i) where
         count = length-append a.front (a.rule ∷ b.front) ∙ (let c = a.count in let d = b.count in omega arith);
       }
 
-module _ {ws : List ℕ} {end to : ℕ} {rules : Rules} {p : Plan} {work trail : List ℕ} {pen : Pen}
-    (x : Applies ws end to rules p work trail pen) where
-  abbrev row : List ℕ
-  row = p.removable
-
+-- What is left of rules that stand in a sheet where those of a row go, and the one at a place has a new body.
+module _ {ws : List ℕ} {end : ℕ} {rules : Rules} (s : Standing ws end rules) {gone row : List ℕ} (m : RowOf rules.ids rules.n gone row)
+    {hub : ℕ} (a : Among s.rows.found.trees hub) (body : Block body_depth) (stay : member a.rule.id gone ≡ false) where
   abbrev rs : List Rule
-  rs = rules_before x
-
-  abbrev gone : List ℕ
-  gone = x.plan.removable
+  rs = s.rows.found.trees
 
   goes_at : {j : ℕ} (b : Among rs j) → bit row j ≡ member b.rule.id gone
   unfolding holds
   goes_at {j} b =
       let l = few b in
-      let c = all_rules x.standing.rows in
-      x.same.removable.at j
+      let c = all_rules s.rows in
+      m.at j
       ∙ ap (λ t. t && member (get_or rules.ids j 0) gone) (lt-ltb j rules.n (omega arith))
-      ∙ ap (λ i. member i gone) (id_at x.standing.rows b)
+      ∙ ap (λ i. member i gone) (id_at s.rows b)
 
-  module _ (a : Among rs p.hub) where
+  other_at : {j : ℕ} (b : Among rs j) → (j ≡ hub → ⊥) → eqb b.rule.id a.rule.id ≡ false
+  other_at b n = ne_eqb b.rule.id a.rule.id λ e. n (one_rule s.rows (λ r. r.id) s.ids b a e)
+
+  left_front : keep (stays a.rule.id body gone) (map (changed a.rule.id body gone) rs)
+      ≡ kept row 0 a.front
+      ++ keep (stays a.rule.id body gone) (map (changed a.rule.id body gone) (a.rule ∷ a.rest))
+  left_front =
+      ap (λ l. keep (stays a.rule.id body gone) (map (changed a.rule.id body gone) l)) (sym a.parts)
+      ∙ kept_front a.rule.id body gone row 0 a.front (a.rule ∷ a.rest) (record {
+        goes = λ k b. let z : 0 + k ≡ k = omega arith in rw z (goes_at (in_front a b));
+        other = λ k b. other_at (in_front a b) (λ e. let l = few b in let c = a.count in omega arith);
+      })
+
+  left_rest : keep (stays a.rule.id body gone) (map (changed a.rule.id body gone) a.rest) ≡ kept row (hub + 1) a.rest
+  unfolding keep
+  left_rest =
+      ap (λ l. keep (stays a.rule.id body gone) (map (changed a.rule.id body gone) l)) (sym (append-nil a.rest))
+      ∙ kept_front a.rule.id body gone row (hub + 1) a.rest [] (record {
+        goes = λ k b. goes_at (in_rest a b);
+        other = λ k b. other_at (in_rest a b) (λ e. omega arith);
+      })
+      ∙ append-nil (kept row (hub + 1) a.rest)
+
+  pub after_rules : keep (λ q. not (member q.id gone)) (map (with_body inner_depth a.rule.id body) rs)
+      ≡ kept_of row 0 hub rs ++ (with_rule_body body a.rule ∷ kept_of row (hub + 1) rules.n rs)
+  after_rules =
+      left_front
+      ∙ ap (λ l. kept row 0 a.front ++ l)
+      (kept_hub a.rule.id body gone a.rule a.rest (eq-eqb a.rule.id a.rule.id refl) stay
+      ∙ ap (λ l. with_rule_body body a.rule ∷ l) left_rest)
+      ∙ rw (part_front a, part_behind a (all_rules s.rows))
+
+-- The same of a plan.
+module _ {ws : List ℕ} {end to : ℕ} {rules : Rules} {p : Plan} {work trail : List ℕ} {pen : Pen}
+    (x : Applies ws end to rules p work trail pen) where
+  abbrev were : List Rule
+  were = rules_before x
+
+  abbrev gone : List ℕ
+  gone = x.plan.removable
+
+  module _ (a : Among were p.hub) where
     hub_is : x.plan.hub ≡ a.rule.id
     hub_is = x.same.hub ∙ id_at x.standing.rows a
-
-    other_at : {j : ℕ} (b : Among rs j) → (j ≡ p.hub → ⊥) → eqb b.rule.id x.plan.hub ≡ false
-    other_at b n =
-        ne_eqb b.rule.id x.plan.hub λ e. n (one_rule x.standing.rows (λ r. r.id) x.standing.ids b a (e ∙ hub_is))
 
     module _ (r : Rules) where
       abbrev d : Draft
       d = record { rules = r; pen = pen }
 
-      abbrev body : Block body_depth
-      body = (hub_body ws end rules p work d).node
+      abbrev new : Block body_depth
+      new = (hub_body ws end rules p work d).node
 
       same_body : fresh_each (apply_alternative inner_depth) x.plan.alternatives (counters_of pen.counters)
           ≡ hub_body ws end rules p work d
@@ -161,33 +193,9 @@ module _ {ws : List ℕ} {end to : ℕ} {rules : Rules} {p : Plan} {work trail :
       unfolding apply_plan
       after_counters = ap (λ f. f.counters) same_body
 
-      left_front : keep (stays x.plan.hub body gone) (map (changed x.plan.hub body gone) rs)
-          ≡ kept row 0 a.front
-          ++ keep (stays x.plan.hub body gone) (map (changed x.plan.hub body gone) (a.rule ∷ a.rest))
-      left_front =
-          ap (λ l. keep (stays x.plan.hub body gone) (map (changed x.plan.hub body gone) l)) (sym a.parts)
-          ∙ kept_front x.plan.hub body gone row 0 a.front (a.rule ∷ a.rest) (record {
-            goes = λ k b. let z : 0 + k ≡ k = omega arith in rw z (goes_at (in_front a b));
-            other = λ k b. other_at (in_front a b) (λ e. let l = few b in let c = a.count in omega arith);
-          })
-
-      left_rest : keep (stays x.plan.hub body gone) (map (changed x.plan.hub body gone) a.rest) ≡ kept row (p.hub + 1) a.rest
-      unfolding keep
-      left_rest =
-          ap (λ l. keep (stays x.plan.hub body gone) (map (changed x.plan.hub body gone) l)) (sym (append-nil a.rest))
-          ∙ kept_front x.plan.hub body gone row (p.hub + 1) a.rest [] (record {
-            goes = λ k b. goes_at (in_rest a b);
-            other = λ k b. other_at (in_rest a b) (λ e. omega arith);
-          })
-          ∙ append-nil (kept row (p.hub + 1) a.rest)
-
-      pub after_node : (after x).node ≡ new_rules ws end rules p work d rs a.rule
+      pub after_node : (after x).node ≡ new_rules ws end rules p work d were a.rule
       unfolding apply_plan
       after_node =
-          ap (λ f. keep (stays x.plan.hub f.node gone) (map (changed x.plan.hub f.node gone) rs)) same_body
-          ∙ left_front
-          ∙ ap (λ l. kept row 0 a.front ++ l)
-          (kept_hub x.plan.hub body gone a.rule a.rest (eq-eqb a.rule.id x.plan.hub (sym hub_is))
-          (rw (← hub_is) x.stays)
-          ∙ ap (λ l. with_rule_body body a.rule ∷ l) left_rest)
-          ∙ rw (part_front a, part_behind a (all_rules x.standing.rows))
+          ap (λ f. keep (λ q. not (member q.id gone)) (map (with_body inner_depth x.plan.hub f.node) were)) same_body
+          ∙ ap (λ k. keep (λ q. not (member q.id gone)) (map (with_body inner_depth k new) were)) hub_is
+          ∙ after_rules x.standing x.same.removable a new (subst (λ k. member k gone ≡ false) hub_is x.stays)

@@ -7,6 +7,7 @@ use native.Mathlib.Omega.{arith}
 use native.Mathlib.Nat.{add-zero}
 use lib.Dec.{leb}
 use lib.ListN.{length, get_or, take, drop, length-take, length-drop}
+use Rattle.std.specs.Cmp.{first_so, second_so}
 use Rattle.grammar.specs.Numbers.{kind_end, element_sort, label_sort, one_or_more_nongreedy}
 use Rattle.grammar.specs.Tree.{Label, unlabelled, labelled, ElementHead, Counters}
 use Rattle.grammar.specs.Words.{words}
@@ -17,7 +18,6 @@ use Rattle.grammar.specs.Read.{is_name}
 use Rattle.grammar.specs.Valid.{ok_label, ok_head}
 use Rattle.grammar.specs.Laws.Words.{length_words}
 use Rattle.grammar.specs.Laws.Stands.{stands_length, stands_slice, stands_run}
-use Rattle.grammar.specs.Laws.Parse.{left_true, right_true}
 use Rattle.grammar.specs.Laws.Opened.{HeadWords, options_length}
 use Rattle.reference.specs.Numbers.{block_boundary}
 use Rattle.reference.specs.Apply.{past, renumber_label, renumber_head}
@@ -105,7 +105,7 @@ head_packed false h kind l = refl
 
 label_fine : (h : ElementHead) → ok_head h ≡ true → ok_label h.label ≡ true
 unfolding ok_head
-label_fine h t = left_true (ok_label h.label) _ (right_true (leb h.quantifier one_or_more_nongreedy) _ t)
+label_fine h t = first_so (ok_label h.label) _ (second_so (leb h.quantifier one_or_more_nongreedy) _ t)
 
 -- The words of a head behind its label's id.
 head_behind : {bs : List ℕ} {end at kind p : ℕ} (h : ElementHead) → Room bs end → p ≤ end → HeadWords (words bs) end at h kind p

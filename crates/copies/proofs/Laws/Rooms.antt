@@ -18,12 +18,13 @@ use Rattle.reference.specs.Substitute.{plain}
 use Rattle.reference.specs.Apply.{past, renumber_label, renumber_head, renumber_leaf}
 use Rattle.reference.specs.Run.{encode_entry}
 use Rattle.planned.specs.Layout.{made_if}
+use Rattle.planned.specs.Laws.Leaves.{leaf_length}
 use Rattle.writing.specs.Taken.{counters_of}
 use Rattle.copies.specs.declared.pen.Pen.{Pen}
 use Rattle.copies.specs.Pen.{Fits}
 use Rattle.copies.specs.Heads.{head_if, HeadRoom, MarkedRoom, LeafRoom}
 use Rattle.copies.specs.Laws.Grown.{are_low, grows_label}
-use Rattle.copies.specs.Laws.Renumbered.{head_entries_of, head_counters_of, leaf_length_of}
+use Rattle.copies.specs.Laws.Renumbered.{head_entries_of, head_counters_of}
 use Rattle.copies.proofs.Laws.Heads.{head_long}
 
 pub made_leaf : {B : Type 0} (b : Bool) (h : ElementHead) (l : Leaf) → ◌≡◌ {A = Element B} (made_if b (leaf h l)) (leaf (head_if b h) l)
@@ -83,7 +84,7 @@ pub leaf_fits : {ws : List ℕ} {end at there : ℕ} {out t : List ℕ} {p : Pen
     → LeafRoom (leaf_kind l) at there out t p
 unfolding renumber_leaf encode_leaf leaf_kind encode_entry
 leaf_fits {ws} {end} {at} {there} {out} {t} {p} l s f =
-    let long = leaf_length_of l (counters_of p.counters) in
+    let long = leaf_length l (counters_of p.counters) in
     let q = stands_length s.stands in
     let w = f.words in
     let e = f.entries in

@@ -3,10 +3,11 @@ use Rattle.std.specs.Prelude.{ℕ, zero, suc, ◌<◌, ◌≤◌, ◌^◌, ◌�
 use mathlib.Core.List.{List, [], ◌∷◌}
 use native.Mathlib.Omega.{arith}
 use Rattle.std.proofs.Common.{ltb-true, lt-ltb}
+use Rattle.std.proofs.lemmas.Bool.{and_from}
+use Rattle.std.specs.Cmp.{first_so, second_so}
 use Rattle.grammar.specs.Tree.{Label, unlabelled, labelled, Leaf, epsilon, action, predicate, call, token, terminal, end_of_input, Element}
 use Rattle.grammar.specs.Tree.{leaf, block, Block, Counters}
 use Rattle.grammar.specs.Lists.{all}
-use Rattle.grammar.specs.Laws.Parse.{both_true, left_true, right_true}
 use Rattle.reference.specs.Numbers.{counter_end}
 use Rattle.reference.specs.Apply.{Fresh, fresh_each, past, renumber_label, renumber_head, renumber_leaf, renumber_element}
 use Rattle.reference.specs.Apply.{renumber_elements}
@@ -44,25 +45,25 @@ pub record AreLow (c : Counters) : Type 0 where
 pub are_low : (c : Counters) → are_words c ≡ true → AreLow c
 unfolding are_words all
 are_low c t =
-    let u = right_true (ltb c.alternative counter_end) _ t in
-    let v = right_true (ltb c.element counter_end) _ u in
-    let w = right_true (ltb c.label counter_end) _ v in
-    let x = right_true (ltb c.action counter_end) _ w in
+    let u = second_so (ltb c.alternative counter_end) _ t in
+    let v = second_so (ltb c.element counter_end) _ u in
+    let w = second_so (ltb c.label counter_end) _ v in
+    let x = second_so (ltb c.action counter_end) _ w in
     record {
-      alternative = ltb-true _ _ (left_true (ltb c.alternative counter_end) _ t);
-      element = ltb-true _ _ (left_true (ltb c.element counter_end) _ u);
-      label = ltb-true _ _ (left_true (ltb c.label counter_end) _ v);
-      action = ltb-true _ _ (left_true (ltb c.action counter_end) _ w);
-      predicate = ltb-true _ _ (left_true (ltb c.predicate counter_end) _ x);
+      alternative = ltb-true _ _ (first_so (ltb c.alternative counter_end) _ t);
+      element = ltb-true _ _ (first_so (ltb c.element counter_end) _ u);
+      label = ltb-true _ _ (first_so (ltb c.label counter_end) _ v);
+      action = ltb-true _ _ (first_so (ltb c.action counter_end) _ w);
+      predicate = ltb-true _ _ (first_so (ltb c.predicate counter_end) _ x);
     }
 
 pub low_words : (c : Counters) → AreLow c → are_words c ≡ true
 unfolding are_words all
 low_words c l =
-    both_true _ _ (lt-ltb _ _ l.alternative)
-    (both_true _ _ (lt-ltb _ _ l.element)
-    (both_true _ _ (lt-ltb _ _ l.label)
-    (both_true _ _ (lt-ltb _ _ l.action) (both_true _ _ (lt-ltb _ _ l.predicate) refl))))
+    and_from _ _ (lt-ltb _ _ l.alternative)
+    (and_from _ _ (lt-ltb _ _ l.element)
+    (and_from _ _ (lt-ltb _ _ l.label)
+    (and_from _ _ (lt-ltb _ _ l.action) (and_from _ _ (lt-ltb _ _ l.predicate) refl))))
 
 -- Where the counters at the end are words, so are those on the way.
 pub words_before : {c e : Counters} → Grown c e → are_words e ≡ true → are_words c ≡ true

@@ -57,17 +57,6 @@ leaf_kind_of (token n) c = refl
 leaf_kind_of terminal c = refl
 leaf_kind_of end_of_input c = refl
 
--- Its payload stays as long.
-pub leaf_length_of : (l : Leaf) (c : Counters) → length (encode_leaf (renumber_leaf l c).node) ≡ length (encode_leaf l)
-unfolding renumber_leaf encode_leaf
-leaf_length_of epsilon c = refl
-leaf_length_of (action a) c = refl
-leaf_length_of (predicate p) c = refl
-leaf_length_of (call k) c = refl
-leaf_length_of (token n) c = refl
-leaf_length_of terminal c = refl
-leaf_length_of end_of_input c = refl
-
 module _ {B : Type 0} (enc : B → List ℕ) (fresh : B → Counters → Fresh B) where
   -- An element that is a leaf.
   module _ (h : ElementHead) (l : Leaf) (c : Counters) where

@@ -12,6 +12,7 @@ use Rattle.grammar.specs.Laws.Stands.{stands_length}
 use Rattle.grammar.specs.Laws.Opened.{first_spans}
 use Rattle.records.specs.Rules.{row, places_from}
 use Rattle.records.specs.declared.rules.Rules.{Rules}
+use Rattle.records.specs.Laws.Places.{places_length}
 use Rattle.reach.specs.Rows.{bit}
 use Rattle.analysis.specs.Facts.{Standing, Among}
 use Rattle.analysis.proofs.Laws.Standing.{few, all_rules}
@@ -68,11 +69,6 @@ place_next {ws} {end} t u rest (r ∷ front) at q s =
     let f = first_spans s in
     let e : f.0 ≡ at + length (encode_rule (encode_block body_depth) r) = let z = stands_length f.1.stands in omega arith in
     place_next {ws = ws} {end = end} t u rest front (at + length (encode_rule (encode_block body_depth) r)) q (rw (← e) f.2)
-
-places_length : (at : ℕ) (rs : List Rule) → length (places_from at rs) ≡ length rs
-unfolding places_from
-places_length at [] = refl
-places_length at (r ∷ rs) = ap suc (places_length (at + length (encode_rule (encode_block body_depth) r)) rs)
 
 module _ {ws : List ℕ} {end : ℕ} {rules : Rules} (s : Standing ws end rules) where
   abbrev rs : List Rule

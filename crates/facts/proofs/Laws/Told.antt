@@ -1,83 +1,43 @@
 -- What is told of a sheet: the facts found and the cycles listed are those of the rules that were read.
 use Prim.Native.Nat.{ℕ, ◌≤◌}
 use mathlib.Core.Path.{◌≡◌, refl, sym, ap, ◌∙◌, subst}
-use mathlib.Core.List.{List, [], ◌∷◌, map}
+use mathlib.Core.List.{List, [], ◌∷◌}
 use mathlib.Core.Bool.{Bool}
 use native.Mathlib.Omega.{arith}
-use lib.ListN.{length, get_or, replicate, length-map, length-replicate}
-use borrow.Author.Tests.{lt-ltb}
+use lib.ListN.{length, get_or, replicate, length-replicate}
 use Rattle.grammar.specs.Numbers.{rule_limit, work_bytes}
 use Rattle.grammar.specs.Words.{words}
-use Rattle.grammar.specs.Tree.{Rule, body_depth}
+use Rattle.grammar.specs.Tree.{body_depth}
 use Rattle.grammar.specs.Ids.{rule_ids, rule_names, is_distinct}
 use Rattle.grammar.specs.Lists.{distinct}
 use Rattle.grammar.specs.Corners.{Corners}
-use Rattle.grammar.specs.Laws.Parse.{left_true, right_true}
 use Rattle.grammar.specs.Laws.Whole.{valid_parts}
-use Rattle.reference.specs.Analysis.{Grammar, row_ids, row_of, grammar_of, left_corner_cycles}
+use Rattle.reference.specs.Analysis.{grammar_of, left_corner_cycles}
 use Rattle.records.specs.Rules.{row}
 use Rattle.records.specs.declared.rules.Rules.{Rules}
 use Rattle.words.specs.Room.{Room}
 use Rattle.sheet.specs.Answer.{read_lent, work_after, ReadAs}
 use Rattle.sheet.specs.declared.answer.Reading.{Reading}
 use Rattle.std.specs.Prelude.{Ok, Err}
+use Rattle.std.specs.Cmp.{first_so, second_so}
 use Rattle.words.specs.declared.numbers.Refusal.{Refusal}
 use Rattle.words.specs.Refusal.{refusal_number}
 use Rattle.sheet.proofs.Laws.Sizes.{is_refused, was_read}
 use Rattle.sheet.specs.Read.{WasRead}
-use Rattle.reach.specs.Rows.{holds, Behind}
+use Rattle.reach.specs.Rows.{Behind}
 use Rattle.analysis.specs.Survey.{reading}
-use Rattle.analysis.specs.Facts.{Among, Standing, FactsOf, FactsFound}
-use Rattle.reach.specs.Listed.{row_at, corner_rows, Numbered, Edges, Ids, CycleRows, CyclesIn}
+use Rattle.analysis.specs.Facts.{Standing, FactsOf, FactsFound}
+use Rattle.reach.specs.Listed.{CycleRows, CyclesIn}
 use Rattle.analysis.specs.Rounds.{no_rows}
 use Rattle.facts.specs.Told.{TellsRules, RulesTold, TellsSheet, Tells}
 use Rattle.analysis.specs.declared.rounds.Marks.{Marks}
 use Rattle.reach.proofs.Laws.Rows.{two_words}
-use Rattle.analysis.proofs.Laws.Standing.{key_at, all_rules, id_at, rule_of}
+use Rattle.analysis.proofs.Laws.Standing.{all_rules}
+use Rattle.analysis.proofs.Laws.Edges.{are_ids, are_edges}
 
 -- zeros all over
 pub rows_long : {rows : List (List ℕ)} → rows ≡ no_rows → length rows ≡ rule_limit
 rows_long e = ap length e ∙ length-replicate rule_limit (replicate {A = ℕ} 2 0)
-
-ids_same : (c : Corners) (g : Grammar) (rs : List Rule) → row_ids (map (row_of c g body_depth) rs) ≡ rule_ids rs
-ids_same c g [] = refl
-ids_same c g (r ∷ rs) = ap (λ xs. r.id ∷ xs) (ids_same c g rs)
-
-module _ {ws : List ℕ} {end : ℕ} {rules : Rules} (s : Standing ws end rules) where
-  abbrev rs : List Rule
-  rs = s.rows.found.trees
-
-  module _ (c : Corners) (g : Grammar) where
-    numbered : Numbered (corner_rows c g body_depth rs) rules.n
-    numbered =
-        record {
-          count = all_rules s.rows ∙ sym (length-map rs (row_of c g body_depth));
-          apart = ap distinct (ids_same c g rs) ∙ s.ids;
-        }
-
-    row_is : {i : ℕ} (a : Among rs i) → row_at (corner_rows c g body_depth rs) i ≡ row_of c g body_depth a.rule
-    row_is a = key_at (row_of c g body_depth) (record { id = 0; to = [] }) a
-
-    pub are_ids : Ids (corner_rows c g body_depth rs) rules.n rules.ids
-    are_ids =
-        record {
-          numbered = numbered;
-          at = λ i l. let a = rule_of s.rows i l in id_at s.rows a ∙ sym (ap (λ r. r.id) (row_is a));
-        }
-
-  module _ {c : Corners} {calls corners : List (List ℕ)} {m : Marks} (f : FactsOf c rs rules.ids calls corners m) where
-    pub are_edges : Edges (corner_rows c (grammar_of body_depth rs) body_depth rs) rules.n corners
-    unfolding grammar_of holds
-    are_edges =
-        record {
-          numbered = numbered c (grammar_of body_depth rs);
-          bits = λ i j l k.
-              let a = rule_of s.rows i l in
-              let b = rule_of s.rows j k in
-              (f.rows.corner_rows i a).at j
-              ∙ rw (row_is c (grammar_of body_depth rs) a, row_is c (grammar_of body_depth rs) b, id_at s.rows b, lt-ltb j (length rs) (let e = all_rules s.rows in omega arith))
-              refl;
-        }
 
 -- what is found and listed is told
 pub rules_told : {ws : List ℕ} {end : ℕ} {rules : Rules} {past : Bool} {m : Marks} {count : ℕ} {cs₀ ks₀ ys₀ cs ks ys : List (List ℕ)}
@@ -104,16 +64,16 @@ rules_told {ws} {end} {rules} {past} {m} {count} {cs = cs} {ks} {ys} a b d f x y
         }
 
 -- a sheet that was read
-read_stands : {bs work : List ℕ} {end : ℕ} {rules : Rules} → WasRead bs work end rules → Standing (words bs) end rules
+unfoldable pub read_stands : {bs work : List ℕ} {end : ℕ} {rules : Rules} → WasRead bs work end rules → Standing (words bs) end rules
 unfolding is_distinct
 read_stands w =
     let d = (valid_parts w.tree w.good).distinct in
     record {
       rows = w.rows;
-      ids = ap (λ rs. distinct (rule_ids rs)) w.trees ∙ left_true (distinct (rule_ids w.tree.rules)) _ d;
+      ids = ap (λ rs. distinct (rule_ids rs)) w.trees ∙ first_so (distinct (rule_ids w.tree.rules)) _ d;
       names =
           ap (λ rs. distinct (rule_names rs)) w.trees
-          ∙ left_true (distinct (rule_names w.tree.rules)) _ (right_true (distinct (rule_ids w.tree.rules)) _ d);
+          ∙ first_so (distinct (rule_names w.tree.rules)) _ (second_so (distinct (rule_ids w.tree.rules)) _ d);
     }
 
 module _ {bs work : List ℕ} {end : ℕ} {rules : Rules} (w : WasRead bs work end rules) where

@@ -1,6 +1,8 @@
 -- The laws of the codec: the reader and the encoder are inverse to one another, and the reader's answers are the ones that it may give.
 use Rattle.std.specs.Prelude.{ℕ, zero, suc, ◌%◌, ◌≤◌, ◌<◌, ◌≡◌, refl, List, [], ◌∷◌, true, ◌&&◌, length, get_or, leb, ltb}
 use Rattle.std.proofs.Common.{ap, ◌∙◌, arith, length-append, leb-true, ltb-true, eqb-true, le-leb, lt-ltb, eq-eqb}
+use Rattle.std.proofs.lemmas.Bool.{and_from}
+use Rattle.std.specs.Cmp.{first_so, second_so}
 use Rattle.grammar.specs.Numbers.{least_bytes, most_bytes, most_words, word_end}
 use Rattle.grammar.specs.Tree.{Sheet}
 use Rattle.grammar.specs.Words.{words, bytes}
@@ -10,23 +12,23 @@ use Rattle.grammar.specs.Valid.{valid, fits}
 use Rattle.grammar.specs.Reading.{refused, sheet, refusals, is_length, read_words, read}
 use Rattle.grammar.specs.Laws.Words.{AreWords, length_words, length_bytes, words_bytes, bytes_words, words_bound}
 use Rattle.grammar.specs.Laws.Stands.{stands_self}
-use Rattle.grammar.specs.Laws.Parse.{both_true, left_true, right_true, either}
+use Rattle.grammar.specs.Laws.Parse.{either}
 use Rattle.grammar.specs.Laws.Whole.{Reads, refuses, reads_map, reads_sheet, reads_refused, parts_valid, valid_parts, IsSheet}
 use Rattle.grammar.specs.Laws.Whole.{words_sound, words_complete}
 
 all_words : (ws : List ℕ) → all (λ w. ltb w word_end) ws ≡ true → AreWords ws
 unfolding all
 all_words [] t i = omega arith
-all_words (w ∷ ws) t zero = ltb-true w word_end (left_true (ltb w word_end) _ t)
-all_words (w ∷ ws) t (suc i) = all_words ws (right_true (ltb w word_end) _ t) i
+all_words (w ∷ ws) t zero = ltb-true w word_end (first_so (ltb w word_end) _ t)
+all_words (w ∷ ws) t (suc i) = all_words ws (second_so (ltb w word_end) _ t) i
 
 words_all : (ws : List ℕ) → AreWords ws → all (λ w. ltb w word_end) ws ≡ true
 unfolding all
 words_all [] h = refl
-words_all (w ∷ ws) h = both_true (ltb w word_end) _ (lt-ltb w word_end (h 0)) (words_all ws λ i. h (suc i))
+words_all (w ∷ ws) h = and_from (ltb w word_end) _ (lt-ltb w word_end (h 0)) (words_all ws λ i. h (suc i))
 
 -- An encoding holds at least the trailer.
-encode_length : (s : Sheet) → 8 ≤ length (encode s)
+pub encode_length : (s : Sheet) → 8 ≤ length (encode s)
 unfolding encode
 encode_length s = simp length-append (omega arith)
 
@@ -38,15 +40,15 @@ record Size (n : ℕ) : Type 0 where
 
 size : (n : ℕ) → is_length n ≡ true → Size n
 size n t =
-    let u = right_true (leb least_bytes n) _ t in
+    let u = second_so (leb least_bytes n) _ t in
     record {
-      least = leb-true least_bytes n (left_true (leb least_bytes n) _ t);
-      most = leb-true n most_bytes (left_true (leb n most_bytes) _ u);
-      whole = eqb-true (n % 4) 0 (right_true (leb n most_bytes) _ u);
+      least = leb-true least_bytes n (first_so (leb least_bytes n) _ t);
+      most = leb-true n most_bytes (first_so (leb n most_bytes) _ u);
+      whole = eqb-true (n % 4) 0 (second_so (leb n most_bytes) _ u);
     }
 
 is_length_lem : (n : ℕ) → Size n → is_length n ≡ true
-is_length_lem n z = both_true _ _ (le-leb least_bytes n z.least) (both_true _ _ (le-leb n most_bytes z.most) (eq-eqb (n % 4) 0 z.whole))
+is_length_lem n z = and_from _ _ (le-leb least_bytes n z.least) (and_from _ _ (le-leb n most_bytes z.most) (eq-eqb (n % 4) 0 z.whole))
 
 -- What the reader finds, in one statement.
 record IsFound (bs : List ℕ) (s : Sheet) : Type 0 where
@@ -70,8 +72,8 @@ reads_back_words s v = words_complete (encode s) s (stands_self (encode s)) (val
 pub reads_back_lem : (s : Sheet) → valid s ≡ true → fits s ≡ true → read (bytes (encode s)) ≡ sheet s
 unfolding read fits
 reads_back_lem s v f =
-    let m = leb-true (length (encode s)) most_words (left_true (leb (length (encode s)) most_words) _ f) in
-    let w = all_words (encode s) (right_true (leb (length (encode s)) most_words) _ f) in
+    let m = leb-true (length (encode s)) most_words (first_so (leb (length (encode s)) most_words) _ f) in
+    let w = all_words (encode s) (second_so (leb (length (encode s)) most_words) _ f) in
     let h = encode_length s in
     let l = length_bytes (encode s) in
     let z : Size (length (bytes (encode s))) = record { least = omega arith; most = omega arith; whole = omega arith } in
@@ -95,7 +97,7 @@ accepted_valid bs b s e =
     let l = length_words bs in
     let q = x.fitting.most in
     let f : (leb (length (encode s)) most_words && all (λ w. ltb w word_end) (encode s)) ≡ true =
-    rw x.tree.words (both_true _ _ (le-leb (length (words bs)) most_words (omega arith)) (words_all (words bs) (words_bound bs b))) in
+    rw x.tree.words (and_from _ _ (le-leb (length (words bs)) most_words (omega arith)) (words_all (words bs) (words_bound bs b))) in
     (parts_valid s x.tree.parts, f)
 
 -- Two valid trees with the same encoding are equal.

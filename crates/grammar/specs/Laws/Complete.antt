@@ -8,6 +8,8 @@ use Rattle.std.proofs.Math.Bool.{true}
 use native.Mathlib.Omega.{arith}
 use Rattle.std.proofs.Math.ListN.{get_or}
 use Rattle.std.proofs.Math.Dec.{leb}
+use Rattle.std.proofs.lemmas.Bool.{and_from}
+use Rattle.std.specs.Cmp.{first_so, second_so}
 use Rattle.grammar.specs.Numbers.{most_rule_flags, most_alternative_flag, one_or_more_nongreedy, block_kind, kind_end}
 use Rattle.grammar.specs.Stands.{Spans, Stands}
 use Rattle.grammar.specs.Tree.{Reference, ElementHead, Leaf, epsilon, action, predicate, call, token, terminal, end_of_input, leaf}
@@ -22,7 +24,7 @@ use Rattle.grammar.specs.Read.{leaf_at, is_head, head_at, payload_at, element_at
 use Rattle.grammar.specs.Valid.{ok_option, ok_reference, ok_label, ok_head, ok_leaf, ok_element, ok_alternative, ok_rule, ok_block}
 use Rattle.grammar.specs.Laws.Stands.{run_stands, stands_head, stands_length, stands_split}
 use Rattle.grammar.specs.Laws.Label.{is_label_lem, label_of_lem}
-use Rattle.grammar.specs.Laws.Parse.{both_true, left_true, right_true, then_got, given_got, Complete, many_complete}
+use Rattle.grammar.specs.Laws.Parse.{then_got, given_got, Complete, many_complete}
 
 -- A leaf's kind is packed with a quantifier, and is no block's.
 pub record LeafKind (l : Leaf) : Type 0 where
@@ -46,7 +48,7 @@ module _ (ws : List ℕ) (end : ℕ) where
   given_room_and : {A : Type 0} (n at : ℕ) (b : Bool) (f : Unit {0} → Got A) {r : Got A}
       → at + n ≤ end → b ≡ true → f tt ≡ r → given (room ws end n at && b) f ≡ r
   given_room_and n at b f h t e =
-      given_got (room ws end n at && b) f (both_true (room ws end n at) b (le-leb n (end - at) (omega arith)) t) e
+      given_got (room ws end n at && b) f (and_from (room ws end n at) b (le-leb n (end - at) (omega arith)) t) e
 
   pub option_complete : Complete ws end (option_at ws end) encode_option ok_option
   unfolding option_at
@@ -99,14 +101,14 @@ module _ (ws : List ℕ) (end : ℕ) where
       let l = stands_length s.stands in
       let q : get_or ws (at + 2) 0 / kind_end ≡ h.quantifier = omega arith in
       let tq : leb (get_or ws (at + 2) 0 / kind_end) one_or_more_nongreedy ≡ true =
-      rw q (left_true (leb h.quantifier one_or_more_nongreedy) _ s.fine) in
-      let f = right_true (leb h.quantifier one_or_more_nongreedy) (ok_label h.label && all ok_option h.options) s.fine in
-      let fl = left_true (ok_label h.label) (all ok_option h.options) f in
+      rw q (first_so (leb h.quantifier one_or_more_nongreedy) _ s.fine) in
+      let f = second_so (leb h.quantifier one_or_more_nongreedy) (ok_label h.label && all ok_option h.options) s.fine in
+      let fl = first_so (ok_label h.label) (all ok_option h.options) f in
       let tl = ap₂ is_label w.1.1.0 w.1.1.1.0 ∙ is_label_lem h.label fl in
       let nl = ap₂ label_of w.1.1.0 w.1.1.1.0 ∙ label_of_lem h.label fl in (
-        given_room_and 6 at _ _ (omega arith) (both_true _ _ tq tl) (
+        given_room_and 6 at _ _ (omega arith) (and_from _ _ tq tl) (
             then_got _ (many_complete _ _ _ option_complete h.options _ (at + 6) p w.1.1.1.1.0
-            (record { stands = run_stands at 6 w.1.1.1.1.1; fine = right_true (ok_label h.label) _ f })) (
+            (record { stands = run_stands at 6 w.1.1.1.1.1; fine = second_so (ok_label h.label) _ f })) (
             λ i. got (record {
               id = stands_head s.stands i;
               carried = w.0 i;
@@ -137,27 +139,27 @@ module _ (ws : List ℕ) (end : ℕ) where
         let k = leaf_kind_lem l in
         let (e, m) = head_complete h (leaf_kind l) at p (omega arith) (record {
           stands = x;
-          fine = left_true (ok_head h) (ok_leaf l) s.fine;
+          fine = first_so (ok_head h) (ok_leaf l) s.fine;
         }) in
-        then_got _ e (rw m (leaf_payload h l p q (record { stands = y; fine = right_true (ok_head h) (ok_leaf l) s.fine })))
+        then_got _ e (rw m (leaf_payload h l p q (record { stands = y; fine = second_so (ok_head h) (ok_leaf l) s.fine })))
     element_complete at (block h b) q s =
         let (p, x, y) = stands_split (encode_head h block_kind) (enc b) s.stands in
-        let (e, m) = head_complete h block_kind at p (omega arith) (record { stands = x; fine = left_true (ok_head h) (ok b) s.fine }) in
-        then_got _ e (rw m (block_payload h b p q (record { stands = y; fine = right_true (ok_head h) (ok b) s.fine })))
+        let (e, m) = head_complete h block_kind at p (omega arith) (record { stands = x; fine = first_so (ok_head h) (ok b) s.fine }) in
+        then_got _ e (rw m (block_payload h b p q (record { stands = y; fine = second_so (ok_head h) (ok b) s.fine })))
 
     pub alternative_complete : Complete ws end (alternative_at ws end block_at) (encode_alternative enc) (ok_alternative ok)
     unfolding alternative_at encode_alternative ok_alternative
     alternative_complete at a q s =
         let w = s.stands.run.1 in
         let l = stands_length s.stands in
-        let f = right_true (leb a.flag most_alternative_flag) (all ok_option a.options && all (ok_element ok) a.elements) s.fine in
+        let f = second_so (leb a.flag most_alternative_flag) (all ok_option a.options && all (ok_element ok) a.elements) s.fine in
         let (p, x, y) =
         stands_split (each encode_option a.options) (each (encode_element enc) a.elements) (run_stands at 5 w.1.1.1.1) in
-        given_room_and 5 at _ _ (omega arith) (rw w.1.0 (left_true (leb a.flag most_alternative_flag) _ s.fine)) (
+        given_room_and 5 at _ _ (omega arith) (rw w.1.0 (first_so (leb a.flag most_alternative_flag) _ s.fine)) (
         then_got _ (many_complete _ _ _ option_complete a.options _ (at + 5) p w.1.1.0
-        (record { stands = x; fine = left_true (all ok_option a.options) _ f })) (
+        (record { stands = x; fine = first_so (all ok_option a.options) _ f })) (
         then_got _ (many_complete _ _ _ element_complete a.elements _ p q w.1.1.1.0
-        (record { stands = y; fine = right_true (all ok_option a.options) _ f })) (
+        (record { stands = y; fine = second_so (all ok_option a.options) _ f })) (
         λ i. got (record {
           id = stands_head s.stands i;
           carried = w.0 i;
@@ -171,12 +173,12 @@ module _ (ws : List ℕ) (end : ℕ) where
     rule_complete at r q s =
         let w = s.stands.run.1 in
         let l = stands_length s.stands in
-        let f = right_true (is_name r.name) (leb r.flags most_rule_flags && ok r.body) s.fine in
+        let f = second_so (is_name r.name) (leb r.flags most_rule_flags && ok r.body) s.fine in
         given_room_and 3 at _ _ (omega arith)
-        (rw (w.0, w.1.0) (both_true _ _ (left_true (is_name r.name) _ s.fine) (left_true (leb r.flags most_rule_flags) _ f))) (
+        (rw (w.0, w.1.0) (and_from _ _ (first_so (is_name r.name) _ s.fine) (first_so (leb r.flags most_rule_flags) _ f))) (
         then_got _ (complete (at + 3) r.body q (record {
           stands = run_stands at 3 w.1.1;
-          fine = right_true (leb r.flags most_rule_flags) _ f;
+          fine = second_so (leb r.flags most_rule_flags) _ f;
         })) (
         λ i. got (record { id = stands_head s.stands i; name = w.0 i; flags = w.1.0 i; body = r.body }) q))
 
@@ -209,5 +211,5 @@ module _ (ws : List ℕ) (end : ℕ) where
       let ly = stands_length y in
       rw (ne_eqb at end (λ z. omega arith), rules_at) (
       then_got _ (rule_complete _ _ _ (block_complete body_depth) at r p
-      (record { stands = x; fine = left_true (ok r) (all ok rs) s.fine })) (
-      then_got _ (rules_complete n p rs (omega arith) (record { stands = y; fine = right_true (ok r) (all ok rs) s.fine })) refl))
+      (record { stands = x; fine = first_so (ok r) (all ok rs) s.fine })) (
+      then_got _ (rules_complete n p rs (omega arith) (record { stands = y; fine = second_so (ok r) (all ok rs) s.fine })) refl))

@@ -4,9 +4,10 @@ use Rattle.std.proofs.Common.{sym, ap, ◌∙◌, subst, ⊎_elim, true≢false,
 use mathlib.Core.List.Memᴰ
 use mathlib.Core.List.{List, [], ◌∷◌, Memᴰ}
 use Rattle.std.proofs.lemmas.Bool.{not-true, eqb-false}
+use Rattle.std.specs.Cmp.{first_so, second_so}
 use Rattle.grammar.specs.Lists.{member, distinct}
 use Rattle.grammar.specs.Laws.Lists.{in_member}
-use Rattle.grammar.specs.Laws.Parse.{left_true, right_true, either}
+use Rattle.grammar.specs.Laws.Parse.{either}
 
 -- The list without the first x.
 taken : ℕ → List ℕ → List ℕ
@@ -33,9 +34,9 @@ pub no_more : (xs ys : List ℕ) → distinct xs ≡ true → ((x : ℕ) → Mem
 unfolding distinct
 no_more [] ys t h = omega arith
 no_more (x ∷ xs) ys t h =
-    let fresh = not-true (member x xs) (left_true (not (member x xs)) (distinct xs) t) in
+    let fresh = not-true (member x xs) (first_so (not (member x xs)) (distinct xs) t) in
     let ih =
-    no_more xs (taken x ys) (right_true (not (member x xs)) (distinct xs) t)
+    no_more xs (taken x ys) (second_so (not (member x xs)) (distinct xs) t)
     (λ z m. taken_other x ys (h z (Memᴰ.tail m)) (λ e. true≢false (sym (in_member (subst (λ y. Memᴰ y xs) e m)) ∙ fresh))) in
     let l = taken_length x ys (h x (Memᴰ.head refl)) in
     omega arith

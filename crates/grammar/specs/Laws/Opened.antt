@@ -1,6 +1,7 @@
 -- A tree that stands at a place, taken apart: the words of its head, and where its parts stand.
 use Rattle.std.specs.Prelude.{ℕ, suc, ◌+◌, ◌-◌, ◌*◌, ◌≤◌, ◌≡◌, refl, List, [], ◌∷◌, Bool, true, length, get_or, leb}
 use Rattle.std.proofs.Common.{sym, ◌∙◌, arith, length-append}
+use Rattle.std.specs.Cmp.{first_so, second_so}
 use Rattle.grammar.specs.Numbers.{most_rule_flags, most_alternative_flag, block_kind, kind_end}
 use Rattle.grammar.specs.Stands.{Spans, Stands}
 use Rattle.grammar.specs.Tree.{OptionDecl, Reference, ElementHead, Leaf, Element, leaf, block, AlternativeOf, Block, RuleOf}
@@ -11,7 +12,6 @@ use Rattle.grammar.specs.Read.{is_name}
 use Rattle.grammar.specs.Valid.{ok_head, ok_leaf, ok_element, ok_alternative, ok_block, ok_option, ok_rule}
 use Rattle.grammar.specs.Found.{Found, FoundMany, ElementSpans, AlternativeSpans, RuleSpans}
 use Rattle.grammar.specs.Laws.Stands.{stands_length, stands_split, stands_head, run_stands}
-use Rattle.grammar.specs.Laws.Parse.{left_true, right_true}
 
 -- Two words each.
 pairs : {A : Type 0} (enc : A → List ℕ) → ((a : A) → length (enc a) ≡ 2) → (as' : List A) → length (each enc as') ≡ 2 * length as'
@@ -32,8 +32,8 @@ module _ {ws : List ℕ} {end : ℕ} {A : Type 0} {enc : A → List ℕ} {ok : A
   first_spans {a} {as'} s =
       let t = stands_split (enc a) (each enc as') s.stands in (
         t.0,
-        record { stands = t.1; fine = left_true (ok a) (all ok as') s.fine },
-        record { stands = t.2; fine = right_true (ok a) (all ok as') s.fine },
+        record { stands = t.1; fine = first_so (ok a) (all ok as') s.fine },
+        record { stands = t.2; fine = second_so (ok a) (all ok as') s.fine },
       )
 
   module _ {n at : ℕ} (f : FoundMany ws end enc ok n at) (h : n ≡ 0 → ⊥) where
@@ -98,12 +98,12 @@ pub opened : {ws : List ℕ} {end d at q : ℕ} (e : Element (Block d)) → Elem
 unfolding encode_element ok_element
 opened {d = d} (leaf h l) s =
     let t = stands_split (encode_head h (leaf_kind l)) (encode_leaf l) s.stands in
-    opened_leaf t.0 (head_words_lem t.1 (left_true (ok_head h) (ok_leaf l) s.fine))
-    (record { stands = t.2; fine = right_true (ok_head h) (ok_leaf l) s.fine })
+    opened_leaf t.0 (head_words_lem t.1 (first_so (ok_head h) (ok_leaf l) s.fine))
+    (record { stands = t.2; fine = second_so (ok_head h) (ok_leaf l) s.fine })
 opened {d = d} (block h b) s =
     let t = stands_split (encode_head h block_kind) (encode_block d b) s.stands in
-    opened_block t.0 (head_words_lem t.1 (left_true (ok_head h) (ok_block d b) s.fine))
-    (record { stands = t.2; fine = right_true (ok_head h) (ok_block d b) s.fine })
+    opened_block t.0 (head_words_lem t.1 (first_so (ok_head h) (ok_block d b) s.fine))
+    (record { stands = t.2; fine = second_so (ok_head h) (ok_block d b) s.fine })
 
 -- A block's alternatives, where blocks may nest one less deep.
 pub record BlockWords (ws : List ℕ) (end d p : ℕ) (b : Block (suc d)) (q : ℕ) : Type 0 where
@@ -149,7 +149,7 @@ alternative_words_lem d {ws} {at = at} {a} {q} s =
       count = w.1.1.1.0;
       elements_span = rw (← x) (record {
         stands = t.2;
-        fine = right_true (all ok_option a.options) _ (right_true (leb a.flag most_alternative_flag) _ s.fine);
+        fine = second_so (all ok_option a.options) _ (second_so (leb a.flag most_alternative_flag) _ s.fine);
       });
     }
 
@@ -173,6 +173,6 @@ rule_words_lem d {at = at} {r} s =
       count = w.1.1.0;
       alternatives = record {
         stands = run_stands at 4 w.1.1.1;
-        fine = right_true (leb r.flags most_rule_flags) _ (right_true (is_name r.name) _ s.fine);
+        fine = second_so (leb r.flags most_rule_flags) _ (second_so (is_name r.name) _ s.fine);
       };
     }

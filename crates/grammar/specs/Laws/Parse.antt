@@ -1,29 +1,23 @@
 -- What a parser finds, and that it finds it: the rules for each way of making one parser from others.
 use Prim.Native.Nat.{ℕ, zero, suc, ◌≤◌}
-use Rattle.std.specs.Prelude.{◌≡◌, Bool, true, false, ◌&&◌, length}
+use Rattle.std.specs.Prelude.{◌≡◌, Bool, true, false, length}
 use Rattle.std.proofs.Math.Path.{refl, ap}
 use Rattle.std.proofs.Common.{subst₂, arith}
+use Rattle.std.proofs.lemmas.Bool.{and_from}
+use Rattle.std.specs.Cmp.{first_so, second_so}
 use mathlib.Core.List.{List, [], ◌∷◌}
 use Rattle.grammar.specs.Stands.{Spans}
 use Rattle.grammar.specs.Parse.{Got, got, bad, ◌then◌, given, many}
 use Rattle.grammar.specs.Lists.{each, all}
 use Rattle.grammar.specs.Laws.Stands.{stands_none, stands_length, stands_append, stands_split}
 
-pub both_true : (a b : Bool) → a ≡ true → b ≡ true → (a && b) ≡ true
-both_true true b p q = q
-both_true false b p q = p
-
-pub left_true : (a b : Bool) → (a && b) ≡ true → a ≡ true
-left_true true b p = refl
-left_true false b p = p
-
-pub right_true : (a b : Bool) → (a && b) ≡ true → b ≡ true
-right_true true b p = p
-right_true false b p = absurd (let z : ◌≡◌ {A = ℕ} 0 1 = cc in omega arith)
-
 pub either : {R : Type 0} (b : Bool) → (b ≡ true → R) → (b ≡ false → R) → R
 either true f g = f refl
 either false f g = g refl
+
+-- What cannot be, as two numbers that differ would be equal.
+pub never : {A : Type 0} → ◌≡◌ {A = ℕ} 0 1 → A
+never z = absurd (omega arith)
 
 -- What is found, if anything is, has the property P; a rule for each way of making a parser.
 pub data Yields {A : Type 0} (P : A → ℕ → Type 0) : Got A → Type 0 where
@@ -78,7 +72,7 @@ module _ {ws : List ℕ} {end : ℕ} {A : Type 0} (one : ℕ → Got A) (enc : A
       yields (
         record {
           stands = stands_append x.stands y.0.stands;
-          fine = both_true (ok a) (all ok as') x.fine y.0.fine;
+          fine = and_from (ok a) (all ok as') x.fine y.0.fine;
         },
         ap suc y.1,
       )
@@ -92,5 +86,5 @@ module _ {ws : List ℕ} {end : ℕ} {A : Type 0} (one : ℕ → Got A) (enc : A
       go [] at q s = let h = stands_length s.stands in ap {B = Got (List A)} (got []) (omega arith)
       go (a ∷ as') at q s =
           let t = stands_split (enc a) (each enc as') s.stands in
-          then_got _ (c at a t.0 (record { stands = t.1; fine = left_true (ok a) (all ok as') s.fine }))
-          (then_got _ (go as' t.0 q (record { stands = t.2; fine = right_true (ok a) (all ok as') s.fine })) refl)
+          then_got _ (c at a t.0 (record { stands = t.1; fine = first_so (ok a) (all ok as') s.fine }))
+          (then_got _ (go as' t.0 q (record { stands = t.2; fine = second_so (ok a) (all ok as') s.fine })) refl)

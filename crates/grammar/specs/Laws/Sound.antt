@@ -5,6 +5,8 @@ use Rattle.std.proofs.Math.Path.{refl, sym}
 use Rattle.std.proofs.Common.{◌∙◌}
 use native.Mathlib.Omega.{arith}
 use Rattle.std.proofs.Math.ListN.{length, get_or}
+use Rattle.std.proofs.lemmas.Bool.{and_from}
+use Rattle.std.specs.Cmp.{first_so, second_so}
 use borrow.Author.Tests.{leb-true, eqb-true}
 use Rattle.grammar.specs.Numbers.{one_or_more_nongreedy, action_kind, predicate_kind, block_kind, kind_end}
 use Rattle.grammar.specs.Stands.{Spans, Stands}
@@ -19,7 +21,7 @@ use Rattle.grammar.specs.Read.{is_head, head_at, payload_at, element_at, alterna
 use Rattle.grammar.specs.Valid.{ok_option, ok_reference, ok_head, ok_leaf, ok_element, ok_alternative, ok_rule, ok_block}
 use Rattle.grammar.specs.Laws.Stands.{first, stands_none, stands_two, stands_run, stands_length, stands_append}
 use Rattle.grammar.specs.Laws.Label.{label_fine, label_id_lem, label_name_lem}
-use Rattle.grammar.specs.Laws.Parse.{both_true, left_true, right_true, either, Yields, nothing, yields, yields_map, yields_then}
+use Rattle.grammar.specs.Laws.Parse.{either, Yields, nothing, yields, yields_map, yields_then}
 use Rattle.grammar.specs.Laws.Parse.{yields_given, Sound, many_sound}
 
 module _ (ws : List ℕ) (end : ℕ) where
@@ -30,7 +32,7 @@ module _ (ws : List ℕ) (end : ℕ) where
   yields_room_and : {A : Type 0} {P : A → ℕ → Type 0} (n at : ℕ) (b : Bool) (f : Unit {0} → Got A)
       → at ≤ end → (at + n ≤ end → b ≡ true → Yields P (f tt)) → Yields P (given (room ws end n at && b) f)
   yields_room_and n at b f h k = yields_given (room ws end n at && b) f λ t.
-      k (omega (arith, leb-true n (end - at) (left_true (room ws end n at) b t))) (right_true (room ws end n at) b t)
+      k (omega (arith, leb-true n (end - at) (first_so (room ws end n at) b t))) (second_so (room ws end n at) b t)
 
   pub option_sound : Sound ws end (option_at ws end) encode_option ok_option
   unfolding option_at
@@ -88,7 +90,7 @@ module _ (ws : List ℕ) (end : ℕ) where
       yields_then (many_sound _ _ _ option_sound (get_or ws (at + 5) 0) (at + 6) r) λ os q x.
       let i = get_or ws (at + 3) 0 in
       let n = get_or ws (at + 4) 0 in
-      let l = right_true (leb (get_or ws (at + 2) 0 / kind_end) one_or_more_nongreedy) (is_label i n) t in
+      let l = second_so (leb (get_or ws (at + 2) 0 / kind_end) one_or_more_nongreedy) (is_label i n) t in
       yields (record {
         stands =
             record {
@@ -101,8 +103,8 @@ module _ (ws : List ℕ) (end : ℕ) where
               );
             };
         fine =
-            both_true _ _ (left_true (leb (get_or ws (at + 2) 0 / kind_end) one_or_more_nongreedy) (is_label i n) t)
-            (both_true _ _ (label_fine i n l) x.0.fine);
+            and_from _ _ (first_so (leb (get_or ws (at + 2) 0 / kind_end) one_or_more_nongreedy) (is_label i n) t)
+            (and_from _ _ (label_fine i n l) x.0.fine);
       })
 
   module _ {B : Type 0} (block_at : ℕ → Got B) (enc : B → List ℕ) (ok : B → Bool) (sound : Sound ws end block_at enc ok) where
@@ -115,12 +117,12 @@ module _ (ws : List ℕ) (end : ℕ) where
         (λ t. rw (t, payload_at) (yields_then (sound p h) λ b q y.
         yields (record {
           stands = stands_append (rw (eqb-true kind block_kind t) at x.stands) y.stands;
-          fine = both_true _ _ x.fine y.fine;
+          fine = and_from _ _ x.fine y.fine;
         })))
         (λ t. rw (t, payload_at) (yields_then (leaf_sound kind p h) λ l q y.
         yields (record {
           stands = stands_append (rw (← y.sort) at x.stands) y.spans.stands;
-          fine = both_true _ _ x.fine y.spans.fine;
+          fine = and_from _ _ x.fine y.spans.fine;
         })))
 
     pub element_sound : Sound ws end (element_at ws end block_at) (encode_element enc) (ok_element ok)
@@ -144,7 +146,7 @@ module _ (ws : List ℕ) (end : ℕ) where
                   ),
                 );
               };
-          fine = both_true _ _ t (both_true _ _ x.0.fine y.0.fine);
+          fine = and_from _ _ t (and_from _ _ x.0.fine y.0.fine);
         })
 
     pub rule_sound : Sound ws end (rule_at ws end block_at) (encode_rule enc) (ok_rule ok)
@@ -155,8 +157,8 @@ module _ (ws : List ℕ) (end : ℕ) where
         yields (record {
           stands = record { run = (first ws at, (refl, (refl, stands_run at 3 x.stands))) };
           fine =
-              both_true _ _ (left_true (is_name (get_or ws (at + 1) 0)) _ t)
-              (both_true _ _ (right_true (is_name (get_or ws (at + 1) 0)) _ t) x.fine);
+              and_from _ _ (first_so (is_name (get_or ws (at + 1) 0)) _ t)
+              (and_from _ _ (second_so (is_name (get_or ws (at + 1) 0)) _ t) x.fine);
         })
 
   pub block_sound : (d : ℕ) → Sound ws end (block_at ws end d) (encode_block d) (ok_block d)
@@ -186,7 +188,7 @@ module _ (ws : List ℕ) (end : ℕ) where
       yields_then (rule_sound _ _ _ (block_sound body_depth) at h) λ r p x.
       yields_then (rules_sound n p (stands_length x.stands).1) λ rs q y.
       yields (record {
-        spans = record { stands = stands_append x.stands y.spans.stands; fine = both_true _ _ x.fine y.spans.fine };
+        spans = record { stands = stands_append x.stands y.spans.stands; fine = and_from _ _ x.fine y.spans.fine };
         ends = y.ends;
         few = omega (arith, y.few);
       }))

@@ -5,6 +5,8 @@ use Rattle.std.proofs.Common.{ap, subst}
 use Rattle.std.proofs.Math.Bool.{true}
 use native.Mathlib.Omega.{arith}
 use Rattle.std.proofs.Math.ListN.{length}
+use Rattle.std.proofs.lemmas.Bool.{and_from}
+use Rattle.std.specs.Cmp.{first_so, second_so}
 use borrow.Author.Tests.{leb-true, eqb-true, le-leb, eq-eqb}
 use Rattle.grammar.specs.Numbers.{trailer_words}
 use Rattle.grammar.specs.Stands.{Stands}
@@ -18,9 +20,9 @@ use Rattle.grammar.specs.Reading.{Reading, refused, sheet, refusals, trailer, un
 use Rattle.grammar.specs.Reading.{rules_end}
 use Rattle.grammar.specs.Reading.{preserved_ids, counters_of, rules_of, sheet_of, judge, read_words}
 use Rattle.grammar.specs.Laws.Stands.{first, stands_head, stands_length, stands_append, stands_within, stands_slice, slice_stands}
-use Rattle.grammar.specs.Laws.Stands.{stands_split, stands_whole}
-use Rattle.grammar.specs.Laws.Parse.{both_true, left_true, right_true, either, Yields, found, nothing, yields, yields_then}
-use Rattle.grammar.specs.Laws.Parse.{yields_given, then_got, given_got}
+use Rattle.grammar.specs.Laws.Stands.{stands_split, stands_whole, stands_self}
+use Rattle.grammar.specs.Laws.Parse.{either, Yields, found, nothing, yields, yields_then}
+use Rattle.grammar.specs.Laws.Parse.{yields_got, yields_given, then_got, given_got}
 use Rattle.grammar.specs.Laws.Sound.{RulesAt, rules_sound}
 use Rattle.grammar.specs.Laws.Complete.{rules_complete}
 
@@ -53,24 +55,31 @@ pub record Parts (s : Sheet) : Type 0 where
 pub parts_valid : (s : Sheet) → Parts s → valid s ≡ true
 unfolding valid ok_rules
 parts_valid s v =
-    both_true _ _ v.kind (both_true _ _ (both_true _ _ (both_true _ _ v.few v.rules) v.preserved)
-    (both_true _ _ v.distinct v.below))
+    and_from _ _ v.kind (and_from _ _ (and_from _ _ (and_from _ _ v.few v.rules) v.preserved)
+    (and_from _ _ v.distinct v.below))
 
 pub valid_parts : (s : Sheet) → valid s ≡ true → Parts s
 unfolding valid ok_rules
 valid_parts s v =
-    let r = right_true (is_kind s.kind) _ v in
-    let a = left_true (ok_rules s.rules && rising s.preserved) _ r in
-    let b = right_true (ok_rules s.rules && rising s.preserved) _ r in
-    let c = left_true (ok_rules s.rules) (rising s.preserved) a in
+    let r = second_so (is_kind s.kind) _ v in
+    let a = first_so (ok_rules s.rules && rising s.preserved) _ r in
+    let b = second_so (ok_rules s.rules && rising s.preserved) _ r in
+    let c = first_so (ok_rules s.rules) (rising s.preserved) a in
     record {
-      kind = left_true (is_kind s.kind) _ v;
-      few = left_true (leb (length s.rules) rule_limit) _ c;
-      rules = right_true (leb (length s.rules) rule_limit) _ c;
-      preserved = right_true (ok_rules s.rules) (rising s.preserved) a;
-      distinct = left_true (is_distinct s.rules) _ b;
-      below = right_true (is_distinct s.rules) _ b;
+      kind = first_so (is_kind s.kind) _ v;
+      few = first_so (leb (length s.rules) rule_limit) _ c;
+      rules = second_so (leb (length s.rules) rule_limit) _ c;
+      preserved = second_so (ok_rules s.rules) (rising s.preserved) a;
+      distinct = first_so (is_distinct s.rules) _ b;
+      below = second_so (is_distinct s.rules) _ b;
     }
+
+-- What 4 asks of a tree: the parts but for 5 and 6.
+pub record Records (s : Sheet) : Type 0 where
+  pub kind : is_kind s.kind ≡ true
+  pub few : leb (length s.rules) rule_limit ≡ true
+  pub rules : all (ok_rule (ok_block body_depth)) s.rules ≡ true
+  pub preserved : rising s.preserved ≡ true
 
 module _ (ws : List ℕ) where
   judge_reads : {Q : List Rule → ℕ → Type 0} {P : Sheet → Type 0} {g : Got (List Rule)} → Yields Q g
@@ -114,6 +123,27 @@ module _ (ws : List ℕ) where
         );
       }))
 
+  -- What passes 3 and 4 is encoded by these very words.
+  records_found : trailer_words ≤ length ws → is_trailer ws ≡ true → (rs : List Rule) (q : ℕ) → Found rs q
+      → (encode (sheet_of ws rs) ≡ ws) × Records (sheet_of ws rs)
+  unfolding is_trailer sheet_of
+  records_found h t rs q x =
+      let u = second_so (is_kind (unit_kind ws)) _ t in
+      let f = eqb-true (first_distance ws) (trailer ws) (first_so _ (leb (second_distance ws) (first_distance ws)) u) in
+      let g = leb-true (second_distance ws) (first_distance ws) (second_so (eqb (first_distance ws) (trailer ws)) _ u) in (
+        whole h f (omega arith) rs q x,
+        record {
+          kind = first_so (is_kind (unit_kind ws)) _ t;
+          few = le-leb (length rs) rule_limit x.rules.few;
+          rules = x.rules.spans.fine;
+          preserved = x.preserved;
+        },
+      )
+
+  pub stands_encoded : trailer_words ≤ length ws → is_trailer ws ≡ true → (rs : List Rule) (q : ℕ) → rules_of ws ≡ got rs q
+      → (encode (sheet_of ws rs) ≡ ws) × Records (sheet_of ws rs)
+  stands_encoded h t rs q e = records_found h t rs q (yields_got rules_of_sound e)
+
   -- What is found is valid and encoded by these very words.
   pub record IsSheet (s : Sheet) : Type 0 where
     pub words : encode s ≡ ws
@@ -122,21 +152,12 @@ module _ (ws : List ℕ) where
   sheet_found : trailer_words ≤ length ws → is_trailer ws ≡ true → (rs : List Rule) (q : ℕ) → Found rs q → is_distinct rs ≡ true
       → is_below (counters_of ws) rs ≡ true
       → IsSheet (sheet_of ws rs)
-  unfolding is_trailer sheet_of
+  unfolding sheet_of
   sheet_found h t rs q x d b =
-      let u = right_true (is_kind (unit_kind ws)) _ t in
-      let f = eqb-true (first_distance ws) (trailer ws) (left_true _ (leb (second_distance ws) (first_distance ws)) u) in
-      let g = leb-true (second_distance ws) (first_distance ws) (right_true (eqb (first_distance ws) (trailer ws)) _ u) in
+      let (e, r) = records_found h t rs q x in
       record {
-        words = whole h f (omega arith) rs q x;
-        parts = record {
-          kind = left_true (is_kind (unit_kind ws)) _ t;
-          few = le-leb (length rs) rule_limit x.rules.few;
-          rules = x.rules.spans.fine;
-          preserved = x.preserved;
-          distinct = d;
-          below = b;
-        };
+        words = e;
+        parts = record { kind = r.kind; few = r.few; rules = r.rules; preserved = r.preserved; distinct = d; below = b };
       }
 
   pub words_sound : trailer_words ≤ length ws → Reads IsSheet (read_words ws)
@@ -191,12 +212,12 @@ module _ (ws : List ℕ) where
       let (o, a, b) = stands_split (encode_rules s.rules) s.preserved x in
       placed_at s o p a b c
 
-  module _ (s : Sheet) (p : Placed s) (v : Parts s) where
+  module _ (s : Sheet) (p : Placed s) (v : Records s) where
     is_trailer_complete : is_trailer ws ≡ true
     unfolding is_trailer
     is_trailer_complete =
         let k : is_kind (unit_kind ws) ≡ true = rw p.kind v.kind in
-        both_true _ _ k (both_true _ _ (eq-eqb _ _ p.first_distance_is) (le-leb _ _ p.second_distance_is))
+        and_from _ _ k (and_from _ _ (eq-eqb _ _ p.first_distance_is) (le-leb _ _ p.second_distance_is))
 
     rules_of_complete : rules_of ws ≡ got s.rules (rules_end ws)
     unfolding rules_of
@@ -209,12 +230,21 @@ module _ (ws : List ℕ) where
     unfolding sheet_of
     sheet_of_complete = λ i. record { kind = p.kind i; rules = s.rules; preserved = p.preserved i; counters = p.counters i }
 
-    placed_complete : read_words ws ≡ sheet s
-    unfolding read_words judge
-    placed_complete =
-        let b : is_below (counters_of ws) s.rules ≡ true = rw p.counters v.below in
-        rw (is_trailer_complete, read_words) (rw rules_of_complete (rw (v.distinct, b, judge) (ap sheet sheet_of_complete)))
+  placed_complete : (s : Sheet) → Placed s → Parts s → read_words ws ≡ sheet s
+  unfolding read_words judge
+  placed_complete s p v =
+      let r : Records s = record { kind = v.kind; few = v.few; rules = v.rules; preserved = v.preserved } in
+      let b : is_below (counters_of ws) s.rules ≡ true = rw p.counters v.below in
+      rw (is_trailer_complete s p r, read_words)
+      (rw (rules_of_complete s p r) (rw (v.distinct, b, judge) (ap sheet (sheet_of_complete s p r))))
 
   -- A valid sheet that these words encode is found.
   pub words_complete : (s : Sheet) → Stands ws (length ws) (encode s) 0 (length ws) → Parts s → read_words ws ≡ sheet s
   words_complete s t v = placed_complete s (placed s t) v
+
+-- What is encoded of a tree that 4 allows is found again.
+pub encoded_stands : (s : Sheet) → Records s
+    → (is_trailer (encode s) ≡ true) × (rules_of (encode s) ≡ got s.rules (rules_end (encode s))) × (sheet_of (encode s) s.rules ≡ s)
+encoded_stands s v =
+    let p = placed (encode s) s (stands_self (encode s)) in
+    (is_trailer_complete (encode s) s p v, rules_of_complete (encode s) s p v, sheet_of_complete (encode s) s p v)

@@ -1,6 +1,7 @@
 -- Words and bytes: each way round is the identity, where a word stands in bytes, and what it is to write one.
 use Rattle.std.specs.Prelude.{ℕ, zero, suc, ◌+◌, ◌*◌, ◌/◌, ◌%◌, ◌≤◌, ◌<◌, ◌≡◌, refl, List, [], ◌∷◌, length, get_or, set}
 use Rattle.std.proofs.Common.{ap, ap₂, arith}
+use mathlib.Core.List.{Memᴰ}
 use Rattle.grammar.specs.Numbers.{word_end}
 use Rattle.grammar.specs.Words.{word_of, words, bytes}
 
@@ -11,7 +12,13 @@ AreBytes bs = (i : ℕ) → get_or bs i 0 < 256
 abbrev pub AreWords : List ℕ → Type 0
 AreWords ws = (i : ℕ) → get_or ws i 0 < word_end
 
-four : (i : ℕ) → 4 * suc i ≡ suc (suc (suc (suc (4 * i))))
+-- Numbers of which each is a word are words.
+pub in_words : (ws : List ℕ) → ((w : ℕ) → Memᴰ w ws → w < word_end) → AreWords ws
+in_words [] h i = omega arith
+in_words (w ∷ ws) h zero = h w (Memᴰ.head refl)
+in_words (w ∷ ws) h (suc i) = in_words ws (λ x m. h x (Memᴰ.tail m)) i
+
+pub four : (i : ℕ) → 4 * suc i ≡ suc (suc (suc (suc (4 * i))))
 four i = omega arith
 
 four_more : (i k : ℕ) → 4 * suc i + k ≡ suc (suc (suc (suc (4 * i + k))))

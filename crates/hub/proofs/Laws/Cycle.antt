@@ -16,8 +16,8 @@ use Rattle.reference.specs.Analysis.{Grammar, Row, ids_of, row_ids, row_of, reac
 use Rattle.records.specs.declared.rules.Rules.{Rules}
 use Rattle.reach.specs.Rows.{RowOf}
 use Rattle.analysis.specs.Facts.{Among, Standing}
+use Rattle.analysis.proofs.Laws.Rounded.{is_among}
 use Rattle.hub.specs.Grounds.{rules_of, grammar_at, IsCycle}
-use Rattle.hub.proofs.Laws.Grounds.{is_among}
 
 -- A way begins with an edge.
 first_edge : {rows : List Row} {i j : ℕ} → Way rows i j → (k : ℕ) × Edge rows i k

@@ -1,7 +1,6 @@
 -- What rows say of rules that stand in a sheet, by ids: a bit is membership, a name's rule is its target, an id's is that rule.
 use Prim.Native.Nat.{ℕ, suc, ◌<◌, ◌≤◌}
-use mathlib.Core.Path.{◌≡◌, refl, sym, ap, ◌∙◌, subst}
-use mathlib.Core.List.Memᴰ
+use mathlib.Core.Path.{◌≡◌, refl, sym, ap, ◌∙◌}
 use mathlib.Core.List.{List, [], ◌∷◌, Memᴰ}
 use mathlib.Core.Option.{Option, none, some}
 use mathlib.Core.Bool.{Bool, true, false, ◌||◌, true≢false, and-false, or-false}
@@ -9,22 +8,23 @@ use native.Mathlib.Omega.{arith}
 use lib.ListN.{get_or, length-map}
 use lib.Dec.{eqb, ltb}
 use borrow.Author.Tests.{eqb-true, eq-eqb, lt-ltb, ltb-true, ltb-false}
+use Rattle.std.specs.Cmp.{first_so, second_so}
 use Rattle.grammar.specs.Tree.{Rule, body_depth}
-use Rattle.grammar.specs.Lists.{member, keep, distinct}
-use Rattle.grammar.specs.Laws.Lists.{member_in, in_member, in_map}
-use Rattle.grammar.specs.Laws.Parse.{either, left_true, right_true}
-use Rattle.graph.specs.Members.{one_with, in_keep, keep_in}
+use Rattle.grammar.specs.Lists.{member}
+use Rattle.grammar.specs.Laws.Lists.{member_in}
+use Rattle.grammar.specs.Laws.Parse.{either}
+use Rattle.graph.specs.Members.{one_with}
 use Rattle.reference.specs.Analysis.{Grammar, names_of, ids_of, target, rule_with_id, collect_calls_into, grammar_of}
 use Rattle.records.specs.declared.rules.Rules.{Rules}
 use Rattle.reach.specs.Rows.{bit, holds, edge, RowOf}
 use Rattle.reach.proofs.Laws.Graph.{in_at}
-use Rattle.reach.proofs.Laws.Listed.{same_test}
 use Rattle.analysis.specs.Names.{is_named, At, Nowhere}
 use Rattle.analysis.specs.Facts.{Among, Standing}
 use Rattle.analysis.proofs.Laws.Seen.{any_none}
 use Rattle.analysis.proofs.Laws.Agree.{agrees, behind}
 use Rattle.analysis.proofs.Laws.Standing.{among, few, all_rules, id_at, key_at, one_rule}
 use Rattle.analysis.specs.declared.rounds.Marks.{Marks}
+use Rattle.analysis.proofs.Laws.Rounded.{is_among}
 use Rattle.hub.specs.Corner.{Tells}
 use Rattle.hub.specs.Grounds.{Known, rules_of, grammar_at}
 use Rattle.hub.proofs.Laws.Lists.{first_only}
@@ -36,7 +36,7 @@ row_bit {n = n} r {i} l = r.at i ∙ rw (lt-ltb i n l) refl
 
 pub row_low : {ids : List ℕ} {n : ℕ} {xs row : List ℕ} → RowOf ids n xs row → {i : ℕ} → bit row i ≡ true → i < n
 unfolding holds
-row_low {n = n} r {i} t = ltb-true i n (left_true (ltb i n) _ (sym (r.at i) ∙ t))
+row_low {n = n} r {i} t = ltb-true i n (first_so (ltb i n) _ (sym (r.at i) ∙ t))
 
 -- A row by the bits of the rules that are there, and what is behind them.
 pub row_of : {ids : List ℕ} {n : ℕ} {xs row : List ℕ} → ((j : ℕ) → j < n → bit row j ≡ member (get_or ids j 0) xs)
@@ -52,27 +52,10 @@ row_of {ids} {n} {xs} {row} f g =
 pub row_none : {ids : List ℕ} {n : ℕ} {xs row : List ℕ} → RowOf ids n xs row → (j : ℕ) → n ≤ j → bit row j ≡ false
 row_none {row = row} r j l = either (bit row j) (λ t. absurd (let m = row_low r t in omega arith)) (λ f. f)
 
-pub is_among : {rs : List Rule} {i : ℕ} (a : Among rs i) → Memᴰ a.rule rs
-is_among a = subst (Memᴰ a.rule) a.parts (Memᴰ.append_right a.front (Memᴰ.head refl))
-
 pub in_among : {t : Rule} {rs : List Rule} → Memᴰ t rs → (i : ℕ) × (a : Among rs i) × (a.rule ≡ t)
 in_among (Memᴰ.head {x = r} {xs = rs} e) =
     (0, record { front = []; rule = r; rest = rs; parts = refl; count = refl }, sym e)
 in_among (Memᴰ.tail {x = r} m) = let (i, a, e) = in_among m in (suc i, behind r a, e)
-
--- Of the rules that pass a test, with ids that no two share, one is told by its id.
-pub kept_id : (test : Rule → Bool) (rs : List Rule) → distinct (ids_of rs) ≡ true → {i : ℕ} (a : Among rs i)
-    → member a.rule.id (ids_of (keep test rs)) ≡ test a.rule
-kept_id test rs d a = same_test (member a.rule.id (ids_of (keep test rs))) (test a.rule) passes kept
-  where
-    passes : member a.rule.id (ids_of (keep test rs)) ≡ true → test a.rule ≡ true
-    passes m =
-        let (t, k, f) = Memᴰ.of_map (λ r. r.id) (keep test rs) (member_in (ids_of (keep test rs)) m) in
-        let there = in_keep test rs k in
-        ap test (sym (one_with (λ r. r.id) rs d there.0 (is_among a) f)) ∙ there.1
-
-    kept : test a.rule ≡ true → member a.rule.id (ids_of (keep test rs)) ≡ true
-    kept e = in_member (in_map (λ r. r.id) (keep_in test (is_among a) e))
 
 module _ {ws : List ℕ} {end : ℕ} {rules : Rules} (s : Standing ws end rules) where
   abbrev rs : List Rule
@@ -130,7 +113,7 @@ module _ {ws : List ℕ} {end : ℕ} {rules : Rules} (s : Standing ws end rules)
         go : (t : Option ℕ) → target grammar m ≡ t → target grammar m ≡ some (get_or rules.ids i 0)
         go none e = absurd (true≢false (sym (told m i a none e) ∙ and-false (ltb i rules.n)))
         go (some t) e =
-            let h = right_true (ltb i rules.n) (eqb (get_or rules.ids i 0) t || false) (told m i a (some t) e) in
+            let h = second_so (ltb i rules.n) (eqb (get_or rules.ids i 0) t || false) (told m i a (some t) e) in
             e ∙ ap some (sym (eqb-true (get_or rules.ids i 0) t (sym (or-false (eqb (get_or rules.ids i 0) t)) ∙ h)))
 
     pub target_none : (m : ℕ) → Nowhere rules.names rules.n m → target grammar m ≡ none

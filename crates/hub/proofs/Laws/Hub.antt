@@ -7,8 +7,8 @@ use mathlib.Core.Bool.{Bool, true, ◌&&◌, ◌||◌, not, and-true, true≢fal
 use lib.ListN.{get_or}
 use Rattle.grammar.specs.Tree.{RuleOf, Block, body_depth, inner_depth}
 use Rattle.grammar.specs.Lists.{member, keep, first}
-use Rattle.grammar.specs.Laws.Lists.{in_member, member_in}
-use Rattle.grammar.specs.Laws.Parse.{both_true, left_true, right_true, either}
+use Rattle.grammar.specs.Laws.Lists.{in_member, member_in, member_append}
+use Rattle.grammar.specs.Laws.Parse.{either}
 use Rattle.graph.specs.Members.{in_keep, keep_in, keep_is_part}
 use Rattle.graph.specs.Order.{Rising, part_rising}
 use Rattle.reference.specs.Analysis.{Grammar, collect_calls_into, grammar_of, nullable_rules}
@@ -17,6 +17,8 @@ use Rattle.records.specs.declared.rules.Rules.{Rules}
 use Rattle.reach.specs.Rows.{bit, edge, RowOf, Meet}
 use Rattle.reach.specs.Cycles.{Least, NoneLeft, IsNext}
 use Rattle.std.specs.Prelude.{Option, Some, None, MatchOption}
+use Rattle.std.proofs.lemmas.Bool.{and_from}
+use Rattle.std.specs.Cmp.{first_so, second_so}
 use Rattle.analysis.specs.Names.{any_below}
 use Rattle.analysis.specs.declared.rounds.Marks.{Marks}
 use Rattle.analysis.proofs.Laws.Standing.{all_rules, id_at, rule_spans}
@@ -24,7 +26,7 @@ use Rattle.hub.specs.Grounds.{Known, rules_of, grammar_at, IsCycle}
 use Rattle.hub.specs.Corner.{Candidates}
 use Rattle.hub.specs.Calls.{CallsFrom}
 use Rattle.hub.specs.Hub.{HubIs, Chosen}
-use Rattle.hub.proofs.Laws.Lists.{member_append, first_none, first_least, kept_any}
+use Rattle.hub.proofs.Laws.Lists.{first_none, first_least, kept_any}
 use Rattle.hub.proofs.Laws.Grounds.{row_bit, at_place, place_low, with_id, id_place, tells, call_bit}
 
 -- The candidates among the members, by the rules' arrays and a row of nullable rules.
@@ -82,8 +84,8 @@ module _ {ws : List ℕ} {end : ℕ} {rules : Rules} {past : Bool} {calls corner
     in_candidates : {j : ℕ} → j < rules.n → bit can j ≡ true → Memᴰ (id j) candidates
     in_candidates {j} l t =
         let b = sym (can_bit f l) ∙ t in
-        keep_in (is_candidate g cycle inner_depth rs) (member_in cycle (left_true (member (id j) cycle) _ b))
-        (right_true (member (id j) cycle) _ b)
+        keep_in (is_candidate g cycle inner_depth rs) (member_in cycle (first_so (member (id j) cycle) _ b))
+        (second_so (member (id j) cycle) _ b)
 
     -- A candidate by its place.
     record Placed (x : ℕ) : Type 0 where
@@ -100,17 +102,17 @@ module _ {ws : List ℕ} {end : ℕ} {rules : Rules} {past : Bool} {calls corner
           place = j;
           low = l;
           same = e;
-          there = can_bit f l ∙ rw e (both_true (member x cycle) _ (in_member i) c);
+          there = can_bit f l ∙ rw e (and_from (member x cycle) _ (in_member i) c);
         }
 
     module _ (test : ℕ → Bool) (row : List ℕ) (is : (j : ℕ) → j < rules.n → bit row j ≡ (bit can j && test (id j))) where
       passes : {x : ℕ} (p : Placed x) → test x ≡ true → bit row p.place ≡ true
-      passes p t = is p.place p.low ∙ both_true (bit can p.place) _ p.there (rw p.same t)
+      passes p t = is p.place p.low ∙ and_from (bit can p.place) _ p.there (rw p.same t)
 
       first_is : {i : ℕ} → Least rules.ids row rules.n i → first test candidates ≡ some (id i)
       first_is {i} h =
           let b = sym (is i h.below) ∙ h.there in
-          first_least test candidates rises (in_candidates h.below (left_true (bit can i) _ b)) (right_true (bit can i) _ b)
+          first_least test candidates rises (in_candidates h.below (first_so (bit can i) _ b)) (second_so (bit can i) _ b)
           λ x n t. let p = placed x n in rw p.same at (h.least p.place p.low (passes p t))
 
       first_not : NoneLeft row rules.n → first test candidates ≡ none
@@ -127,14 +129,14 @@ module _ {ws : List ℕ} {end : ℕ} {rules : Rules} {past : Bool} {calls corner
       is_wanted_lem j l = b.at j ∙ ap (λ x. bit can j && x) (wanted_bit pr c l)
 
       member_bit : {j : ℕ} → j < rules.n → bit can j ≡ true → bit members j ≡ true
-      member_bit {j} l t = row_bit cy.row l ∙ left_true (member (id j) cycle) _ (sym (can_bit f l) ∙ t)
+      member_bit {j} l t = row_bit cy.row l ∙ first_so (member (id j) cycle) _ (sym (can_bit f l) ∙ t)
 
       hub_wanted : {i : ℕ} → Least rules.ids both rules.n i
           → HubIs rules.ids rules.n members (Some i) (choose_hub g cycle inner_depth rs preserved)
       unfolding choose_hub
       hub_wanted {i} h = (
         h.below,
-        member_bit h.below (left_true (bit can i) _ (sym (is_wanted_lem i h.below) ∙ h.there)),
+        member_bit h.below (first_so (bit can i) _ (sym (is_wanted_lem i h.below) ∙ h.there)),
         rw (first_is is_wanted both is_wanted_lem h, choose_hub) refl,
       )
 

@@ -7,9 +7,10 @@ use native.Mathlib.Omega.{arith}
 use lib.ListN.{get_or}
 use lib.Dec.{eqb}
 use borrow.Author.Tests.{eqb-true, eqb-false, eq-eqb, ne_eqb, not-true}
+use Rattle.std.specs.Cmp.{first_so, second_so}
 use Rattle.grammar.specs.Tree.{Rule, inner_depth}
 use Rattle.grammar.specs.Lists.{all, member, keep}
-use Rattle.grammar.specs.Laws.Parse.{left_true, right_true, either}
+use Rattle.grammar.specs.Laws.Parse.{either}
 use Rattle.graph.specs.Members.{in_keep, keep_in}
 use Rattle.reference.specs.Plan.{satellite_is_inlinable, satellites}
 use Rattle.records.specs.declared.rules.Rules.{Rules}
@@ -17,10 +18,11 @@ use Rattle.reach.specs.Rows.{bit, Meet, Without, Empty}
 use Rattle.analysis.specs.Facts.{Among, stopping}
 use Rattle.analysis.specs.declared.rounds.Marks.{Marks}
 use Rattle.analysis.proofs.Laws.Standing.{all_rules, id_at, one_rule}
+use Rattle.analysis.proofs.Laws.Rounded.{is_among, kept_id}
 use Rattle.hub.specs.Grounds.{Known, rules_of, IsCycle}
 use Rattle.hub.specs.Inlinable.{AllInlinable}
 use Rattle.hub.proofs.Laws.Lists.{all_true, all_false}
-use Rattle.hub.proofs.Laws.Grounds.{row_bit, row_low, is_among, in_among, kept_id, at_place, place_low}
+use Rattle.hub.proofs.Laws.Grounds.{row_bit, row_low, in_among, at_place, place_low}
 
 module _ {ws : List ℕ} {end : ℕ} {rules : Rules} {past : Bool} {calls corners : List (List ℕ)} {m : Marks}
     (k : Known ws end rules past calls corners m) {cycle members : List ℕ} (cy : IsCycle ws end rules k.standing cycle members)
@@ -75,15 +77,15 @@ module _ {ws : List ℕ} {end : ℕ} {rules : Rules} {past : Bool} {calls corner
         nope : r ≡ false → r ≡ all (satellite_is_inlinable inner_depth) (keep is_satellite rs)
         nope f =
             let (j, l, b) = e.some f in
-            let both-in = left_true (bit both j) (not (eqb j hub)) (sym (y.at j) ∙ b) in
-            let inside = right_true (bit m.stops j) (bit members j) (sym (x.at j) ∙ both-in) in
+            let both-in = first_so (bit both j) (not (eqb j hub)) (sym (y.at j) ∙ b) in
+            let inside = second_so (bit m.stops j) (bit members j) (sym (x.at j) ∙ both-in) in
             let a = at_place k.standing j (row_low cy.row inside) in
             let c = sym (row_is a) ∙ b in
             f
             ∙ sym
             (all_false (satellite_is_inlinable inner_depth)
-            (keep_in is_satellite (is_among a) (right_true (not (satellite_is_inlinable inner_depth a.rule)) _ c))
-            (not-true (satellite_is_inlinable inner_depth a.rule) (left_true (not (satellite_is_inlinable inner_depth a.rule)) _ c)))
+            (keep_in is_satellite (is_among a) (second_so (not (satellite_is_inlinable inner_depth a.rule)) _ c))
+            (not-true (satellite_is_inlinable inner_depth a.rule) (first_so (not (satellite_is_inlinable inner_depth a.rule)) _ c)))
 
 pub inlined : {stops members : List ℕ} {hub : ℕ} {both row : List ℕ} {r : Bool} → Meet stops members both → Without both hub row
     → Empty row r → AllInlinable stops members hub r

@@ -3,24 +3,20 @@ use Prim.Native.Nat.{ℕ, zero, suc, ◌≤◌}
 use mathlib.Core.Path.{◌≡◌, refl, sym, ap, ap₂, ◌∙◌}
 use mathlib.Core.Logic.{⊎_elim}
 use mathlib.Core.List.Memᴰ
-use mathlib.Core.List.{List, [], ◌∷◌, ◌++◌, Memᴰ}
+use mathlib.Core.List.{List, [], ◌∷◌, Memᴰ}
 use mathlib.Core.Option.{none, some}
-use mathlib.Core.Bool.{Bool, true, false, ◌&&◌, ◌||◌, true≢false, or_assoc, and-false}
+use mathlib.Core.Bool.{Bool, true, false, ◌&&◌, ◌||◌, true≢false, and-false}
 use native.Mathlib.Omega.{arith}
 use lib.ListN.{length}
-use lib.Dec.{eqb}
+use Rattle.std.proofs.lemmas.Bool.{and_from}
 use Rattle.grammar.specs.Tree.{Rule}
 use Rattle.grammar.specs.Lists.{each, all, member, keep, push, first}
-use Rattle.grammar.specs.Laws.Parse.{either, both_true}
+use Rattle.grammar.specs.Laws.Parse.{either}
+use Rattle.grammar.specs.Laws.Lists.{member_append}
 use Rattle.graph.specs.Order.{Rising}
 use Rattle.analysis.specs.Names.{any_below}
 use Rattle.analysis.specs.Facts.{Among}
 use Rattle.analysis.proofs.Laws.Agree.{behind}
-
-pub member_append : (x : ℕ) (xs ys : List ℕ) → member x (xs ++ ys) ≡ (member x xs || member x ys)
-unfolding member
-member_append x [] ys = refl
-member_append x (y ∷ xs) ys = ap (λ b. eqb x y || b) (member_append x xs ys) ∙ sym (or_assoc (eqb x y) (member x xs) (member x ys))
 
 module _ {A : Type 0} (test : A → Bool) where
   pub first_none : (xs : List A) → ((a : A) → Memᴰ a xs → test a ≡ false) → first test xs ≡ none
@@ -45,7 +41,7 @@ module _ {A : Type 0} (test : A → Bool) where
   pub all_true : (xs : List A) → ((a : A) → Memᴰ a xs → test a ≡ true) → all test xs ≡ true
   unfolding all
   all_true [] h = refl
-  all_true (x ∷ xs) h = both_true (test x) (all test xs) (h x (Memᴰ.head refl)) (all_true xs λ a m. h a (Memᴰ.tail m))
+  all_true (x ∷ xs) h = and_from (test x) (all test xs) (h x (Memᴰ.head refl)) (all_true xs λ a m. h a (Memᴰ.tail m))
 
   pub all_false : {a : A} {xs : List A} → Memᴰ a xs → test a ≡ false → all test xs ≡ false
   unfolding all

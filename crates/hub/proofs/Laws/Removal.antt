@@ -7,24 +7,25 @@ use native.Mathlib.Omega.{arith}
 use lib.ListN.{length, get_or}
 use lib.Dec.{eqb}
 use borrow.Author.Tests.{eqb-true, eq-eqb}
+use Rattle.std.proofs.lemmas.Bool.{and_from}
+use Rattle.std.specs.Cmp.{first_so, second_so, both_ways}
 use Rattle.grammar.specs.Numbers.{rule_limit}
 use Rattle.grammar.specs.Tree.{body_depth, inner_depth}
 use Rattle.grammar.specs.Lists.{member, keep}
-use Rattle.grammar.specs.Laws.Lists.{in_member, member_in}
-use Rattle.grammar.specs.Laws.Parse.{both_true, left_true, right_true, either}
+use Rattle.grammar.specs.Laws.Lists.{in_member, member_in, member_append}
+use Rattle.grammar.specs.Laws.Parse.{either}
 use Rattle.graph.specs.Members.{in_keep, keep_is_part}
 use Rattle.graph.specs.Fixpoint.{part_length}
 use Rattle.reference.specs.Analysis.{ids_of, collect_calls_into}
 use Rattle.reference.specs.Plan.{calls_kept, removable_round, removable_satellites}
 use Rattle.reach.specs.Rows.{bit, edge, With, Without, Meet, Minus, Empty}
-use Rattle.reach.proofs.Laws.Listed.{same_test}
 use Rattle.analysis.specs.Names.{any_below}
 use Rattle.analysis.specs.Rounds.{count_below}
 use Rattle.analysis.specs.Facts.{Among}
 use Rattle.analysis.proofs.Laws.Standing.{all_rules, id_at}
 use Rattle.hub.specs.Calls.{CallsFrom}
 use Rattle.hub.specs.Removal.{planned_calls, Planning, plan_rules, plan_grammar, hub_id, IsRow, Thinned, Removable}
-use Rattle.hub.proofs.Laws.Lists.{member_append, kept_any}
+use Rattle.hub.proofs.Laws.Lists.{kept_any}
 use Rattle.hub.proofs.Laws.Rounds.{member_keep, keep_same, keep_less, rounds_enough, rounds_fixed, rounds_moves, count_falls}
 use Rattle.hub.proofs.Laws.Grounds.{row_bit, row_low, row_of, row_none, id_place, place_low, call_bit, same_place}
 
@@ -40,7 +41,7 @@ module _ {calls : List (List ℕ)} {n : ℕ} {planned : List ℕ} {hub : ℕ} (x
 
   hub_bit : {j : ℕ} → j < x.rules.n → eqb j hub ≡ eqb (id j) (hub_id x)
   hub_bit {j} l =
-      same_test (eqb j hub) (eqb (id j) (hub_id x)) (λ t. eq-eqb (id j) (hub_id x) (ap id (eqb-true j hub t)))
+      both_ways (eqb j hub) (eqb (id j) (hub_id x)) (λ t. eq-eqb (id j) (hub_id x) (ap id (eqb-true j hub t)))
       (λ t. eq-eqb j hub (same_place x.known.standing l x.low (eqb-true (id j) (hub_id x) t)))
 
   module _ {xs row : List ℕ} (r : IsRow x xs row) {out w : List ℕ} (o : With row hub out) (c : CallsFrom calls out planned n w) where
@@ -84,7 +85,7 @@ module _ {calls : List (List ℕ)} {n : ℕ} {planned : List ℕ} {hub : ℕ} (x
           let (j, l, s) = id_place x.known.standing i (there i m) in
           let own : bit row j ≡ true = row_bit r l ∙ rw s (in_member m) in
           let free : bit w j ≡ false = either (bit w j)
-          (λ u. absurd (true≢false (sym (b.at j ∙ both_true (bit row j) (bit w j) own u) ∙ z.none t j))) (λ f. f) in
+          (λ u. absurd (true≢false (sym (b.at j ∙ and_from (bit row j) (bit w j) own u) ∙ z.none t j))) (λ f. f) in
           ap not (ap (λ y. member y (still_called xs)) (sym s) ∙ sym (called_bit l) ∙ free)
 
       -- A round that takes one away.
@@ -93,9 +94,9 @@ module _ {calls : List (List ℕ)} {n : ℕ} {planned : List ℕ} {hub : ℕ} (x
       round_less f =
           let (j, k, u) = z.some f in
           let t = sym (b.at j) ∙ u in
-          let own = left_true (bit row j) (bit w j) t in
+          let own = first_so (bit row j) (bit w j) t in
           let l = row_low r own in
-          keep_less _ xs (member_in xs (sym (row_bit r l) ∙ own)) (ap not (sym (called_bit l) ∙ right_true (bit row j) (bit w j) t))
+          keep_less _ xs (member_in xs (sym (row_bit r l) ∙ own)) (ap not (sym (called_bit l) ∙ second_so (bit row j) (bit w j) t))
 
       round_there : (i : ℕ) → Memᴰ i (round xs) → member i (ids_of (plan_rules x)) ≡ true
       unfolding removable_round
@@ -124,9 +125,9 @@ module _ {calls : List (List ℕ)} {n : ℕ} {planned : List ℕ} {hub : ℕ} wh
     less_thins {t} f m =
         let (j, k, u) = z.some f in
         let both-in = sym (b.at j) ∙ u in
-        let called = right_true (bit row j) (bit w j) both-in in
-        count_falls (bit t) (bit row) (λ i q. left_true (bit row i) (not (bit w i)) (sym (m.at i) ∙ q)) rule_limit j k
-        (left_true (bit row j) (bit w j) both-in) (m.at j ∙ rw called (and-false (bit row j)))
+        let called = second_so (bit row j) (bit w j) both-in in
+        count_falls (bit t) (bit row) (λ i q. first_so (bit row i) (not (bit w i)) (sym (m.at i) ∙ q)) rule_limit j k
+        (first_so (bit row j) (bit w j) both-in) (m.at j ∙ rw called (and-false (bit row j)))
 
 module _ (calls : List (List ℕ)) (n : ℕ) (planned : List ℕ) (hub : ℕ) where
   -- Rounds from a row, with another that is left: what they leave of that is what they leave of the first.

@@ -7,20 +7,21 @@ use native.Mathlib.Omega.{arith}
 use lib.ListN.{length}
 use lib.Dec.{eqb, ltb}
 use borrow.Author.Tests.{eqb-true, eqb-false, eq-eqb, ne_eqb, ltb-true, ltb-false}
+use Rattle.std.proofs.lemmas.Bool.{and_from}
+use Rattle.std.specs.Cmp.{first_so, second_so, both_ways}
 use Rattle.grammar.specs.Lists.{member, keep, rounds}
 use Rattle.grammar.specs.Laws.Lists.{in_member, member_in}
-use Rattle.grammar.specs.Laws.Parse.{both_true, left_true, right_true, either}
+use Rattle.grammar.specs.Laws.Parse.{either}
 use Rattle.graph.specs.Members.{in_keep, keep_in, keep_is_part}
 use Rattle.graph.specs.Fixpoint.{part_length, part_whole}
-use Rattle.reach.proofs.Laws.Listed.{same_test}
 use Rattle.analysis.specs.Rounds.{one_if, count_below}
 
 module _ (test : ℕ → Bool) where
   pub member_keep : (x : ℕ) (xs : List ℕ) → member x (keep test xs) ≡ (member x xs && test x)
   member_keep x xs =
-      same_test (member x (keep test xs)) (member x xs && test x)
-      (λ t. let (m, p) = in_keep test xs (member_in (keep test xs) t) in both_true (member x xs) (test x) (in_member m) p)
-      (λ t. in_member (keep_in test (member_in xs (left_true (member x xs) (test x) t)) (right_true (member x xs) (test x) t)))
+      both_ways (member x (keep test xs)) (member x xs && test x)
+      (λ t. let (m, p) = in_keep test xs (member_in (keep test xs) t) in and_from (member x xs) (test x) (in_member m) p)
+      (λ t. in_member (keep_in test (member_in xs (first_so (member x xs) (test x) t)) (second_so (member x xs) (test x) t)))
 
   pub keep_same : (xs : List ℕ) → ((i : ℕ) → Memᴰ i xs → test i ≡ true) → keep test xs ≡ xs
   unfolding keep

@@ -2,17 +2,18 @@
 use Prim.Native.Nat.{ℕ, zero, suc, ◌+◌, ◌-◌, ◌*◌, ◌/◌, ◌<◌, ◌≤◌}
 use mathlib.Core.Path.{◌≡◌, refl, sym, ap, ◌∙◌}
 use mathlib.Core.List.{List, [], ◌∷◌}
-use mathlib.Core.Bool.{Bool, true, false, ◌&&◌, ◌||◌}
+use mathlib.Core.Bool.{Bool, true, false, ◌&&◌, ◌||◌, false≢true}
 use native.Mathlib.Omega.{arith}
 use native.Mathlib.Numerals.{add-one}
 use lib.ListN.{length, get_or, set, take, drop, length-take}
 use lib.Seq.{drop-cons, take-suc, take-suc-set, take-length, take_all}
 use lib.Dec.{ltb, eqb}
 use borrow.Author.Tests.{lt-ltb, le-ltb, ltb-true, eq-eqb, eqb-true}
+use Rattle.std.specs.Cmp.{first_so, second_so}
+use Rattle.std.proofs.lemmas.Bool.{or_right}
 use Rattle.grammar.specs.Words.{words, word_of}
 use Rattle.grammar.specs.Lists.{rising, member, distinct}
-use Rattle.grammar.specs.Laws.Words.{length_words}
-use Rattle.grammar.specs.Laws.Parse.{left_true, right_true}
+use Rattle.grammar.specs.Laws.Words.{length_words, four}
 use Rattle.ids.specs.Distinct.{Injective, Judged}
 
 -- strictly rising
@@ -103,10 +104,6 @@ module _ {row before s : List ℕ} {i : ℕ} (c : Copying row before s i) where
 pub ruleset copies = (none_copied, more_copied, all_copied)
 
 -- no two equal
-or_right : (a b : Bool) → b ≡ true → (a || b) ≡ true
-or_right true b e = refl
-or_right false b e = e
-
 member_at : (y : ℕ) (ys : List ℕ) (j : ℕ) → j < length ys → get_or ys j 0 ≡ y → member y ys ≡ true
 unfolding member
 member_at y [] j h e = absurd (omega arith)
@@ -190,9 +187,6 @@ record Above (x : ℕ) (xs : List ℕ) : Type 0 where
   each : (y : ℕ) → member y xs ≡ true → x < y
   apart : distinct xs ≡ true
 
-pub never : {A : Type 0} → false ≡ true → A
-never e = absurd (let z : ◌≡◌ {A = ℕ} 0 1 = cc in omega arith)
-
 above_none : (x : ℕ) (xs : List ℕ) → Above x xs → member x xs ≡ false
 above_none x xs a = go (member x xs) refl
   where
@@ -202,10 +196,10 @@ above_none x xs a = go (member x xs) refl
 
 rising_above : (x : ℕ) (xs : List ℕ) → rising (x ∷ xs) ≡ true → Above x xs
 unfolding rising member distinct
-rising_above x [] e = record { each = λ y m. never m; apart = refl }
+rising_above x [] e = record { each = λ y m. absurd (false≢true m); apart = refl }
 rising_above x (y ∷ ys) e =
-    let h = ltb-true x y (left_true (ltb x y) (rising (y ∷ ys)) e) in
-    let a = rising_above y ys (right_true (ltb x y) (rising (y ∷ ys)) e) in
+    let h = ltb-true x y (first_so (ltb x y) (rising (y ∷ ys)) e) in
+    let a = rising_above y ys (second_so (ltb x y) (rising (y ∷ ys)) e) in
     record { each = λ z m. go h a z (eqb z y) refl m; apart = rw (above_none y ys a) a.apart }
   where
     go : x < y → Above y ys → (z : ℕ) (b : Bool) → eqb z y ≡ b → (eqb z y || member z ys) ≡ true → x < z
@@ -227,9 +221,6 @@ rising_distinct bs e f =
 pub ruleset distincts = (judged_distinct, rising_distinct)
 
 -- the words of the first bytes are the first words
-four : (n : ℕ) → 4 * suc n ≡ suc (suc (suc (suc (4 * n))))
-four n = omega arith
-
 pub words_take : (bs : List ℕ) (n : ℕ) → 4 * n ≤ length bs → words (take (4 * n) bs) ≡ take n (words bs)
 unfolding words
 words_take bs zero h = refl

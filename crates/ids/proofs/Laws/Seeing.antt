@@ -7,6 +7,7 @@ use native.Mathlib.Omega.{arith}
 use lib.ListN.{get_or, take}
 use lib.Dec.{eqb, leb}
 use borrow.Author.Tests.{ne_eqb, leb-true}
+use Rattle.std.specs.Cmp.{first_so, second_so}
 use Rattle.grammar.specs.Stands.{Stands}
 use Rattle.grammar.specs.Numbers.{alternative_sort, element_sort, label_sort, action_sort, predicate_sort}
 use Rattle.grammar.specs.Numbers.{most_name, one_or_more_nongreedy, action_kind, predicate_kind, block_kind, kind_end}
@@ -20,7 +21,6 @@ use Rattle.grammar.specs.Ids.{label_ids, head_ids, leaf_ids, element_ids, altern
 use Rattle.grammar.specs.Fold.{folded, element_fold, alternative_fold, block_fold, rule_fold, rules_fold}
 use Rattle.grammar.specs.Fold.{RulesWalked}
 use Rattle.grammar.specs.Laws.Stands.{stands_head}
-use Rattle.grammar.specs.Laws.Parse.{left_true, right_true}
 use Rattle.grammar.specs.Laws.Complete.{leaf_kind_lem}
 use Rattle.grammar.specs.Laws.Opened.{HeadWords}
 use Rattle.words.specs.Visit.{LeafPassed, BlockEntered, AlternativeEntered}
@@ -32,7 +32,7 @@ label_ids_lem : (sort i n : ℕ) (l : Label) → i ≡ label_id l → n ≡ labe
 unfolding label_ids ok_label
 label_ids_lem sort i n unlabelled e f k = simp (f, and-false)
 label_ids_lem sort i n (labelled j m) e f k =
-    let h = leb-true 1 m (left_true (leb 1 m) (leb m most_name) k) in
+    let h = leb-true 1 m (first_so (leb 1 m) (leb m most_name) k) in
     simp (f, e, ne_eqb m 0 (λ z. omega arith), and-true)
 
 leaf_ids_lem : {ws : List ℕ} {end p q : ℕ} (sort : ℕ) (l : Leaf) → Stands ws end (encode_leaf l) p q
@@ -57,7 +57,7 @@ module _ {ws : List ℕ} {end at : ℕ} (sort : ℕ) {h : ElementHead} {kind p :
       rw w.id
       (ap (λ l. only (eqb sort element_sort) h.id ++ l)
       (label_ids_lem sort _ _ h.label w.label_is w.named
-      (left_true (ok_label h.label) _ (right_true (leb h.quantifier one_or_more_nongreedy) _ w.fine))))
+      (first_so (ok_label h.label) _ (second_so (leb h.quantifier one_or_more_nongreedy) _ w.fine))))
 
   own_are : (rest : List ℕ) → kind < kind_end
       → only (eqb sort action_sort && eqb kind action_kind) (get_or ws p 0)

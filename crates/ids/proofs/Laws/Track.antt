@@ -2,14 +2,13 @@
 use Prim.Native.Nat.{ℕ, ◌+◌, ◌<◌, ◌≤◌}
 use mathlib.Core.Path.{◌≡◌, refl, sym, ap, ◌∙◌}
 use mathlib.Core.List.{List, [], ◌∷◌}
-use mathlib.Core.Bool.{Bool, true, false, false≢true, ◌&&◌, ◌||◌, and-true}
+use mathlib.Core.Bool.{Bool, true, false, false≢true, ◌&&◌, ◌||◌, and-true, and_assoc}
 use native.Mathlib.Omega.{arith}
 use lib.Dec.{eqb, leb, ltb}
 use borrow.Author.Tests.{le-leb, lt-leb, lt-ltb, leb-true, leb-false, ltb-true, ltb-false, eqb-true}
 use Rattle.grammar.specs.Lists.{member, distinct, below}
 use Rattle.ids.specs.declared.survey.Track.{Track}
 use Rattle.ids.specs.Survey.{seen, tracked, fresh}
-use Rattle.ids.proofs.Laws.Lists.{never}
 
 -- one id
 pub see_higher : (t : Track) (id : ℕ) → t.top ≤ id → record { top = id + 1; falls = t.falls } ≡ seen t id
@@ -33,10 +32,6 @@ see_case t x = go (leb t.top x) refl
     go false e = let h = leb-false t.top x e in lower h (sym (see_lower t x h))
 
 -- the top is at most a counter exactly where all ids are below it
-pub and_assoc : (a b c : Bool) → ((a && b) && c) ≡ (a && (b && c))
-and_assoc true b c = refl
-and_assoc false b c = refl
-
 top_step : (t : Track) (x c : ℕ) → leb (seen t x).top c ≡ (leb t.top c && ltb x c)
 top_step t x c = go (see_case t x) (ltb x c) refl (leb t.top c) refl
   where
@@ -65,7 +60,7 @@ pub record Risen (t : Track) (xs : List ℕ) : Type 0 where
 
 pub risen : (t : Track) (xs : List ℕ) → (tracked t xs).falls ≡ false → Risen t xs
 unfolding distinct member
-risen t [] e = record { apart = refl; from = λ y m. never m; rose = e }
+risen t [] e = record { apart = refl; from = λ y m. absurd (false≢true m); rose = e }
 risen t (x ∷ xs) e = go (see_case t x) (risen (seen t x) xs e)
   where
     go : See t x → Risen (seen t x) xs → Risen t (x ∷ xs)

@@ -7,6 +7,7 @@ use mathlib.Core.List.Memᴰ
 use mathlib.Core.List.{Memᴰ}
 use Rattle.std.proofs.Math.Option.{Option, none, some}
 use Rattle.std.proofs.lemmas.Bool.{false≢true}
+use Rattle.std.specs.Cmp.{first_so, second_so}
 use borrow.Author.Tests.{not-true}
 use Rattle.language.specs.Shape.{Shape, eps, fail, symbol, call_of, seq, alt, opt, star, plus, quantified, Shapes, find, EachCall}
 use Rattle.language.specs.Derive.{CanBeEmpty}
@@ -14,7 +15,6 @@ use Rattle.language.specs.Laws.Empty.{by_same}
 use Rattle.grammar.specs.Corners.{Corners, rust, textbook}
 use Rattle.language.specs.LeftCorners.{is_missing, is_symbol, stops, Skippable, Corner, c_call, c_first, c_later, c_left, c_right}
 use Rattle.language.specs.LeftCorners.{c_opt, c_star, c_plus, Reaches, r_last, r_more}
-use Rattle.grammar.specs.Laws.Parse.{left_true, right_true}
 use Rattle.language.specs.Laws.Quantifier.{quantified_cases}
 use Rattle.language.specs.Laws.Removal.{each_any, AlikeOn, alike_on_sym, removal}
 use Rattle.language.specs.Laws.Cover.{SameStrings}
@@ -100,8 +100,8 @@ module _ (c : Corners) (G : Shapes) (empty : Shape → Bool) where
         let g = in_given (not (stops c G s) && empty s) r in
         let o : Skippable c G s =
         record {
-          empty = (exact s).0 (right_true (not (stops c G s)) (empty s) g.0);
-          goes_on = not-true (stops c G s) (left_true (not (stops c G s)) (empty s) g.0);
+          empty = (exact s).0 (second_so (not (stops c G s)) (empty s) g.0);
+          goes_on = not-true (stops c G s) (first_so (not (stops c G s)) (empty s) g.0);
         } in
         c_later o (listed t g.1))
         (Memᴰ.append_cases (corners_of s) m)

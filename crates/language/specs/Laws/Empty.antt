@@ -6,13 +6,14 @@ use Rattle.std.proofs.Math.Logic.{⊎_map}
 use mathlib.Core.List.{List, [], ◌∷◌, ◌++◌, map}
 use Rattle.std.proofs.Math.Option.{some}
 use Rattle.std.proofs.Math.Bool.{true, or-true}
-use Rattle.std.proofs.lemmas.Bool.{false≢true}
+use Rattle.std.proofs.lemmas.Bool.{false≢true, and_from}
+use Rattle.std.specs.Cmp.{first_so, second_so}
 use Rattle.grammar.specs.Lists.{AllOf, AnyOf, all}
 use Rattle.language.specs.Shape.{Symbol, Word, Shape, eps, fail, symbol, call_of, seq, alt, opt, star, plus, seqs, alts, quantified}
 use Rattle.language.specs.Shape.{Shapes, find, is_mark}
 use Rattle.language.specs.Derive.{Der, d_eps, d_symbol, d_call, d_unknown, d_seq, d_left, d_right, d_absent, d_present, d_none}
 use Rattle.language.specs.Derive.{d_more, d_some, CanBeEmpty}
-use Rattle.grammar.specs.Laws.Parse.{both_true, left_true, right_true, either}
+use Rattle.grammar.specs.Laws.Parse.{either}
 use Rattle.language.specs.Laws.Quantifier.{is_optional_quantifier, quantified_cases}
 use Rattle.language.specs.Laws.Algebra.{fails}
 
@@ -21,19 +22,19 @@ marks_left : (u v : Word) → all is_mark (u ++ v) ≡ true → all is_mark u �
 unfolding all
 marks_left [] v e = refl
 marks_left (a ∷ u) v e =
-    both_true (is_mark a) (all is_mark u) (left_true (is_mark a) _ e) (marks_left u v (right_true (is_mark a) (all is_mark (u ++ v)) e))
+    and_from (is_mark a) (all is_mark u) (first_so (is_mark a) _ e) (marks_left u v (second_so (is_mark a) (all is_mark (u ++ v)) e))
 
 marks_right : (u v : Word) → all is_mark (u ++ v) ≡ true → all is_mark v ≡ true
 unfolding all
 marks_right [] v e = e
-marks_right (a ∷ u) v e = marks_right u v (right_true (is_mark a) (all is_mark (u ++ v)) e)
+marks_right (a ∷ u) v e = marks_right u v (second_so (is_mark a) (all is_mark (u ++ v)) e)
 
 marks_both : (u v : Word) → all is_mark u ≡ true → all is_mark v ≡ true → all is_mark (u ++ v) ≡ true
 unfolding all
 marks_both [] v e f = f
 marks_both (a ∷ u) v e f =
-    both_true (is_mark a) (all is_mark (u ++ v)) (left_true (is_mark a) (all is_mark u) e)
-    (marks_both u v (right_true (is_mark a) (all is_mark u) e) f)
+    and_from (is_mark a) (all is_mark (u ++ v)) (first_so (is_mark a) (all is_mark u) e)
+    (marks_both u v (second_so (is_mark a) (all is_mark u) e) f)
 
 no_marks : all is_mark [] ≡ true
 unfolding all
@@ -52,11 +53,11 @@ module _ {G : Shapes} where
   unfolding all
   symbol_empty a = (
     λ x. opens x.tree x.marks,
-    λ t. record { word = a ∷ []; marks = both_true (is_mark a) true t refl; tree = d_symbol },
+    λ t. record { word = a ∷ []; marks = and_from (is_mark a) true t refl; tree = d_symbol },
   )
     where
       opens : {w : Word} → Der G (symbol a) w → all is_mark w ≡ true → is_mark a ≡ true
-      opens d_symbol t = left_true (is_mark a) true t
+      opens d_symbol t = first_so (is_mark a) true t
 
   pub call_empty : (n : ℕ) → CanBeEmpty G (call_of n) ↔ ((b : Shape) × (find G n ≡ some b) × CanBeEmpty G b)
   unfolding all is_mark
@@ -163,8 +164,8 @@ module _ (N : ℕ → Bool) where
     empty_if_sound h (call_of n) t = h n t
     empty_if_sound h (seq s r) t =
         (seq_empty s r).1 (
-          empty_if_sound h s (left_true (empty_if N s) (empty_if N r) t),
-          empty_if_sound h r (right_true (empty_if N s) (empty_if N r) t),
+          empty_if_sound h s (first_so (empty_if N s) (empty_if N r) t),
+          empty_if_sound h r (second_so (empty_if N s) (empty_if N r) t),
         )
     empty_if_sound h (alt s r) t =
         either (empty_if N s)
@@ -180,11 +181,11 @@ module _ (N : ℕ → Bool) where
         → empty_if N s ≡ true
     unfolding empty_if all is_mark
     empty_if_finds h d_eps e = refl
-    empty_if_finds h (d_symbol {a = a}) e = left_true (is_mark a) true e
+    empty_if_finds h (d_symbol {a = a}) e = first_so (is_mark a) true e
     empty_if_finds h (d_call {n = n} {b = b} f d) e = h n b f (empty_if_finds h d e)
     empty_if_finds h (d_unknown f) e = absurd (false≢true e)
     empty_if_finds h (d_seq {u = u} {v = v} f x y) e =
-        both_true _ _ (empty_if_finds h x (marks_left u v (rw f e))) (empty_if_finds h y (marks_right u v (rw f e)))
+        and_from _ _ (empty_if_finds h x (marks_left u v (rw f e))) (empty_if_finds h y (marks_right u v (rw f e)))
     empty_if_finds h (d_left {t = t} x) e = ap (λ b. b || empty_if N t) (empty_if_finds h x e)
     empty_if_finds h (d_right {s = s} y) e = ap (λ b. empty_if N s || b) (empty_if_finds h y e) ∙ or-true (empty_if N s)
     empty_if_finds h d_absent e = refl

@@ -3,8 +3,8 @@ use Rattle.std.specs.Prelude.{ℕ, ◌≡◌, ◌↔◌, [], ◌∷◌, ◌++◌
 use Rattle.std.proofs.Math.Path.{refl, ap, subst}
 use Rattle.std.proofs.Common.{sym, ◌∙◌, true≢false}
 use Rattle.std.proofs.Math.Option.{some}
+use Rattle.std.specs.Cmp.{first_so}
 use Rattle.grammar.specs.Lists.{all, any}
-use Rattle.grammar.specs.Laws.Parse.{left_true}
 use Rattle.language.specs.Shape.{Word, Shape, eps, fail, symbol, call_of, seq, alt, opt, star, plus, quantified, Shapes, find, is_mark}
 use Rattle.language.specs.Derive.{Der, d_eps, d_symbol, d_call, d_unknown, d_seq, d_left, d_right, d_absent, d_present, d_none}
 use Rattle.language.specs.Derive.{d_more, d_some, CanBeEmpty}
@@ -40,7 +40,7 @@ no_mark_both (a ∷ u) v e f = cons (is_mark a) (any is_mark u) e (no_mark_both 
 pub no_mark_empty : (w : Word) → any is_mark w ≡ false → all is_mark w ≡ true → w ≡ []
 unfolding any all
 no_mark_empty [] e f = refl
-no_mark_empty (a ∷ w) e f = absurd (true≢false (sym (ap (λ b. b || any is_mark w) (left_true (is_mark a) (all is_mark w) f)) ∙ e))
+no_mark_empty (a ∷ w) e f = absurd (true≢false (sym (ap (λ b. b || any is_mark w) (first_so (is_mark a) (all is_mark w) f)) ∙ e))
 
 module _ {G : Shapes} (inner : (n : ℕ) (b : Shape) → find G n ≡ some b → Markless b) where
   pub markless_word : {s : Shape} {w : Word} → Der G s w → Markless s → any is_mark w ≡ false

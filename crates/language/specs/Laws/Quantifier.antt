@@ -2,10 +2,10 @@
 use Rattle.std.specs.Prelude.{ℕ, zero, suc, ◌≡◌, Bool, true, false, ◌&&◌, leb}
 use Rattle.std.proofs.Common.{sym, subst₂, arith, leb-false, le-leb}
 use Rattle.std.proofs.Math.Dec.{eqb-suc-zero}
-use Rattle.std.proofs.lemmas.Bool.{lt-leb}
+use Rattle.std.proofs.lemmas.Bool.{lt-leb, and_from}
 use Rattle.grammar.specs.Numbers.{optional_greedy, optional_nongreedy, zero_or_more_nongreedy}
 use Rattle.language.specs.Shape.{Shape, opt, star, plus, quantified}
-use Rattle.grammar.specs.Laws.Parse.{both_true, either}
+use Rattle.grammar.specs.Laws.Parse.{either}
 
 -- Optional or zero or more, greedy or not.
 abbrev pub is_optional_quantifier : ℕ → Bool
@@ -20,7 +20,7 @@ quantified_cases P (suc q) s once optional any more =
     let one : leb optional_greedy (suc q) ≡ true = le-leb optional_greedy (suc q) (omega arith) in
     either (leb (suc q) zero_or_more_nongreedy)
     (λ t.
-    let o : is_optional_quantifier (suc q) ≡ true = both_true (leb optional_greedy (suc q)) (leb (suc q) zero_or_more_nongreedy) one t in
+    let o : is_optional_quantifier (suc q) ≡ true = and_from (leb optional_greedy (suc q)) (leb (suc q) zero_or_more_nongreedy) one t in
     either (leb (suc q) optional_nongreedy)
     (λ u. subst₂ P (sym o) (sym (rw (z, quantified) (rw u))) optional)
     (λ u. subst₂ P (sym o) (sym (rw (z, quantified) (rw (u, t)))) any))

@@ -6,13 +6,14 @@ use mathlib.Core.List.{List, [], ◌∷◌, map, Memᴰ}
 use Rattle.std.proofs.Math.Option.{some, none-ne-some, some-injective}
 use Rattle.std.proofs.Math.Bool.{false, true≢false}
 use Rattle.std.proofs.Math.Dec.{eqb}
+use Rattle.std.specs.Cmp.{first_so, second_so}
 use borrow.Author.Tests.{eqb-true, eq-eqb, ne_eqb, not-true}
 use Rattle.grammar.specs.Tree.{Block, RuleOf}
 use Rattle.grammar.specs.Lists.{member, distinct}
 use Rattle.language.specs.Shape.{Word, Shape, call_of, NamedShape, find, erase_block, bodies_by, erase_rules}
 use Rattle.language.specs.Derive.{Der, d_call, CanBeEmpty, RuleDerives, RuleCanBeEmpty}
 use Rattle.grammar.specs.Laws.Lists.{in_member, in_map}
-use Rattle.grammar.specs.Laws.Parse.{left_true, right_true, either}
+use Rattle.grammar.specs.Laws.Parse.{either}
 use Rattle.language.specs.Laws.Cover.{find_here, find_next}
 use Rattle.language.specs.Laws.Steps.{call_same}
 
@@ -28,10 +29,10 @@ module _ (d : ℕ) (key : RuleOf (Block d) → ℕ) where
       find_here (body_of q) (bodies_by d key rs) (key r) (eq-eqb (key q) (key r) (ap key (sym e)))
       ∙ ap (λ x. some (erase_block d x.body)) (sym e)
   rule_found (q ∷ rs) t {r} (Memᴰ.tail m) =
-      let f = not-true (member (key q) (map key rs)) (left_true (not (member (key q) (map key rs))) _ t) in
+      let f = not-true (member (key q) (map key rs)) (first_so (not (member (key q) (map key rs))) _ t) in
       let other : eqb (key q) (key r) ≡ false =
       ne_eqb (key q) (key r) λ e. true≢false (sym (in_member (subst (λ x. Memᴰ x (map key rs)) (sym e) (in_map key m))) ∙ f) in
-      find_next (body_of q) (bodies_by d key rs) (key r) other ∙ rule_found rs (right_true (not (member (key q) (map key rs))) _ t) m
+      find_next (body_of q) (bodies_by d key rs) (key r) other ∙ rule_found rs (second_so (not (member (key q) (map key rs))) _ t) m
   rule_found [] t {r = r} x'' = elim x'' [ ]
 
   -- What is found is the body of a rule with that number.

@@ -11,14 +11,14 @@ use Rattle.language.specs.Laws.Steps.{alike_splice, alike_split}
 
 module _ {A : Type 0} (shape_of : A → Shape) where
   -- The shape of an alternative, its parts apart.
-  cut : (α β : List A) → seqs (map shape_of α ++ map shape_of β) ≡ seqs (map shape_of (α ++ β))
+  pub cut : (α β : List A) → seqs (map shape_of α ++ map shape_of β) ≡ seqs (map shape_of (α ++ β))
   cut α β = ap seqs (sym (map-append shape_of α β))
 
-  cut_at : (α β : List A) {x : A} {s : Shape} → shape_of x ≡ s
+  pub cut_at : (α β : List A) {x : A} {s : Shape} → shape_of x ≡ s
       → seqs (map shape_of α ++ (s ∷ map shape_of β)) ≡ seqs (map shape_of (α ++ (x ∷ β)))
   cut_at α β {x} p = ap (λ s. seqs (map shape_of α ++ (s ∷ map shape_of β))) (sym p) ∙ cut α (x ∷ β)
 
-  cut_twice : (α γ β : List A) → seqs (map shape_of α ++ (map shape_of γ ++ map shape_of β)) ≡ seqs (map shape_of (α ++ (γ ++ β)))
+  pub cut_twice : (α γ β : List A) → seqs (map shape_of α ++ (map shape_of γ ++ map shape_of β)) ≡ seqs (map shape_of (α ++ (γ ++ β)))
   cut_twice α γ β = ap (λ l. seqs (map shape_of α ++ l)) (sym (map-append shape_of γ β)) ∙ cut α (γ ++ β)
 
   module _ {H : ℕ} {G : Shapes} where

@@ -6,9 +6,11 @@ use Rattle.std.proofs.Common.{◌∙◌}
 use mathlib.Core.List.{List, [], ◌∷◌}
 use Rattle.std.proofs.Math.Option.{Option, none, some}
 use Rattle.std.proofs.Math.Bool.{◌||◌, or-true}
+use Rattle.std.proofs.lemmas.Bool.{and_from}
+use Rattle.std.specs.Cmp.{first_so, second_so}
 use Rattle.grammar.specs.Tree.{Leaf, epsilon, action, predicate, call, token, terminal, end_of_input, Element, leaf, block, Block}
 use Rattle.grammar.specs.Lists.{member, all, any}
-use Rattle.grammar.specs.Laws.Parse.{both_true, left_true, right_true, either}
+use Rattle.grammar.specs.Laws.Parse.{either}
 use Rattle.language.specs.Shape.{Shape, eps, fail, symbol, call_of, seq, alt, opt, star, plus, erase_leaf, erase_element, erase_elements}
 use Rattle.language.specs.Shape.{erase_block, is_mark}
 use Rattle.language.specs.Laws.Empty.{empty_if, empty_if_quantified, empty_if_seqs}
@@ -67,8 +69,8 @@ empty_if_more M N h fail t = t
 empty_if_more M N h (symbol a) t = t
 empty_if_more M N h (call_of n) t = h n t
 empty_if_more M N h (seq s r) t =
-    both_true _ _ (empty_if_more M N h s (left_true (empty_if M s) (empty_if M r) t))
-    (empty_if_more M N h r (right_true (empty_if M s) (empty_if M r) t))
+    and_from _ _ (empty_if_more M N h s (first_so (empty_if M s) (empty_if M r) t))
+    (empty_if_more M N h r (second_so (empty_if M s) (empty_if M r) t))
 empty_if_more M N h (alt s r) t =
     either (empty_if M s)
     (λ u. rw (empty_if_more M N h s u) refl)

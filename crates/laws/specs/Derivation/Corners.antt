@@ -8,12 +8,13 @@ use mathlib.Core.List.{List, [], ◌∷◌, ◌++◌, map, Memᴰ}
 use Rattle.std.proofs.Math.Option.{Option, none, some, some-injective}
 use Rattle.std.proofs.Math.Bool.{true≢false}
 use Rattle.std.proofs.lemmas.Bool.{false≢true}
+use Rattle.std.specs.Cmp.{first_so, second_so}
 use Rattle.grammar.specs.Lists.{all, distinct}
 use Rattle.grammar.specs.Tree.{ElementHead, Leaf, epsilon, action, predicate, call, token, terminal, end_of_input, Element, leaf, block}
 use Rattle.grammar.specs.Tree.{AlternativeOf, Block, RuleOf, Sheet, inner_depth}
 use Rattle.grammar.specs.Numbers.{most_alternative_flag}
 use Rattle.grammar.specs.Valid.{valid, ok_option, ok_head, ok_element, ok_alternative, ok_block}
-use Rattle.grammar.specs.Laws.Parse.{left_true, right_true, either}
+use Rattle.grammar.specs.Laws.Parse.{either}
 use Rattle.grammar.specs.Corners.{Corners, rust, textbook}
 use Rattle.language.specs.Shape.{is_mark, Shape, alts, call_of, erase_leaf, erase_element, erase_elements, erase_block, Shapes, erase_rules}
 use Rattle.language.specs.Shape.{find}
@@ -152,16 +153,16 @@ module _ (d : ℕ) (rs : List (RuleOf (Block (suc d)))) (names : distinct (map (
       unfolding erase_element ok_element
       found_at (leaf h l) es t x = at_leaf h l es ((corner_quantified h.quantifier (erase_leaf h.carried l)).0 x)
       found_at (block h b) es {n} t x =
-          inner h b es n (right_true (ok_head h) (ok_block k b) t) ((corner_quantified h.quantifier (erase_block k b)).0 x)
+          inner h b es n (second_so (ok_head h) (ok_block k b) t) ((corner_quantified h.quantifier (erase_block k b)).0 x)
 
       found_in : (es : List (Element (Block k))) {n : ℕ} → all (ok_element (ok_block k)) es ≡ true
           → Corner c G (erase_elements (erase_block k) es) n → CornerTold d rs c n k es
       unfolding all
       found_in [] t x = elim x [ ]
-      found_in (e ∷ es) t (c_first x) = found_at e es (left_true (ok_element (ok_block k) e) _ t) x
+      found_in (e ∷ es) t (c_first x) = found_at e es (first_so (ok_element (ok_block k) e) _ t) x
       found_in (e ∷ es) t (c_later o x) =
-          further e (skipped c k e (left_true (ok_element (ok_block k) e) _ t) o)
-          (found_in es (right_true (ok_element (ok_block k) e) _ t) x)
+          further e (skipped c k e (first_so (ok_element (ok_block k) e) _ t) o)
+          (found_in es (second_so (ok_element (ok_block k) e) _ t) x)
 
     in_block : (k : ℕ) (h : ElementHead) (b : Block k) (es : List (Element (Block k))) (n : ℕ) → ok_block k b ≡ true
         → Corner c G (erase_block k b) n → CornerTold d rs c n k (block h b ∷ es)
@@ -170,7 +171,7 @@ module _ (d : ℕ) (rs : List (RuleOf (Block (suc d)))) (names : distinct (map (
     in_block (suc k) h b es n t x =
         let (a, m, y) = alternative_of (λ a. erase_elements (erase_block k) a.elements) b x in
         let u = all_in (ok_alternative (ok_block k)) t m in
-        let v = right_true (all ok_option a.options) _ (right_true (leb a.flag most_alternative_flag) _ u) in
+        let v = second_so (all ok_option a.options) _ (second_so (leb a.flag most_alternative_flag) _ u) in
         block_there [] es h b refl (λ f q. absurd (Memᴰ.not-nil q)) m (found_in k (in_block k) a.elements v y)
 
     -- Behind what is skipped.
@@ -213,7 +214,7 @@ module _ (d : ℕ) (rs : List (RuleOf (Block (suc d)))) (names : distinct (map (
         let (a, i, y) =
         alternative_of (λ a. erase_elements (erase_block d) a.elements) r.body (subst (λ s. Corner c G s k) same x.corner) in
         let u = all_in (ok_alternative (ok_block d)) (good r m) i in
-        let v = right_true (all ok_option a.options) _ (right_true (leb a.flag most_alternative_flag) _ u) in
+        let v = second_so (all ok_option a.options) _ (second_so (leb a.flag most_alternative_flag) _ u) in
         (a, i, (corner_told d a.elements v k).0 y)
 
     told_leads : {r : RuleOf (Block (suc d))} (m : Memᴰ r rs) {k : ℕ} {a : AlternativeOf (Block d)} → Memᴰ a r.body

@@ -6,9 +6,9 @@ use Rattle.std.proofs.Common.{sym, ◌∙◌, true≢false, eq-eqb}
 use mathlib.Core.List.{List, [], ◌∷◌, ◌++◌}
 use Rattle.std.proofs.Math.Option.{Option, none, some, some-injective}
 use Rattle.std.proofs.Math.Bool.{true, false, or-true}
+use Rattle.std.proofs.lemmas.Bool.{and_from}
 use Rattle.grammar.specs.Tree.{body_depth, Rule}
 use Rattle.grammar.specs.Lists.{is_empty}
-use Rattle.grammar.specs.Laws.Parse.{both_true}
 use Rattle.language.specs.Shape.{Symbol, token_symbol, unknown_symbol, other_symbol, end_symbol, Word, Shape, eps, fail, symbol, call_of}
 use Rattle.language.specs.Shape.{seq}
 use Rattle.language.specs.Shape.{alt, opt, star, plus, Shapes, erase_block, bodies_by, erase_rules, find}
@@ -82,7 +82,7 @@ module _ (G : Shapes) where
   more_could n s [] v w e x y z = subst (λ w. could (suc n) G (star s) w ≡ true) e z
   more_could n s (a ∷ u) v w e x y z =
       subst (λ w. could (suc n) G (star s) w ≡ true) e
-      (cut_at (λ u v. elim (is_empty u) [ true ↦ false | false ↦ could n G s u && could n G (star s) v ]) (a ∷ u) v (both_true _ _ x y))
+      (cut_at (λ u v. elim (is_empty u) [ true ↦ false | false ↦ could n G s u && could n G (star s) v ]) (a ∷ u) v (and_from _ _ x y))
 
   pub der_could : {s : Shape} {w : Word} → Der G s w → (n : ℕ) → could n G s w ≡ true
   unfolding could
@@ -98,7 +98,7 @@ module _ (G : Shapes) where
   der_could (d_seq e x y) zero = refl
   der_could (d_seq {s = s} {t = t} {u = u} {v = v} e x y) (suc n) =
       subst (λ w. could (suc n) G (seq s t) w ≡ true) e
-      (cut_at (λ u v. could n G s u && could n G t v) u v (both_true _ _ (der_could x n) (der_could y n)))
+      (cut_at (λ u v. could n G s u && could n G t v) u v (and_from _ _ (der_could x n) (der_could y n)))
   der_could (d_left x) zero = refl
   der_could (d_left {t = t} {w = w} x) (suc n) = ap (λ b. b || could n G t w) (der_could x n)
   der_could (d_right x) zero = refl
@@ -115,7 +115,7 @@ module _ (G : Shapes) where
   der_could (d_some e x y) zero = refl
   der_could (d_some {s = s} {u = u} {v = v} e x y) (suc n) =
       subst (λ w. could (suc n) G (plus s) w ≡ true) e
-      (cut_at (λ u v. could n G s u && could n G (star s) v) u v (both_true _ _ (der_could x n) (der_could y n)))
+      (cut_at (λ u v. could n G s u && could n G (star s) v) u v (and_from _ _ (der_could x n) (der_could y n)))
 
 could_not : {G : Shapes} {s : Shape} {w : Word} (n : ℕ) → could n G s w ≡ false → Der G s w → ⊥
 could_not {G} n f x = true≢false (sym (der_could G x n) ∙ f)

@@ -5,6 +5,7 @@ use Rattle.std.proofs.Common.{sym, ◌∙◌, inl, inr, true≢false, arith}
 use mathlib.Core.List.{[], ◌∷◌, ◌++◌, append-nil}
 use Rattle.std.proofs.Math.Option.{none, some, none-ne-some}
 use Rattle.grammar.specs.Lists.{distinct, member}
+use Rattle.grammar.specs.Laws.Lists.{rest_of}
 use Rattle.language.specs.Shape.{Symbol, unknown_symbol, Word, Shape, eps, fail, symbol, call_of, seq, alt, opt, star, plus, quantified}
 use Rattle.language.specs.Shape.{erase_leaf, erase_element, erase_block, Shapes, find}
 use Rattle.language.specs.Readings.{Tree, t_eps, t_symbol, t_call, t_unknown, t_seq, t_left, t_right, t_absent, t_present, t_none, t_more}
@@ -18,9 +19,6 @@ use Rattle.laws.specs.Derivation.Counting.{Apart, One, Two, call_apart, call_one
 -- Strings that differ.
 no_symbol : {a : Symbol} {w : Word} → [] ≡ a ∷ w → ⊥
 no_symbol e = let z : ◌≡◌ {A = ℕ} 0 1 = cc in omega arith
-
-rest_of : {a b : Symbol} {v w : Word} → a ∷ v ≡ b ∷ w → v ≡ w
-rest_of e = cc
 
 -- The trees of one element.
 module _ {G : Shapes} {a : Symbol} where

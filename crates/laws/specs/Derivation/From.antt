@@ -4,13 +4,13 @@ use Rattle.std.proofs.Math.Path.{refl}
 use Rattle.std.proofs.Common.{sym, ap, ◌∙◌, subst, inl, inr, arith}
 use mathlib.Core.List.{List, [], ◌∷◌, ◌++◌, append-nil, map, Memᴰ}
 use Rattle.std.proofs.Math.Option.{none, some, none-ne-some}
+use Rattle.std.specs.Cmp.{first_so, second_so}
 use borrow.Author.Tests.{leb-true}
 use Rattle.grammar.specs.Lists.{all, distinct}
 use Rattle.grammar.specs.Tree.{ElementHead, Action, Predicate, Call, Element, leaf, block, epsilon, action, predicate, call, token}
 use Rattle.grammar.specs.Tree.{terminal, end_of_input, AlternativeOf, Block, RuleOf, Leaf}
 use Rattle.grammar.specs.Numbers.{most_alternative_flag}
 use Rattle.grammar.specs.Valid.{ok_option, ok_head, ok_leaf, ok_element, ok_alternative, ok_block}
-use Rattle.grammar.specs.Laws.Parse.{left_true, right_true}
 use Rattle.language.specs.Shape.{Symbol, token_symbol, other_symbol, unknown_symbol, end_symbol, Word, Shape, eps, fail, symbol, call_of}
 use Rattle.language.specs.Shape.{seq}
 use Rattle.language.specs.Shape.{alt, opt, star, plus, alts, quantified, erase_leaf, erase_element, erase_elements, erase_block, find}
@@ -94,32 +94,32 @@ module _ (k : ℕ) (block_is : (h : ElementHead) (b : Block k) → ok_block k b 
 
   head_six : (h : ElementHead) → ok_head h ≡ true → h.quantifier ≤ 6
   unfolding ok_head
-  head_six h t = leb-true h.quantifier 6 (left_true _ _ t)
+  head_six h t = leb-true h.quantifier 6 (first_so _ _ t)
 
   element_is : (e : Element (Block k)) → ok_element (ok_block k) e ≡ true → Is (erase_element (erase_block k) e) (part (element k e))
   unfolding ok_element erase_element
-  element_is (leaf h l) t = counted_is (leaf h l) _ (head_six h (left_true _ (ok_leaf l) t)) (leaf_is h l)
+  element_is (leaf h l) t = counted_is (leaf h l) _ (head_six h (first_so _ (ok_leaf l) t)) (leaf_is h l)
   element_is (block h b) t =
-      counted_is (block h b) _ (head_six h (left_true _ (ok_block k b) t)) (block_is h b (right_true (ok_head h) _ t))
+      counted_is (block h b) _ (head_six h (first_so _ (ok_block k b) t)) (block_is h b (second_so (ok_head h) _ t))
 
   elements_are : (es : List (Element (Block k))) → all (ok_element (ok_block k)) es ≡ true
       → Is (erase_elements (erase_block k) es) (part (sequence k es))
   unfolding all
   elements_are [] t = is_nil
   elements_are (e ∷ es) t =
-      is_seq (element_is e (left_true _ (all (ok_element (ok_block k)) es) t))
-      (elements_are es (right_true (ok_element (ok_block k) e) _ t))
+      is_seq (element_is e (first_so _ (all (ok_element (ok_block k)) es) t))
+      (elements_are es (second_so (ok_element (ok_block k) e) _ t))
 
   alternatives_are : (as' : List (AlternativeOf (Block k))) → all (ok_alternative (ok_block k)) as' ≡ true
       → Is (alts (map (λ a. erase_elements (erase_block k) a.elements) as')) (part (choice k as'))
   unfolding all ok_alternative
   alternatives_are [] t = is_none
   alternatives_are (a ∷ as') t =
-      let own = left_true (ok_alternative (ok_block k) a) (all (ok_alternative (ok_block k)) as') t in
+      let own = first_so (ok_alternative (ok_block k) a) (all (ok_alternative (ok_block k)) as') t in
       is_alt
       (elements_are a.elements
-      (right_true (all ok_option a.options) _ (right_true (leb a.flag most_alternative_flag) _ own)))
-      (alternatives_are as' (right_true (ok_alternative (ok_block k) a) _ t))
+      (second_so (all ok_option a.options) _ (second_so (leb a.flag most_alternative_flag) _ own)))
+      (alternatives_are as' (second_so (ok_alternative (ok_block k) a) _ t))
 
 block_is_lem : (k : ℕ) (h : ElementHead) (b : Block k) → ok_block k b ≡ true → Is (erase_block k b) (part (once k (block h b)))
 unfolding ok_block erase_block

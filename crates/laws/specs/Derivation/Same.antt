@@ -1,13 +1,13 @@
 -- The two wordings agree, of every sheet that the reader accepts.
 use Rattle.std.specs.Prelude.{ℕ, suc, ◌≡◌, ◌⊎◌, refl, true, leb}
 use Rattle.std.proofs.Common.{sym, ap, subst, inl, inr}
+use Rattle.std.specs.Cmp.{second_so}
 use mathlib.Core.List.{List, map, Memᴰ}
 use Rattle.grammar.specs.Lists.{distinct}
 use Rattle.grammar.specs.Numbers.{most_rule_flags}
 use Rattle.grammar.specs.Read.{is_name}
 use Rattle.grammar.specs.Tree.{Block, RuleOf, Rule, Sheet, inner_depth, body_depth}
 use Rattle.grammar.specs.Valid.{valid, ok_block, ok_rule}
-use Rattle.grammar.specs.Laws.Parse.{right_true}
 use Rattle.grammar.specs.Laws.Whole.{valid_parts}
 use Rattle.language.specs.Shape.{Symbol, token_symbol, unknown_symbol, other_symbol, end_symbol, Word, erase_block, erase_rules}
 use Rattle.language.specs.Derive.{Der, RuleDerives}
@@ -102,7 +102,7 @@ module _ (d : ℕ) (rs : List (RuleOf (Block (suc d)))) (ids : distinct (map (λ
 
 good_body : (r : Rule) → ok_rule (ok_block body_depth) r ≡ true → ok_block body_depth r.body ≡ true
 unfolding ok_rule
-good_body r t = right_true (leb r.flags most_rule_flags) _ (right_true (is_name r.name) _ t)
+good_body r t = second_so (leb r.flags most_rule_flags) _ (second_so (is_name r.name) _ t)
 
 pub good_rules : (s : Sheet) → valid s ≡ true → (r : Rule) → Memᴰ r s.rules → ok_block body_depth r.body ≡ true
 good_rules s v r m = good_body r (all_in (ok_rule (ok_block body_depth)) (valid_parts s v).rules m)

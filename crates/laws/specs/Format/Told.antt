@@ -1,6 +1,8 @@
 -- The two wordings of the format agree.
 use Rattle.std.specs.Prelude.{ℕ, zero, suc, ◌+◌, ◌*◌, ◌≤◌, ◌≡◌, refl, ◌↔◌, List, [], ◌∷◌, ◌++◌, map, Bool, true, ◌&&◌, length, leb, eqb}
 use Rattle.std.proofs.Common.{sym, ap, ap₂, subst, arith, leb-true, le-leb}
+use Rattle.std.proofs.lemmas.Bool.{and_from}
+use Rattle.std.specs.Cmp.{first_so, second_so}
 use Rattle.grammar.specs.Lists.{each, only, all, AllOf, distinct, below}
 use Rattle.grammar.specs.Ids.{block_ids, body_ids, is_distinct, is_below}
 use Rattle.grammar.specs.Words.{words}
@@ -11,7 +13,6 @@ use Rattle.grammar.specs.Valid.{ok_option, ok_reference, ok_label, ok_head, ok_l
 use Rattle.grammar.specs.Valid.{valid}
 use Rattle.grammar.specs.Read.{is_name}
 use Rattle.grammar.specs.Reading.{sheet, read}
-use Rattle.grammar.specs.Laws.Parse.{both_true, left_true, right_true}
 use Rattle.grammar.specs.Laws.Words.{bytes_words}
 use Rattle.grammar.specs.Laws.Whole.{valid_parts, parts_valid}
 use Rattle.grammar.specs.Laws.Codec.{reads_back_lem, is_encoding, accepted_valid}
@@ -91,7 +92,7 @@ abbrev Says : Bool → Type 0 → Type 0
 Says b A = (b ≡ true) ↔ A
 
 both_say : (a b : Bool) {A B : Type 0} → Says a A → Says b B → Says (a && b) (A × B)
-both_say a b s t = (λ e. (s.0 (left_true a b e), t.0 (right_true a b e)), λ x. both_true a b (s.1 x.0) (t.1 x.1))
+both_say a b s t = (λ e. (s.0 (first_so a b e), t.0 (second_so a b e)), λ x. and_from a b (s.1 x.0) (t.1 x.1))
 
 always : Says true (Unit {0})
 always = (λ e. tt, λ x. refl)

@@ -4,9 +4,10 @@ use Rattle.std.proofs.Common.{sym, ap, ◌∙◌, subst, true≢false, arith, eq
 use Rattle.std.proofs.Common.{leb-false, ltb-false}
 use mathlib.Core.List.{List, [], ◌∷◌, ◌++◌, map, Memᴰ, Sublistᴰ}
 use Rattle.std.proofs.Math.Bool.{and-false}
-use Rattle.std.proofs.lemmas.Bool.{eqb-false, lt-leb, not-true}
+use Rattle.std.proofs.lemmas.Bool.{eqb-false, lt-leb, not-true, and_from}
+use Rattle.std.specs.Cmp.{first_so, second_so}
 use Rattle.grammar.specs.Lists.{member, distinct, below, keep}
-use Rattle.grammar.specs.Laws.Parse.{both_true, left_true, right_true, either}
+use Rattle.grammar.specs.Laws.Parse.{either}
 use Rattle.grammar.specs.Laws.Lists.{in_member}
 use Rattle.grammar.specs.Laws.Lists.{member_in}
 use Rattle.graph.specs.Members.{keep_is_part, part_map}
@@ -45,10 +46,10 @@ pub distinct_count : (xs : List ℕ) → distinct xs ≡ true → (x : ℕ) → 
 unfolding distinct count
 distinct_count [] t x = omega arith
 distinct_count (y ∷ ys) t x =
-    let more = distinct_count ys (right_true (not (member y ys)) _ t) x in
+    let more = distinct_count ys (second_so (not (member y ys)) _ t) x in
     either (eqb x y)
     (λ u.
-    let f = not-true (member y ys) (left_true (not (member y ys)) _ t) in
+    let f = not-true (member y ys) (first_so (not (member y ys)) _ t) in
     let none : count x ys ≡ 0 = count_out x ys λ m. true≢false (sym (in_member (subst (λ z. Memᴰ z ys) (eqb-true x y u) m)) ∙ f) in
     rw u (omega arith))
     (λ u. rw u (omega arith))
@@ -61,15 +62,15 @@ count_distinct (y ∷ ys) h =
     either (member y ys)
     (λ t. let c = count_in y (member_in ys t) in let d : 1 + count y ys ≤ 1 = rw (eq-eqb y y refl) at (h y) in absurd (omega arith))
     (λ f. f) in
-    both_true (not (member y ys)) _ (ap not f) (count_distinct ys λ x. let d = h x in omega arith)
+    and_from (not (member y ys)) _ (ap not f) (count_distinct ys λ x. let d = h x in omega arith)
 
 -- Each is below a bound where nothing from the bound on stands there.
 pub below_count : (c : ℕ) (xs : List ℕ) → below c xs ≡ true → (x : ℕ) → c ≤ x → count x xs ≡ 0
 unfolding below count
 below_count c [] t x l = refl
 below_count c (y ∷ ys) t x l =
-    let g = ltb-true y c (left_true (ltb y c) _ t) in
-    rw (ne_eqb x y (λ e. omega arith)) (let h = below_count c ys (right_true (ltb y c) _ t) x l in omega arith)
+    let g = ltb-true y c (first_so (ltb y c) _ t) in
+    rw (ne_eqb x y (λ e. omega arith)) (let h = below_count c ys (second_so (ltb y c) _ t) x l in omega arith)
 
 pub count_below : (c : ℕ) (xs : List ℕ) → ((x : ℕ) → c ≤ x → count x xs ≡ 0) → below c xs ≡ true
 unfolding below count
@@ -78,7 +79,7 @@ count_below c (y ∷ ys) h =
     let t : ltb y c ≡ true =
     either (ltb y c) (λ t. t)
     (λ f. let e : 1 + count y ys ≡ 0 = rw (eq-eqb y y refl) at (h y (ltb-false y c f)) in absurd (omega arith)) in
-    both_true (ltb y c) _ t (count_below c ys λ x l. let e = h x l in omega arith)
+    and_from (ltb y c) _ t (count_below c ys λ x l. let e = h x l in omega arith)
 
 pub below_in : (c : ℕ) (xs : List ℕ) → below c xs ≡ true → (x : ℕ) → Memᴰ x xs → x < c
 below_in c xs t x m =

@@ -6,14 +6,14 @@ use mathlib.Core.List.Memᴰ
 use mathlib.Core.List.{List, [], ◌∷◌, ◌++◌, Memᴰ}
 use Rattle.std.proofs.Math.Bool.{true, false, or-true}
 use Rattle.std.proofs.Math.Dec.{eqb}
+use Rattle.std.proofs.lemmas.Bool.{and_from}
 use Rattle.grammar.specs.Lists.{AllOf, all, member}
-use Rattle.grammar.specs.Laws.Parse.{both_true}
 
 module _ {A : Type 0} where
   pub in_all : (test : A → Bool) (xs : List A) → ((a : A) → Memᴰ a xs → test a ≡ true) → all test xs ≡ true
   unfolding all
   in_all test [] h = refl
-  in_all test (x ∷ xs) h = both_true (test x) _ (h x (Memᴰ.head refl)) (in_all test xs λ a m. h a (Memᴰ.tail m))
+  in_all test (x ∷ xs) h = and_from (test x) _ (h x (Memᴰ.head refl)) (in_all test xs λ a m. h a (Memᴰ.tail m))
 
   pub not_all : (test : A → Bool) (xs : List A) → all test xs ≡ false → (a : A) × Memᴰ a xs × (test a ≡ false)
   unfolding all

@@ -12,10 +12,11 @@ use Rattle.std.proofs.lemmas.Bool.{false≢true}
 use native.Mathlib.Omega.{arith}
 use Rattle.std.proofs.Math.ListN.{length}
 use Rattle.std.proofs.Math.Dec.{eqb}
+use Rattle.std.specs.Cmp.{first_so, second_so}
 use Rattle.grammar.specs.Laws.Lists.{in_member}
 use Rattle.grammar.specs.Tree.{RuleOf}
 use Rattle.grammar.specs.Lists.{member, distinct, all, any, keep, first}
-use Rattle.grammar.specs.Laws.Parse.{left_true, right_true, either}
+use Rattle.grammar.specs.Laws.Parse.{either}
 use Rattle.reference.specs.Analysis.{Name, Grammar, name_of, names_of, target, rule_with_id}
 use Rattle.graph.specs.Members.{one_with}
 
@@ -41,8 +42,8 @@ module _ {A : Type 0} (test : A → Bool) where
 
   pub all_in : {a : A} {as' : List A} → all test as' ≡ true → Memᴰ a as' → test a ≡ true
   unfolding all
-  all_in t (Memᴰ.head {x = x} {xs = xs} e) = ap test e ∙ left_true (test x) (all test xs) t
-  all_in t (Memᴰ.tail {x = x} {xs = xs} m) = all_in (right_true (test x) (all test xs) t) m
+  all_in t (Memᴰ.head {x = x} {xs = xs} e) = ap test e ∙ first_so (test x) (all test xs) t
+  all_in t (Memᴰ.tail {x = x} {xs = xs} m) = all_in (second_so (test x) (all test xs) t) m
 
   pub any_in : (as' : List A) → any test as' ≡ true → (a : A) × Memᴰ a as' × (test a ≡ true)
   unfolding any

@@ -3,11 +3,12 @@ use Rattle.std.specs.Prelude.{ℕ, zero, suc, ◌≤◌, ◌<◌, ◌≡◌, ref
 use Rattle.std.proofs.Common.{sym, ap, ◌∙◌, subst, inl, inr, true≢false, arith, ltb-true, lt-ltb}
 use mathlib.Core.List.Memᴰ
 use mathlib.Core.List.{List, [], ◌∷◌, ◌++◌, Memᴰ}
-use Rattle.std.proofs.lemmas.Bool.{not-true}
+use Rattle.std.proofs.lemmas.Bool.{not-true, and_from}
+use Rattle.std.specs.Cmp.{first_so, second_so}
 use Rattle.grammar.specs.Lists.{member, distinct, below, rising, total, AllOf, AnyOf}
 use Rattle.grammar.specs.Laws.Words.{AreBytes}
 use Rattle.grammar.specs.Laws.Lists.{in_member, member_in}
-use Rattle.grammar.specs.Laws.Parse.{both_true, left_true, right_true, either}
+use Rattle.grammar.specs.Laws.Parse.{either}
 use Rattle.laws.specs.Demands.Lists.{NoTwo, Low, Rises, ListsTold}
 
 -- A member, and what is in front of it.
@@ -23,16 +24,16 @@ apart (y ∷ ys) t [] middle rest x e =
     let same : x ≡ y = cc in
     let behind : middle ++ (x ∷ rest) ≡ ys = cc in
     let m : Memᴰ x ys = subst (Memᴰ x) behind (Memᴰ.append_right middle (Memᴰ.head refl)) in
-    true≢false (sym (in_member (subst (λ z. Memᴰ z ys) same m)) ∙ not-true (member y ys) (left_true (not (member y ys)) _ t))
+    true≢false (sym (in_member (subst (λ z. Memᴰ z ys) same m)) ∙ not-true (member y ys) (first_so (not (member y ys)) _ t))
 apart (y ∷ ys) t (z ∷ front) middle rest x e =
     let behind : front ++ (x ∷ (middle ++ (x ∷ rest))) ≡ ys = cc in
-    apart ys (right_true (not (member y ys)) _ t) front middle rest x behind
+    apart ys (second_so (not (member y ys)) _ t) front middle rest x behind
 
 kept_apart : (xs : List ℕ) → NoTwo xs → distinct xs ≡ true
 unfolding distinct
 kept_apart [] h = refl
 kept_apart (y ∷ ys) h =
-    both_true (not (member y ys)) (distinct ys)
+    and_from (not (member y ys)) (distinct ys)
     (either (member y ys)
     (λ t. let (middle, rest, w) = cut_at (member_in ys t) in absurd (h [] middle rest y (ap (λ l. y ∷ l) w)))
     (λ f. ap not f))
@@ -40,30 +41,30 @@ kept_apart (y ∷ ys) h =
 
 low : (c : ℕ) (xs : List ℕ) → below c xs ≡ true → Low c xs
 unfolding below
-low c (y ∷ ys) t x (Memᴰ.head e) = ltb-true x c (ap (λ z. ltb z c) e ∙ left_true (ltb y c) _ t)
-low c (y ∷ ys) t x (Memᴰ.tail m) = low c ys (right_true (ltb y c) _ t) x m
+low c (y ∷ ys) t x (Memᴰ.head e) = ltb-true x c (ap (λ z. ltb z c) e ∙ first_so (ltb y c) _ t)
+low c (y ∷ ys) t x (Memᴰ.tail m) = low c ys (second_so (ltb y c) _ t) x m
 low c [] t x x4 = elim x4 [ ]
 
 kept_low : (c : ℕ) (xs : List ℕ) → Low c xs → below c xs ≡ true
 unfolding below
 kept_low c [] h = refl
 kept_low c (y ∷ ys) h =
-    both_true (ltb y c) (below c ys) (lt-ltb y c (h y (Memᴰ.head refl)))
+    and_from (ltb y c) (below c ys) (lt-ltb y c (h y (Memᴰ.head refl)))
     (kept_low c ys (λ x m. h x (Memᴰ.tail m)))
 
 rises : (xs : List ℕ) → rising xs ≡ true → Rises xs
 unfolding rising
-rises xs t [] rest a b e = ltb-true a b (left_true (ltb a b) _ (subst (λ l. rising l ≡ true) (sym e) t))
-rises xs t (x ∷ []) rest a b e = rises (a ∷ b ∷ rest) (right_true (ltb x a) _ (subst (λ l. rising l ≡ true) (sym e) t)) [] rest a b refl
+rises xs t [] rest a b e = ltb-true a b (first_so (ltb a b) _ (subst (λ l. rising l ≡ true) (sym e) t))
+rises xs t (x ∷ []) rest a b e = rises (a ∷ b ∷ rest) (second_so (ltb x a) _ (subst (λ l. rising l ≡ true) (sym e) t)) [] rest a b refl
 rises xs t (x ∷ y ∷ front) rest a b e =
-    rises (y ∷ (front ++ (a ∷ b ∷ rest))) (right_true (ltb x y) _ (subst (λ l. rising l ≡ true) (sym e) t)) (y ∷ front) rest a b refl
+    rises (y ∷ (front ++ (a ∷ b ∷ rest))) (second_so (ltb x y) _ (subst (λ l. rising l ≡ true) (sym e) t)) (y ∷ front) rest a b refl
 
 kept_rising : (xs : List ℕ) → Rises xs → rising xs ≡ true
 unfolding rising
 kept_rising [] h = refl
 kept_rising (x ∷ []) h = refl
 kept_rising (x ∷ y ∷ ys) h =
-    both_true (ltb x y) (rising (y ∷ ys)) (lt-ltb x y (h [] ys x y refl))
+    and_from (ltb x y) (rising (y ∷ ys)) (lt-ltb x y (h [] ys x y refl))
     (kept_rising (y ∷ ys) (λ front rest a b e. h (x ∷ front) rest a b (ap (λ l. x ∷ l) e)))
 
 all_low : (c : ℕ) (xs : List ℕ) → AllOf (λ x. x < c) xs → Low c xs

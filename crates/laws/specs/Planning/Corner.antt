@@ -5,12 +5,13 @@ use Rattle.std.proofs.Common.{sym, ap, ◌∙◌, subst, take_at, drop_at}
 use mathlib.Core.List.{List, [], ◌∷◌, ◌++◌}
 use Rattle.std.proofs.Math.Option.{Option, none, some}
 use Rattle.std.proofs.Math.Bool.{true, false, true≢false}
-use Rattle.std.proofs.lemmas.Bool.{false≢true}
+use Rattle.std.proofs.lemmas.Bool.{false≢true, and_from}
+use Rattle.std.specs.Cmp.{first_so, second_so}
 use native.Mathlib.Omega.{arith}
 use borrow.Author.Tests.{eqb-true, eq-eqb}
 use Rattle.grammar.specs.Lists.{AllOf, member}
 use Rattle.grammar.specs.Tree.{ElementHead, Call, epsilon, action, predicate, call, token, terminal, end_of_input, Element, leaf, block}
-use Rattle.grammar.specs.Laws.Parse.{both_true, left_true, right_true, either}
+use Rattle.grammar.specs.Laws.Parse.{either}
 use Rattle.grammar.specs.Numbers.{once, optional_greedy}
 use Rattle.reference.specs.Walks.{Sort, silent, consuming, calling, sort_of, is_epsilon_only, is_one, bare_reference}
 use Rattle.reference.specs.Analysis.{Grammar, target}
@@ -33,7 +34,7 @@ module _ (g : Grammar) (cycle : List ℕ) (hub : ℕ) where
       (λ o. let f : optional 0 t ≡ settled = rw (o, member_corner) at e in absurd (let z : ◌≡◌ {A = ℕ} 0 1 = cc in omega arith))
       (λ o.
       either (eqb t hub && is_one h)
-      (λ s. (eqb-true t hub (left_true (eqb t hub) (is_one h) s), eqb-true h.quantifier once (right_true (eqb t hub) (is_one h) s)))
+      (λ s. (eqb-true t hub (first_so (eqb t hub) (is_one h) s), eqb-true h.quantifier once (second_so (eqb t hub) (is_one h) s)))
       (λ s. let f = rw (o, member_corner) at e in let k = rw s at f in absurd (last (is_one h && bare_reference h c) k)))
     where
       last : (b : Bool) → (elim b as (λ x. PlannedCorner) [ true ↦ satellite 0 t | false ↦ blocked ]) ≡ settled → ⊥
@@ -79,7 +80,7 @@ module _ (g : Grammar) (cycle : List ℕ) (hub : ℕ) where
         (λ o. rw (o, member_corner) (
           here,
           eqb-true h.quantifier optional_greedy
-              (left_true (eqb h.quantifier optional_greedy) (bare_reference h c) o),
+              (first_so (eqb h.quantifier optional_greedy) (bare_reference h c) o),
         ))
         (λ o.
         either (eqb t hub && is_one h)
@@ -87,9 +88,9 @@ module _ (g : Grammar) (cycle : List ℕ) (hub : ℕ) where
         (λ s.
         either (is_one h && bare_reference h c)
         (λ b.
-        let one = left_true (is_one h) (bare_reference h c) b in
+        let one = first_so (is_one h) (bare_reference h c) b in
         rw (o, member_corner) (rw (s, b)
-        (here, eqb-true h.quantifier once one, λ p. true≢false (sym (both_true (eqb t hub) (is_one h) (eq-eqb t hub p) one) ∙ s))))
+        (here, eqb-true h.quantifier once one, λ p. true≢false (sym (and_from (eqb t hub) (is_one h) (eq-eqb t hub p) one) ∙ s))))
         (λ b. rw (o, member_corner) (rw (s, b) (0, t, here)))))
       where
         here : CornerAt g cycle (leaf h (call c) ∷ es) 0 t

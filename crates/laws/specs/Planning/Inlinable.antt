@@ -1,13 +1,15 @@
 -- A satellite passes the test exactly if it can be inlined.
 use Rattle.std.specs.Prelude.{ℕ, zero, suc, ◌≡◌, refl, ◌↔◌, Bool, true, false, ◌&&◌, not, eqb}
-use Rattle.std.proofs.Common.{sym, ap, ap₂, true≢false, arith, eqb-true, eq-eqb}
+use Rattle.std.proofs.Common.{ap, ap₂, arith, eqb-true, eq-eqb}
+use Rattle.std.proofs.lemmas.Bool.{and_from}
+use Rattle.std.specs.Cmp.{first_so, second_so}
 use mathlib.Core.List.{List, [], ◌∷◌, ◌++◌, Memᴰ}
 use Rattle.grammar.specs.Lists.{all, each, is_empty, AllOf}
 use Rattle.grammar.specs.Numbers.{action_sort, predicate_sort}
 use Rattle.grammar.specs.Tree.{Label, unlabelled, labelled, Leaf, epsilon, action, predicate, call, token, terminal, end_of_input, Element}
 use Rattle.grammar.specs.Tree.{leaf, block, AlternativeOf, Block, RuleOf}
 use Rattle.grammar.specs.Ids.{label_ids, head_ids, leaf_ids, element_ids, alternative_ids, block_ids}
-use Rattle.grammar.specs.Laws.Parse.{both_true, left_true, right_true}
+use Rattle.grammar.specs.Laws.Lists.{empty_none, append_none}
 use Rattle.language.specs.Shape.{OnElement, OnBlock}
 use Rattle.reference.specs.Plan.{satellite_has_embedded_semantics, satellite_is_inlinable}
 use Rattle.laws.specs.Demands.Inlinable.{NoCode, Inlinable}
@@ -16,14 +18,6 @@ use Rattle.laws.specs.Lists.Lookup.{all_in}
 -- No ids of actions and of predicates.
 abbrev None : List ℕ → List ℕ → Type 0
 None xs ys = (xs ≡ []) × (ys ≡ [])
-
-append_none : (xs ys : List ℕ) → xs ++ ys ≡ [] → None xs ys
-append_none [] ys e = (refl, e)
-append_none (x ∷ xs) ys e = absurd (let z : ◌≡◌ {A = ℕ} 0 1 = cc in omega arith)
-
-empty_none : (xs : List ℕ) → is_empty xs ≡ true → xs ≡ []
-empty_none [] t = refl
-empty_none (x ∷ xs) t = absurd (true≢false (sym t))
 
 label_none : (l : Label) → None (label_ids action_sort l) (label_ids predicate_sort l)
 unfolding label_ids
@@ -84,7 +78,7 @@ flags_all : {B : Type 0} (as' : List (AlternativeOf B)) → ((a : AlternativeOf 
 unfolding all
 flags_all [] h = refl
 flags_all (a ∷ as') h =
-    both_true (eqb a.flag 0) _ (eq-eqb a.flag 0 (h a (Memᴰ.head refl))) (flags_all as' λ b m. h b (Memᴰ.tail m))
+    and_from (eqb a.flag 0) _ (eq-eqb a.flag 0 (h a (Memᴰ.head refl))) (flags_all as' λ b m. h b (Memᴰ.tail m))
 
 pub inlinable_told_lem : (d : ℕ) (r : RuleOf (Block (suc d))) → (satellite_is_inlinable d r ≡ true) ↔ Inlinable d r
 unfolding satellite_is_inlinable satellite_has_embedded_semantics
@@ -99,19 +93,19 @@ inlinable_told_lem d r = (passes, can)
 
     passes : (eqb r.flags 0 && (all (λ a. eqb a.flag 0) r.body && not (not (is_empty codes)))) ≡ true → Inlinable d r
     passes t =
-        let u = right_true (eqb r.flags 0) _ t in
+        let u = second_so (eqb r.flags 0) _ t in
         let n =
         append_none (block_ids action_sort (suc d) r.body) (block_ids predicate_sort (suc d) r.body)
-        (empty_none codes (twice (is_empty codes) (right_true (all (λ a. eqb a.flag 0) r.body) _ u))) in
+        (empty_none codes (twice (is_empty codes) (second_so (all (λ a. eqb a.flag 0) r.body) _ u))) in
         record {
-          flags = eqb-true r.flags 0 (left_true (eqb r.flags 0) _ t);
-          unlabelled = λ a m. eqb-true a.flag 0 (all_in (λ a. eqb a.flag 0) (left_true (all (λ a. eqb a.flag 0) r.body) _ u) m);
+          flags = eqb-true r.flags 0 (first_so (eqb r.flags 0) _ t);
+          unlabelled = λ a m. eqb-true a.flag 0 (all_in (λ a. eqb a.flag 0) (first_so (all (λ a. eqb a.flag 0) r.body) _ u) m);
           no_code = (block_none (suc d) r.body).1 n;
         }
 
     can : Inlinable d r → (eqb r.flags 0 && (all (λ a. eqb a.flag 0) r.body && not (not (is_empty codes)))) ≡ true
     can i =
         let n = (block_none (suc d) r.body).0 i.no_code in
-        both_true (eqb r.flags 0) _ (eq-eqb r.flags 0 i.flags)
-        (both_true (all (λ a. eqb a.flag 0) r.body) _ (flags_all r.body i.unlabelled)
+        and_from (eqb r.flags 0) _ (eq-eqb r.flags 0 i.flags)
+        (and_from (all (λ a. eqb a.flag 0) r.body) _ (flags_all r.body i.unlabelled)
         (ap (λ l. not (not (is_empty l))) (ap₂ ◌++◌ n.0 n.1)))

@@ -5,11 +5,12 @@ use Rattle.std.proofs.Common.{sym, ap, ◌∙◌, subst, subst₂, arith}
 use mathlib.Core.List.{List, [], ◌∷◌, ◌++◌}
 use Rattle.std.proofs.Math.Option.{some}
 use Rattle.std.proofs.Math.Bool.{true, false, true≢false}
-use Rattle.std.proofs.lemmas.Bool.{false≢true}
+use Rattle.std.proofs.lemmas.Bool.{false≢true, and_from}
+use Rattle.std.specs.Cmp.{first_so, second_so}
 use borrow.Author.Tests.{eqb-true, eq-eqb}
 use Rattle.grammar.specs.Lists.{AllOf, member, is_empty}
 use Rattle.grammar.specs.Tree.{OptionDecl, Label, unlabelled, labelled, ElementHead, Call, call, Element, leaf, block}
-use Rattle.grammar.specs.Laws.Parse.{both_true, left_true, right_true, either}
+use Rattle.grammar.specs.Laws.Parse.{either}
 use Rattle.grammar.specs.Numbers.{optional_greedy}
 use Rattle.reference.specs.Walks.{Sort, silent, consuming, calling, sort_of, is_epsilon_only, is_one, bare_reference}
 use Rattle.reference.specs.Analysis.{Grammar, target}
@@ -22,7 +23,7 @@ bare_told : (h : ElementHead) (c : Call) → (bare_reference h c ≡ true) ↔ B
 unfolding bare_reference
 bare_told h c = (
   go h.label refl,
-  λ b. rw (b.no_label, bare_reference) (both_true (eqb c.arguments 0) (is_empty h.options)
+  λ b. rw (b.no_label, bare_reference) (and_from (eqb c.arguments 0) (is_empty h.options)
       (eq-eqb c.arguments 0 b.no_arguments) (ap is_empty b.no_options)),
 )
   where
@@ -36,8 +37,8 @@ bare_told h c = (
     go unlabelled k e =
         record {
           no_label = k;
-          no_options = none_there h.options (right_true (eqb c.arguments 0) (is_empty h.options) e);
-          no_arguments = eqb-true c.arguments 0 (left_true (eqb c.arguments 0) (is_empty h.options) e);
+          no_options = none_there h.options (second_so (eqb c.arguments 0) (is_empty h.options) e);
+          no_arguments = eqb-true c.arguments 0 (first_so (eqb c.arguments 0) (is_empty h.options) e);
         }
     go (labelled i n) k e = absurd (false≢true e)
 
@@ -54,31 +55,31 @@ module _ (hub : ℕ) (h : ElementHead) (c : Call) (t : ℕ) where
   line_of =
       either (eqb h.quantifier optional_greedy && bare_reference h c)
       (λ o. rw (o, member_corner) (split_line (record {
-        quantifier = eqb-true h.quantifier 1 (left_true (eqb h.quantifier optional_greedy) (bare_reference h c) o);
-        bare = (bare_told h c).0 (right_true (eqb h.quantifier optional_greedy) (bare_reference h c) o);
+        quantifier = eqb-true h.quantifier 1 (first_so (eqb h.quantifier optional_greedy) (bare_reference h c) o);
+        bare = (bare_told h c).0 (second_so (eqb h.quantifier optional_greedy) (bare_reference h c) o);
       })))
       (λ o.
       either (eqb t hub && is_one h)
       (λ s. rw (o, member_corner) (rw s (hub_line (record {
-        quantifier = eqb-true h.quantifier 0 (right_true (eqb t hub) (is_one h) s);
-        is_hub = eqb-true t hub (left_true (eqb t hub) (is_one h) s);
+        quantifier = eqb-true h.quantifier 0 (second_so (eqb t hub) (is_one h) s);
+        is_hub = eqb-true t hub (first_so (eqb t hub) (is_one h) s);
       }))))
       (λ s.
       let not_hub : h.quantifier ≡ 0 → t ≡ hub → ⊥ =
-      λ q e. true≢false (sym (both_true (eqb t hub) (is_one h) (eq-eqb t hub e) (eq-eqb h.quantifier 0 q)) ∙ s) in
+      λ q e. true≢false (sym (and_from (eqb t hub) (is_one h) (eq-eqb t hub e) (eq-eqb h.quantifier 0 q)) ∙ s) in
       either (is_one h && bare_reference h c)
       (λ b.
-      let q = eqb-true h.quantifier 0 (left_true (is_one h) (bare_reference h c) b) in
+      let q = eqb-true h.quantifier 0 (first_so (is_one h) (bare_reference h c) b) in
       rw (o, member_corner) (rw (s, b) (splice_line (record {
         quantifier = q;
-        bare = (bare_told h c).0 (right_true (is_one h) (bare_reference h c) b);
+        bare = (bare_told h c).0 (second_so (is_one h) (bare_reference h c) b);
         not_hub = not_hub q;
       }))))
       (λ b. rw (o, member_corner) (rw (s, b) (block_line (record {
-        no_split = λ x. true≢false (sym (both_true (eqb h.quantifier 1) (bare_reference h c) (eq-eqb h.quantifier 1 x.quantifier)
+        no_split = λ x. true≢false (sym (and_from (eqb h.quantifier 1) (bare_reference h c) (eq-eqb h.quantifier 1 x.quantifier)
             ((bare_told h c).1 x.bare)) ∙ o);
         no_hub = λ x. not_hub x.quantifier x.is_hub;
-        no_splice = λ x. true≢false (sym (both_true (is_one h) (bare_reference h c) (eq-eqb h.quantifier 0 x.quantifier)
+        no_splice = λ x. true≢false (sym (and_from (is_one h) (bare_reference h c) (eq-eqb h.quantifier 0 x.quantifier)
             ((bare_told h c).1 x.bare)) ∙ b);
       }))))))
 

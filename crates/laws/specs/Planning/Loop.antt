@@ -7,10 +7,10 @@ use Rattle.std.proofs.Math.Option.{Option, none, some, none-ne-some}
 use Rattle.std.specs.Prelude.{Bool, ◌&&◌, length}
 use Rattle.std.proofs.Math.Bool.{true, false}
 use Rattle.std.proofs.Math.Dec.{leb}
+use Rattle.std.specs.Cmp.{first_so, second_so}
 use borrow.Author.Tests.{leb-true, leb-false}
 use Rattle.grammar.specs.Lists.{total}
 use Rattle.grammar.specs.Tree.{Block, RuleOf}
-use Rattle.grammar.specs.Laws.Parse.{left_true, right_true}
 use Rattle.reference.specs.Analysis.{Grammar}
 use Rattle.reference.specs.Substitute.{Clause, budget, Decided, decided, declined, overfull, ◌and_then◌, Limits, Planned, is_within}
 use Rattle.reference.specs.Substitute.{Substituted, step, substitute}
@@ -29,13 +29,13 @@ module _ (d : ℕ) (limits : Limits) (ps : List (Planned d)) where
   pub within_true : is_within d limits ps ≡ true → Within limits ps
   unfolding is_within
   within_true t =
-      let rest = right_true (leb (length ps) limits.alternatives) _ t in
+      let rest = second_so (leb (length ps) limits.alternatives) _ t in
       record {
         alternatives =
             leb-true (length ps) limits.alternatives
-            (left_true _ (leb elements_in limits.elements && leb options_in limits.options) t);
-        elements = leb-true elements_in limits.elements (left_true _ (leb options_in limits.options) rest);
-        options = leb-true options_in limits.options (right_true (leb elements_in limits.elements) _ rest);
+            (first_so _ (leb elements_in limits.elements && leb options_in limits.options) t);
+        elements = leb-true elements_in limits.elements (first_so _ (leb options_in limits.options) rest);
+        options = leb-true options_in limits.options (second_so (leb elements_in limits.elements) _ rest);
       }
 
   pub within_false : is_within d limits ps ≡ false → Beyond limits ps

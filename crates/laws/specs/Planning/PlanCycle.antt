@@ -6,11 +6,11 @@ use mathlib.Core.List.{List, ◌++◌, Memᴰ}
 use Rattle.std.proofs.Math.Option.{Option, none, some}
 use Rattle.std.proofs.Math.Bool.{true, false, not, true≢false}
 use native.Mathlib.Omega.{arith}
-use Rattle.std.proofs.lemmas.Bool.{eqb-false, not-true, not-false}
+use Rattle.std.proofs.lemmas.Bool.{eqb-false, not-true, not-false, and_from}
+use Rattle.std.specs.Cmp.{first_so, second_so}
 use Rattle.grammar.specs.Tree.{Block, RuleOf}
 use Rattle.grammar.specs.Lists.{member, all, any, keep, first}
 use Rattle.grammar.specs.Corners.{Corners}
-use Rattle.grammar.specs.Laws.Parse.{both_true, left_true, right_true}
 use Rattle.reference.specs.Analysis.{Grammar, rule_with_id}
 use Rattle.reference.specs.Substitute.{no_hub, hub_with_arguments, satellite_not_inlinable, no_steps, not_directly_rewritable, Decided}
 use Rattle.reference.specs.Substitute.{◌and_then◌, found, Limits, Planned, Substituted, step, substitute, substitution_budget}
@@ -70,15 +70,15 @@ module _ (c : Corners) (d : ℕ) (rs : List (RuleOf (Block (suc d)))) (g : Gramm
           let (i, t) = in_keep (λ s. member s.id cycle && not (eqb s.id hub.id)) rs m in
           record {
             is_rule = i;
-            in_cycle = left_true (member r.id cycle) _ t;
-            not_hub = eqb-false r.id hub.id (not-true (eqb r.id hub.id) (right_true (member r.id cycle) _ t));
+            in_cycle = first_so (member r.id cycle) _ t;
+            not_hub = eqb-false r.id hub.id (not-true (eqb r.id hub.id) (second_so (member r.id cycle) _ t));
           }
 
       satellite_in : (r : RuleOf (Block (suc d))) → Satellite limits c d rs g preserved cycle hub r
           → Memᴰ r (satellites d rs cycle hub.id)
       satellite_in r x =
           keep_in (λ s. member s.id cycle && not (eqb s.id hub.id)) x.is_rule
-          (both_true (member r.id cycle) _ x.in_cycle (ap not (ne_eqb r.id hub.id x.not_hub)))
+          (and_from (member r.id cycle) _ x.in_cycle (ap not (ne_eqb r.id hub.id x.not_hub)))
 
       -- Behind the substitution.
       last_decides : {n : ℕ} {ps : List (Planned d)} → Leads limits c d rs g preserved cycle hub n ps

@@ -1,11 +1,11 @@
 -- What a decided plan was made from.
 use Rattle.std.specs.Prelude.{ℕ, suc, ◌≤◌, ◌≡◌, refl, true, false, ◌||◌}
-use Rattle.std.proofs.Common.{sym, ap, ◌∙◌, subst, true≢false, arith, eq-eqb}
+use Rattle.std.proofs.Common.{sym, ap, ◌∙◌, subst, true≢false, eq-eqb}
 use mathlib.Core.List.{List, Memᴰ}
 use Rattle.std.proofs.Math.Option.{none}
 use Rattle.grammar.specs.Lists.{member}
 use Rattle.grammar.specs.Laws.Lists.{member_in}
-use Rattle.grammar.specs.Laws.Parse.{either}
+use Rattle.grammar.specs.Laws.Parse.{either, never}
 use Rattle.grammar.specs.Tree.{Block, RuleOf}
 use Rattle.grammar.specs.Corners.{Corners}
 use Rattle.reference.specs.Analysis.{Grammar}
@@ -38,9 +38,6 @@ module _ (c : Corners) (d : ℕ) (rs : List (RuleOf (Block (suc d)))) (g : Gramm
   pub plan_made : (limits : Limits) (plan : CyclePlan d) → plan_cycle limits c g d rs preserved cycle ≡ decided plan → Made plan
   plan_made limits p e = go (plan_cycle limits c g d rs preserved cycle) (decision c d rs g preserved cycle limits) e
     where
-      never : {A : Type 0} → ◌≡◌ {A = ℕ} 0 1 → A
-      never z = absurd (omega arith)
-
       go : (o : Decided (CyclePlan d)) → Decision limits c d rs g preserved cycle o → o ≡ decided p → Made p
       go o (plan {hub = hub} s fit) f =
           let x = s.leads in
@@ -73,9 +70,6 @@ module _ (c : Corners) (d : ℕ) (rs : List (RuleOf (Block (suc d)))) (g : Gramm
       → plan.steps ≤ budget_of limits c d rs g preserved cycle
   plan_within limits p e = go (plan_cycle limits c g d rs preserved cycle) (decision c d rs g preserved cycle limits) e
     where
-      never : {A : Type 0} → ◌≡◌ {A = ℕ} 0 1 → A
-      never z = absurd (omega arith)
-
       go : (o : Decided (CyclePlan d)) → Decision limits c d rs g preserved cycle o → o ≡ decided p
           → p.steps ≤ budget_of limits c d rs g preserved cycle
       go o (plan s fit) f = subst (λ p. p.steps ≤ budget_of limits c d rs g preserved cycle) (decided_inj f) s.leads.within

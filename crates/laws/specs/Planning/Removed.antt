@@ -1,16 +1,17 @@
 -- What removable_satellites returns is closed: no rule in it is called by the planned hub or by another rule kept.
 use Prim.Native.Nat.{ℕ, zero, suc, ◌≤◌}
-use Rattle.std.specs.Prelude.{◌≡◌, refl, true, false, ◌||◌}
+use Rattle.std.specs.Prelude.{◌≡◌, true, false, ◌||◌}
 use Rattle.std.proofs.Common.{sym, ap, ◌∙◌, arith}
 use Rattle.std.proofs.Math.Path.{subst}
 use Rattle.std.proofs.Math.Logic.{⊎_elim}
 use mathlib.Core.List.Memᴰ
-use mathlib.Core.List.{List, [], ◌∷◌, Memᴰ}
+use mathlib.Core.List.{List, [], Memᴰ}
 use Rattle.std.proofs.Math.Bool.{Bool, not}
 use Rattle.std.proofs.Math.ListN.{length}
 use Rattle.std.proofs.Math.Dec.{eqb}
 use borrow.Author.Tests.{eqb-true, eqb-false, not-true}
 use Rattle.std.proofs.lemmas.Bool.{or_parts}
+use Rattle.std.proofs.lemmas.List.{nil_from_length}
 use Rattle.grammar.specs.Tree.{Block, RuleOf}
 use Rattle.grammar.specs.Lists.{each, member, keep, rounds}
 use Rattle.grammar.specs.Laws.Parse.{either}
@@ -21,16 +22,12 @@ use Rattle.grammar.specs.Laws.Lists.{member_in}
 use Rattle.graph.specs.Members.{in_keep, keep_in, each_in, in_each}
 use Rattle.laws.specs.Lists.Lookup.{not_in, keep_short, keep_all}
 
-nothing_left : {A : Type 0} (xs : List A) → length xs ≤ 0 → xs ≡ []
-nothing_left [] h = refl
-nothing_left (x ∷ xs) h = absurd (omega arith)
-
 -- Rounds that take away, as many as there are items: the last takes nothing away, and all that is left was there.
 module _ (round : List ℕ → List ℕ) (shrinks : (xs : List ℕ) → length (round xs) ≤ length xs) where
   pub rounds_end : (n : ℕ) (xs : List ℕ) → length xs ≤ n → length (round (rounds round n xs)) ≡ length (rounds round n xs)
   unfolding rounds
   rounds_end zero xs h =
-      let e = nothing_left xs h in
+      let e = nil_from_length xs (omega arith) in
       subst (λ l. length (round l) ≡ length l) (sym e) (let s = shrinks [] in omega arith)
   rounds_end (suc n) xs h =
       let s = shrinks xs in

@@ -7,10 +7,11 @@ use mathlib.Core.List.{List, [], ◌∷◌, Memᴰ}
 use Rattle.std.proofs.Math.Option.{Option, none, some}
 use Rattle.std.proofs.Math.Bool.{Bool, true, false, not, true≢false, false≢true}
 use borrow.Author.Tests.{eqb-true, eq-eqb, not-true, not-false}
-use Rattle.std.proofs.lemmas.Bool.{or_right, or_parts}
+use Rattle.std.proofs.lemmas.Bool.{or_right, or_parts, and_from}
+use Rattle.std.specs.Cmp.{first_so, second_so}
 use Rattle.grammar.specs.Lists.{member, all, any, meet}
 use Rattle.grammar.specs.Laws.Lists.{in_member}
-use Rattle.grammar.specs.Laws.Parse.{both_true, left_true, right_true, either}
+use Rattle.grammar.specs.Laws.Parse.{either}
 use Rattle.grammar.specs.Tree.{ElementHead, Call, epsilon, action, predicate, call, token, terminal, end_of_input, Element, leaf, block}
 use Rattle.grammar.specs.Tree.{Block, RuleOf, Rule, body_depth}
 use Rattle.grammar.specs.Corners.{Corners}
@@ -90,7 +91,7 @@ module _ (c : Corners) {d : ℕ} {rs : List (RuleOf (Block (suc d)))} (k : Known
   unfolding is_recursive starts_with_hub_call is_hub_call
   before_recursive es x =
       subst (λ l. is_recursive g hub.id d l ≡ true) (sym x.starts)
-      (both_true (is_hub_call g hub.id (leaf x.head (call x.site))) _
+      (and_from (is_hub_call g hub.id (leaf x.head (call x.site))) _
       (rw (calls_hub x.head x.site x.called x.plain, is_hub_call))
       (either (all (element_nullable g (block_is_nullable g d)) x.rest)
       (λ t. absurd (x.goes_on ((elements_empty (suc d) rs k.ids k.names d x.rest).0 t)))
@@ -144,7 +145,7 @@ module _ (c : Corners) {d : ℕ} {rs : List (RuleOf (Block (suc d)))} (k : Known
   unfolding is_fit
   fits_told es = (
     λ t.
-        let f = not-true (any (gives_hub_arguments g hub.id) es || all is_epsilon_only es) (left_true _ _ t) in
+        let f = not-true (any (gives_hub_arguments g hub.id) es || all is_epsilon_only es) (first_so _ _ t) in
         let (without, only) = or_parts (any (gives_hub_arguments g hub.id) es) (all is_epsilon_only es) f in
         record {
           without = (no_arguments_lem es).0 without;
@@ -153,10 +154,10 @@ module _ (c : Corners) {d : ℕ} {rs : List (RuleOf (Block (suc d)))} (k : Known
               either (is_primary c g cycle hub.id d es)
               (λ y. inr (primary_before c k cycle is_rule es y))
               (λ n. inl (recursive_before c k cycle is_rule es
-              (rw n at (right_true (not (any (gives_hub_arguments g hub.id) es || all is_epsilon_only es)) _ t)) without));
+              (rw n at (second_so (not (any (gives_hub_arguments g hub.id) es || all is_epsilon_only es)) _ t)) without));
         },
     λ x.
-        both_true (not (any (gives_hub_arguments g hub.id) es || all is_epsilon_only es)) (is_primary c g cycle hub.id d es
+        and_from (not (any (gives_hub_arguments g hub.id) es || all is_epsilon_only es)) (is_primary c g cycle hub.id d es
         || is_recursive g hub.id d es)
         (rw ((no_arguments_lem es).1 x.without) (rw ((significant es).1 x.some_there)))
         (⊎_elim
@@ -175,10 +176,10 @@ module _ (c : Corners) {d : ℕ} {rs : List (RuleOf (Block (suc d)))} (k : Known
   unfolding planned_hub_is_directly_rewritable
   passes_told ps = (
     λ t.
-        let fit = left_true (all fits ps) _ t in
-        let both = right_true (all fits ps) _ t in
-        let (p, m, u) = any_in primary ps (left_true (any primary ps) _ both) in
-        let (q, n, w) = any_in recursive ps (right_true (any primary ps) _ both) in
+        let fit = first_so (all fits ps) _ t in
+        let both = second_so (all fits ps) _ t in
+        let (p, m, u) = any_in primary ps (first_so (any primary ps) _ both) in
+        let (q, n, w) = any_in recursive ps (second_so (any primary ps) _ both) in
         let every : (p : Planned d) → Memᴰ p ps → Fits p.elements = λ p m. (fits_told p.elements).0 (all_in fits fit m) in
         record {
           every = every;
@@ -186,8 +187,8 @@ module _ (c : Corners) {d : ℕ} {rs : List (RuleOf (Block (suc d)))} (k : Known
           one_recursive = (q, n, recursive_before c k cycle is_rule q.elements w ((no_arguments_lem q.elements).1 (every q n).without));
         },
     λ x.
-        both_true (all fits ps) _ (in_all fits ps (λ p m. (fits_told p.elements).1 (x.every p m)))
-        (both_true (any primary ps) _
+        and_from (all fits ps) _ (in_all fits ps (λ p m. (fits_told p.elements).1 (x.every p m)))
+        (and_from (any primary ps) _
         (in_any primary x.one_primary.1 (before_primary x.one_primary.0.elements x.one_primary.2))
         (in_any recursive x.one_recursive.1 (before_recursive x.one_recursive.0.elements x.one_recursive.2))),
   )

@@ -6,6 +6,7 @@ use mathlib.Core.List.{List, [], ◌∷◌, Memᴰ}
 use Rattle.std.proofs.Math.Option.{Option, none, some, some-injective, none-ne-some}
 use Rattle.std.proofs.Math.Bool.{true, false, not, true≢false}
 use Rattle.std.proofs.lemmas.Bool.{false≢true, or_parts}
+use Rattle.std.specs.Cmp.{first_so, second_so}
 use borrow.Author.Tests.{eqb-true, not-true, not-false}
 use Rattle.grammar.specs.Laws.Lists.{member_in}
 use Rattle.grammar.specs.Tree.{ElementHead, Call, epsilon, action, predicate, call, token, terminal, end_of_input, Element, leaf, block}
@@ -15,7 +16,7 @@ use Rattle.language.specs.Shape.{erase_rules}
 use Rattle.language.specs.Derive.{CanBeEmpty}
 use Rattle.grammar.specs.Corners.{Corners}
 use Rattle.language.specs.LeftCorners.{Corner}
-use Rattle.grammar.specs.Laws.Parse.{left_true, right_true, either}
+use Rattle.grammar.specs.Laws.Parse.{either}
 use Rattle.grammar.specs.Numbers.{once}
 use Rattle.reference.specs.Walks.{sort_of, is_one}
 use Rattle.reference.specs.Analysis.{Grammar, target, grammar_of, element_nullable, block_is_nullable, left_corners}
@@ -46,8 +47,8 @@ module _ (g : Grammar) (hub : ℕ) {B : Type 0} where
       (record {
         head = h;
         is = refl;
-        known = k ∙ ap some (eqb-true t hub (right_true (is_one h) (eqb t hub) y));
-        plain = eqb-true h.quantifier once (left_true (is_one h) (eqb t hub) y);
+        known = k ∙ ap some (eqb-true t hub (second_so (is_one h) (eqb t hub) y));
+        plain = eqb-true h.quantifier once (first_so (is_one h) (eqb t hub) y);
       }))
       (λ f. absurd (none-ne-some b (rw f at e)))
 
@@ -114,8 +115,8 @@ module _ (c : Corners) {d : ℕ} {rs : List (RuleOf (Block (suc d)))} (k : Known
   unfolding is_recursive
   recursive_before es t f =
       let tail = all (element_nullable g (block_is_nullable g d)) (drop 1 es) in
-      let a = left_true (starts_with_hub_call g hub.id es) (not tail) t in
-      let b = not-true tail (right_true (starts_with_hub_call g hub.id es) (not tail) t) in
+      let a = first_so (starts_with_hub_call g hub.id es) (not tail) t in
+      let b = not-true tail (second_so (starts_with_hub_call g hub.id es) (not tail) t) in
       let (e, rest, w, site, h, bare) = hub_starts g hub.id es a f in
       let r = target_rule rs g k.named site.name h.known in
       let same = one_with (λ r. r.id) rs k.ids r.1 is_rule r.3 in

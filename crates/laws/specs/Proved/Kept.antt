@@ -1,18 +1,17 @@
 -- What a call means: from the row of the table that it is in, all that is promised of the run in it.
-use Rattle.std.specs.Prelude.{ℕ, zero, suc, ◌<◌, ◌≤◌, ◌*◌, ◌≡◌, length, Bool}
+use Rattle.std.specs.Prelude.{ℕ, ◌≤◌, ◌*◌, ◌≡◌, length, Bool}
 use Rattle.std.proofs.Math.Path.{refl, sym, ap}
 use Rattle.std.proofs.Common.{ap₂, ◌∙◌, subst, ⊎_elim, arith}
-use mathlib.Core.List.{List, [], ◌∷◌, Memᴰ}
+use mathlib.Core.List.{List, []}
 use Rattle.std.proofs.Math.ListN.{take}
 use Rattle.grammar.specs.Tree.{Rule, Sheet}
 use Rattle.grammar.specs.Words.{words, bytes}
 use Rattle.grammar.specs.Reading.{sheet, read, read_words, judge}
 use Rattle.grammar.specs.Corners.{Corners, rust, textbook}
-use Rattle.grammar.specs.Laws.Words.{AreBytes, AreWords, words_bytes}
+use Rattle.grammar.specs.Laws.Words.{AreBytes, words_bytes, in_words}
 use Rattle.grammar.specs.Laws.Codec.{accepted_valid}
 use Rattle.grammar.specs.Lists.{each}
 use Rattle.grammar.specs.Encode.{encode}
-use Rattle.grammar.specs.Numbers.{word_end}
 use Rattle.reference.specs.Substitute.{Limits}
 use Rattle.reference.specs.Run.{Stage, ended, eliminate_mutual_left_recursion, sheet_after, steps_of, encode_entry, entries_of, Outcome}
 use Rattle.reference.specs.Run.{filled}
@@ -63,12 +62,6 @@ nothing_else bs result trail work =
       trail = t;
       work = w;
     }) (filled_none trail) (filled_none work)
-
--- Numbers of which each is a word are words.
-in_words : (ws : List ℕ) → ((w : ℕ) → Memᴰ w ws → w < word_end) → AreWords ws
-in_words [] h i = omega arith
-in_words (w ∷ ws) h zero = h w (Memᴰ.head refl)
-in_words (w ∷ ws) h (suc i) = in_words ws (λ x m. h x (Memᴰ.tail m)) i
 
 -- What passes the reader's tests is read.
 passes_reads : (bs : List ℕ) (s : Sheet) → GoodLength bs → Passes (words bs) s → read bs ≡ sheet s

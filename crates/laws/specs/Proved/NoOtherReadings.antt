@@ -9,6 +9,7 @@ use Rattle.std.proofs.Math.Option.{some, some-injective, none-ne-some}
 use Rattle.grammar.specs.Lists
 use Rattle.grammar.specs.Corners.{rust}
 use Rattle.grammar.specs.Tree.{body_depth}
+use Rattle.grammar.specs.Laws.Parse.{never}
 use Rattle.language.specs.Shape.{Symbol, token_symbol, Word, Shape, symbol, call_of, seqs, alts, Shapes, quantified, erase_leaf}
 use Rattle.language.specs.Shape.{erase_element}
 use Rattle.language.specs.Shape.{erase_block, find}
@@ -28,9 +29,6 @@ use Rattle.laws.specs.Demands.Examples.{Filled, slotless, OneWithoutSlots, dots,
 use Rattle.laws.specs.Running.Stages.{valid_told}
 use Rattle.laws.specs.Proved.Demand3.{demand3}
 use Rattle.laws.specs.Proved.TwoReadings.{found_satellite, gone, blank, without, empty, chosen, two_derivations, two_readings_lem}
-
-never : {A : Type 0} → ◌≡◌ {A = ℕ} 0 1 → A
-never z = absurd (omega arith)
 
 -- The alternatives of e after the run, and without one of the two equal ones.
 abbrev dot : List Shape

@@ -5,6 +5,8 @@ use Rattle.std.proofs.Common.{sym, ap, ◌∙◌, inl, inr, arith, length-append
 use Rattle.std.proofs.Math.Bool.{true, false, true≢false}
 use Rattle.std.proofs.lemmas.List.{length-replicate}
 use Rattle.std.proofs.Math.Dec.{leb}
+use Rattle.std.proofs.lemmas.Bool.{and_from}
+use Rattle.std.specs.Cmp.{first_so, second_so}
 use borrow.Author.Tests.{leb-true, le-leb, eqb-true, eq-eqb}
 use Rattle.grammar.specs.Lists.{each, total}
 use Rattle.grammar.specs.Tree.{Rule, Sheet, Counters}
@@ -15,7 +17,6 @@ use Rattle.grammar.specs.Parse.{Got, got, bad}
 use Rattle.grammar.specs.Reading.{Reading, refused, sheet, is_length, is_trailer, rules_of, counters_of, sheet_of, judge, read_words, read}
 use Rattle.grammar.specs.Corners.{Corners}
 use Rattle.grammar.specs.Laws.Lists.{each_append}
-use Rattle.grammar.specs.Laws.Parse.{both_true, left_true, right_true}
 use Rattle.grammar.specs.Laws.Words.{length_words, length_bytes}
 use Rattle.grammar.specs.Laws.Codec.{is_encoding_words}
 use Rattle.reference.specs.Substitute.{Limits}
@@ -36,34 +37,34 @@ use Rattle.laws.specs.Validity.Result.{stages_short, stages_words, entries_lengt
 -- The tests of length and buffers.
 pub good_length_lem : (bs : List ℕ) → is_length (length bs) ≡ true → GoodLength bs
 good_length_lem bs t =
-    let rest = right_true (leb least_bytes (length bs)) _ t in
+    let rest = second_so (leb least_bytes (length bs)) _ t in
     record {
-      least = leb-true least_bytes (length bs) (left_true _ (leb (length bs) most_bytes && eqb (length bs % 4) 0) t);
-      most = leb-true (length bs) most_bytes (left_true _ (eqb (length bs % 4) 0) rest);
-      whole = eqb-true (length bs % 4) 0 (right_true (leb (length bs) most_bytes) _ rest);
+      least = leb-true least_bytes (length bs) (first_so _ (leb (length bs) most_bytes && eqb (length bs % 4) 0) t);
+      most = leb-true (length bs) most_bytes (first_so _ (eqb (length bs % 4) 0) rest);
+      whole = eqb-true (length bs % 4) 0 (second_so (leb (length bs) most_bytes) _ rest);
     }
 
 pub length_good : (bs : List ℕ) → GoodLength bs → is_length (length bs) ≡ true
 length_good bs g =
-    both_true _ _ (le-leb least_bytes (length bs) g.least)
-    (both_true _ _ (le-leb (length bs) most_bytes g.most) (eq-eqb (length bs % 4) 0 g.whole))
+    and_from _ _ (le-leb least_bytes (length bs) g.least)
+    (and_from _ _ (le-leb (length bs) most_bytes g.most) (eq-eqb (length bs % 4) 0 g.whole))
 
 module _ (result trail work : List ℕ) where
   pub are_lent_lem : are_lent result trail work ≡ true → Lent result trail work
   unfolding are_lent
   are_lent_lem t =
-      let rest = right_true (leb result_bytes (length result)) _ t in
+      let rest = second_so (leb result_bytes (length result)) _ t in
       record {
-        for_result = leb-true result_bytes (length result) (left_true _ (leb trail_bytes (length trail) && leb work_bytes (length work)) t);
-        for_trail = leb-true trail_bytes (length trail) (left_true _ (leb work_bytes (length work)) rest);
-        for_work = leb-true work_bytes (length work) (right_true (leb trail_bytes (length trail)) _ rest);
+        for_result = leb-true result_bytes (length result) (first_so _ (leb trail_bytes (length trail) && leb work_bytes (length work)) t);
+        for_trail = leb-true trail_bytes (length trail) (first_so _ (leb work_bytes (length work)) rest);
+        for_work = leb-true work_bytes (length work) (second_so (leb trail_bytes (length trail)) _ rest);
       }
 
   pub lent_are : Lent result trail work → are_lent result trail work ≡ true
   unfolding are_lent
   lent_are l =
-      both_true _ _ (le-leb result_bytes (length result) l.for_result)
-      (both_true _ _ (le-leb trail_bytes (length trail) l.for_trail) (le-leb work_bytes (length work) l.for_work))
+      and_from _ _ (le-leb result_bytes (length result) l.for_result)
+      (and_from _ _ (le-leb trail_bytes (length trail) l.for_trail) (le-leb work_bytes (length work) l.for_work))
 
 -- The reader's tests.
 abbrev Judged : List ℕ → Reading → Type 0

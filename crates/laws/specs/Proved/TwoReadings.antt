@@ -9,6 +9,7 @@ use Rattle.std.proofs.Math.Option.{some, some-injective}
 use Rattle.grammar.specs.Valid.{valid}
 use Rattle.grammar.specs.Tree.{Rule, body_depth}
 use Rattle.grammar.specs.Corners.{Corners, rust, textbook}
+use Rattle.grammar.specs.Laws.Parse.{never}
 use Rattle.language.specs.Shape.{Symbol, token_symbol, Word, Shape, call_of, seqs, alts, Shapes, quantified, erase_leaf, erase_element}
 use Rattle.language.specs.Shape.{erase_block, find}
 use Rattle.language.specs.Derive.{d_eps, d_symbol, d_call, d_seq, d_left, d_right, d_absent, d_present, RuleDerives}
@@ -36,9 +37,6 @@ use Rattle.laws.specs.Proved.TwoTurns.{satellite, start, two_turns}
 
 abbrev G : Shapes
 G = shapes_of doubling.rules
-
-never : {A : Type 0} → ◌≡◌ {A = ℕ} 0 1 → A
-never z = absurd (omega arith)
 
 -- The bodies of the two rules.
 found_hub : find G 1 ≡ some (alts (map seqs start))

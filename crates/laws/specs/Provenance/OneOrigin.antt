@@ -10,11 +10,12 @@ use mathlib.Core.List.{List, [], ◌∷◌, ◌++◌, map, Memᴰ}
 use Rattle.std.proofs.Math.Bool.{false}
 use Rattle.std.proofs.Math.Dec.{eqb}
 use Rattle.std.proofs.lemmas.Bool.{eqb-false, not-true}
+use Rattle.std.specs.Cmp.{first_so, second_so}
 use Rattle.grammar.specs.Lists.{any, member, distinct, keep, only}
 use Rattle.grammar.specs.Tree.{Element, leaf, block, Block, Alternative, Rule, body_depth, Counters}
 use Rattle.grammar.specs.Ids.{head_ids, element_ids, block_ids}
 use Rattle.grammar.specs.Corners.{Corners}
-use Rattle.grammar.specs.Laws.Parse.{either, left_true, right_true}
+use Rattle.grammar.specs.Laws.Parse.{either}
 use Rattle.grammar.specs.Laws.Lists.{in_member}
 use Rattle.grammar.specs.Numbers.{rule_sort}
 use Rattle.reference.specs.Analysis.{grammar_of}
@@ -222,7 +223,7 @@ module _ (limits : Limits) (corners : Corners) (preserved : List ℕ) (handed : 
       (planned_low b h y (f t.plan.hub (Memᴰ.head refl))) e n s w)
       (λ n.
       owners_low (stage_leaves limits corners preserved b h).told u (sorted_next b h y)
-      (right_true (not (member t.plan.hub (hubs ts))) (distinct (hubs ts)) d) away e n s w)
+      (second_so (not (member t.plan.hub (hubs ts))) (distinct (hubs ts)) d) away e n s w)
       (Memᴰ.append_cases t.after.entries m)
     where
       hubs : List Stage → List ℕ
@@ -233,6 +234,6 @@ module _ (limits : Limits) (corners : Corners) (preserved : List ℕ) (handed : 
           either (eqb i t.plan.hub)
           (λ v.
           let fresh =
-          not-true (member t.plan.hub (hubs ts)) (left_true (not (member t.plan.hub (hubs ts))) (distinct (hubs ts)) d) in
+          not-true (member t.plan.hub (hubs ts)) (first_so (not (member t.plan.hub (hubs ts))) (distinct (hubs ts)) d) in
           absurd (true≢false (sym (subst (λ l. member l (hubs ts) ≡ true) (eqb-true i t.plan.hub v) (in_member n)) ∙ fresh)))
           (λ v. ap (λ b. b || member i done) v ∙ f i (Memᴰ.tail n))

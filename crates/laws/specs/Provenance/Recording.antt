@@ -3,9 +3,10 @@ use Rattle.std.specs.Prelude.{ℕ, ◌<◌, ◌≡◌, refl, true, false, eqb}
 use Rattle.std.proofs.Common.{sym, ap, ◌∙◌, subst, ⊎_elim, arith, eqb-true, eq-eqb, ne_eqb}
 use mathlib.Core.List.Memᴰ
 use mathlib.Core.List.{List, [], ◌∷◌, ◌++◌, map, append_assoc, append-nil, Memᴰ}
-use Rattle.std.proofs.lemmas.Bool.{eqb-false}
+use Rattle.std.proofs.lemmas.Bool.{eqb-false, and_from}
+use Rattle.std.specs.Cmp.{first_so, second_so}
 use Rattle.grammar.specs.Lists.{any}
-use Rattle.grammar.specs.Laws.Parse.{both_true, left_true, right_true, either}
+use Rattle.grammar.specs.Laws.Parse.{either}
 use Rattle.reference.specs.Apply.{Entry, Node, Origin, Origins, same_node, same_origin, origins, add_origins, record_model, record_clone}
 use Rattle.reference.specs.Apply.{node_of}
 use Rattle.reference.specs.Apply.{owner_of, origin_of, recorded}
@@ -17,12 +18,12 @@ use Rattle.graph.specs.Order.{Distinct, distinct_of}
 
 pub same_node_lem : (m n : Node) → same_node m n ≡ true → m ≡ n
 same_node_lem m n t =
-    let p = eqb-true m.kind n.kind (left_true (eqb m.kind n.kind) _ t) in
-    let q = eqb-true m.id n.id (right_true (eqb m.kind n.kind) _ t) in
+    let p = eqb-true m.kind n.kind (first_so (eqb m.kind n.kind) _ t) in
+    let q = eqb-true m.id n.id (second_so (eqb m.kind n.kind) _ t) in
     λ i. record { kind = p i; id = q i }
 
 pub node_same : (m n : Node) → m ≡ n → same_node m n ≡ true
-node_same m n e = both_true _ _ (eq-eqb m.kind n.kind (ap (λ x. x.kind) e)) (eq-eqb m.id n.id (ap (λ x. x.id) e))
+node_same m n e = and_from _ _ (eq-eqb m.kind n.kind (ap (λ x. x.kind) e)) (eq-eqb m.id n.id (ap (λ x. x.id) e))
 
 pub node_other : (m n : Node) → (m ≡ n → ⊥) → same_node m n ≡ false
 node_other m n ne = either (same_node m n) (λ t. absurd (ne (same_node_lem m n t))) (λ f. f)
@@ -72,7 +73,7 @@ abbrev pub owner_id : Origin → ℕ
 owner_id o = o.owner.id
 
 same_owner : (o p : Origin) → same_origin o p ≡ true → owner_id o ≡ owner_id p
-same_owner o p t = ap (λ n. n.id) (same_node_lem o.owner p.owner (right_true (eqb o.reason p.reason) _ t))
+same_owner o p t = ap (λ n. n.id) (same_node_lem o.owner p.owner (second_so (eqb o.reason p.reason) _ t))
 
 apart_at : (have os : List Origin) (o : Origin) → Distinct (map owner_id (have ++ (o ∷ os))) → {p : Origin} → Memᴰ p have
     → owner_id p ≡ owner_id o → ⊥

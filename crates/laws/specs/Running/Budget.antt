@@ -3,13 +3,13 @@
 use Rattle.std.specs.Prelude.{ℕ, ◌+◌, ◌*◌, ◌≤◌, ◌≡◌, List, [], ◌∷◌, map, Bool, true, false, length, leb}
 use Rattle.std.proofs.Common.{le_trans, mul-le-mul, length-append, leb-true}
 use Rattle.std.proofs.Math.Nat.{max-le, suc-mul}
+use Rattle.std.specs.Cmp.{first_so}
 use native.Mathlib.Omega.{arith}
 use Rattle.grammar.specs.Tree.{AlternativeOf, Counters, Rule, body_depth, Sheet}
 use Rattle.grammar.specs.Encode.{encode_alternative, encode_rule, encode_block, encode_rules, encode}
 use Rattle.grammar.specs.Lists.{each, keep, member, push, total}
 use Rattle.grammar.specs.Valid.{fits}
 use Rattle.grammar.specs.Corners.{Corners}
-use Rattle.grammar.specs.Laws.Parse.{left_true}
 use Rattle.grammar.specs.Numbers.{most_words}
 use Rattle.reference.specs.Analysis.{grammar_of}
 use Rattle.reference.specs.Substitute.{Limits}
@@ -64,7 +64,7 @@ encode_rules_lem s = simp length-append (omega arith)
 sheet_bodies : (s : Sheet) → fits s ≡ true → total (map (λ r. length r.body) s.rules) ≤ most_bodies
 unfolding fits
 sheet_bodies s f =
-    let short = leb-true (length (encode s)) most_words (left_true (leb (length (encode s)) most_words) _ f) in
+    let short = leb-true (length (encode s)) most_words (first_so (leb (length (encode s)) most_words) _ f) in
     let h = rules_words s.rules in
     let l = encode_rules_lem s in
     omega arith

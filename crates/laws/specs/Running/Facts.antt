@@ -1,16 +1,17 @@
 -- What plans leave of what is found out about a grammar: between any rules that are told apart and what plans make of them.
-use Rattle.std.specs.Prelude.{ℕ, suc, ◌≡◌, Bool, true, false, ◌&&◌, eqb}
+use Rattle.std.specs.Prelude.{ℕ, suc, ◌≡◌, false, ◌&&◌, eqb}
 use Rattle.std.proofs.Math.Path.{refl, ap, subst}
 use Rattle.std.proofs.Common.{sym, ◌∙◌}
 use mathlib.Core.List.Memᴰ
 use mathlib.Core.List.{List, [], ◌∷◌, map, Memᴰ}
 use Rattle.std.proofs.Math.Option.{Option, none, some, none-ne-some}
-use Rattle.std.proofs.lemmas.Bool.{eqb-false, or_parts}
+use Rattle.std.proofs.lemmas.Bool.{eqb-false, or_parts, and_from}
+use Rattle.std.specs.Cmp.{first_so, second_so, both_ways}
 use Rattle.grammar.specs.Lists.{member}
 use Rattle.grammar.specs.Tree.{Rule, RuleOf, Block, body_depth, Counters}
 use Rattle.grammar.specs.Corners.{Corners}
 use Rattle.grammar.specs.Laws.Lists.{in_member, member_in, in_map}
-use Rattle.grammar.specs.Laws.Parse.{both_true, left_true, right_true, either}
+use Rattle.grammar.specs.Laws.Parse.{either}
 use Rattle.language.specs.Shape.{erase_block, EachCall}
 use Rattle.language.specs.Laws.Removal.{each_any}
 use Rattle.language.specs.Laws.Rules.{found_rule, same_can_be_empty}
@@ -34,11 +35,6 @@ use Rattle.laws.specs.Running.Leaves.{plan_stands}
 use Rattle.laws.specs.Running.Stages.{rules_after, Chain, chain_leaves}
 use Rattle.laws.specs.Running.Stay.{chain_stands}
 
-same_test : (a b : Bool) → (a ≡ true → b ≡ true) → (b ≡ true → a ≡ true) → a ≡ b
-same_test true b f k = sym (f refl)
-same_test false true f k = k refl
-same_test false false f k = refl
-
 module _ (d : ℕ) {rs ks : Rules d} (told : Told rs) (x : Leaves d rs ks) where
   abbrev g : Grammar
   g = grammar_of d rs
@@ -56,17 +52,17 @@ module _ (d : ℕ) {rs ks : Rules d} (told : Told rs) (x : Leaves d rs ks) where
   nullable_left i =
       let was = rule_empty d rs told.ids told.names i in
       let is = rule_empty d ks x.told.ids x.told.names i in
-      same_test (member i (nullable_rules d ks)) (member i (ids_of ks) && member i (nullable_rules d rs))
+      both_ways (member i (nullable_rules d ks)) (member i (ids_of ks) && member i (nullable_rules d rs))
       (λ y.
       let s = is.0 y in
       let (q, m, e, b) = found_rule d (λ r. r.id) ks i s.derives.found in
       let u = in_member (subst (λ j. Memᴰ j (ids_of ks)) e (in_map (λ r. r.id) m)) in
-      both_true (member i (ids_of ks)) (member i (nullable_rules d rs)) u
+      and_from (member i (ids_of ks)) (member i (nullable_rules d rs)) u
       (was.1 (same_can_be_empty (λ w. (leaves_derives d told x i u w).1) s)))
       (λ y.
-      let u = left_true (member i (ids_of ks)) (member i (nullable_rules d rs)) y in
+      let u = first_so (member i (ids_of ks)) (member i (nullable_rules d rs)) y in
       is.1 (same_can_be_empty (λ w. (leaves_derives d told x i u w).0)
-      (was.0 (right_true (member i (ids_of ks)) (member i (nullable_rules d rs)) y))))
+      (was.0 (second_so (member i (ids_of ks)) (member i (nullable_rules d rs)) y))))
 
   -- What a rule left calls, if the grammar before knows it, is left.
   calls_left : (q : RuleOf (Block d)) → Memᴰ q ks → EachCall (CallsIn g (ids_of ks)) (erase_block d q.body)

@@ -6,6 +6,7 @@ use mathlib.Core.List.Memᴰ
 use mathlib.Core.List.{List, [], ◌∷◌, Memᴰ}
 use Rattle.std.proofs.Math.Bool.{false}
 use Rattle.std.proofs.lemmas.Bool.{not-true, or_parts}
+use Rattle.std.specs.Cmp.{first_so, second_so}
 use Rattle.grammar.specs.Laws.Lists.{in_map}
 use Rattle.grammar.specs.Tree.{ElementHead, Call, epsilon, action, predicate, call, token, terminal, end_of_input, leaf, block}
 use Rattle.grammar.specs.Tree.{AlternativeOf}
@@ -16,7 +17,7 @@ use Rattle.language.specs.Derive.{CanBeEmpty}
 use Rattle.language.specs.Laws.Empty.{by_same}
 use Rattle.grammar.specs.Corners.{Corners}
 use Rattle.language.specs.LeftCorners.{Corner}
-use Rattle.grammar.specs.Laws.Parse.{left_true, right_true, either}
+use Rattle.grammar.specs.Laws.Parse.{either}
 use Rattle.language.specs.Laws.Copies.{change_element, drop_ids, copies_shape}
 use Rattle.reference.specs.Walks.{is_epsilon_only}
 use Rattle.reference.specs.Analysis.{Grammar, grammar_of}
@@ -67,8 +68,8 @@ module _ {c : Corners} {d : ℕ} {rs : List (RuleOf (Block (suc d)))} (k : Known
   without_arguments p m =
       let fit =
       all_in (λ p. is_fit c g cycle x.hub.id d p.elements)
-      (left_true (all (λ p. is_fit c g cycle x.hub.id d p.elements) plan.alternatives) _ x.is_fit) m in
-      (or_parts _ _ (not-true (any (gives_hub_arguments g x.hub.id) p.elements || all is_epsilon_only p.elements) (left_true _ _ fit))).0
+      (first_so (all (λ p. is_fit c g cycle x.hub.id d p.elements) plan.alternatives) _ x.is_fit) m in
+      (or_parts _ _ (not-true (any (gives_hub_arguments g x.hub.id) p.elements || all is_epsilon_only p.elements) (first_so _ _ fit))).0
 
   -- Every planned alternative is of one sort or the other.
   sorts_before : (p : Planned d) → Memᴰ p plan.alternatives
@@ -78,26 +79,26 @@ module _ {c : Corners} {d : ℕ} {rs : List (RuleOf (Block (suc d)))} (k : Known
       let es = p.elements in
       let fit =
       all_in (λ p. is_fit c g cycle x.hub.id d p.elements)
-      (left_true (all (λ p. is_fit c g cycle x.hub.id d p.elements) plan.alternatives) _ x.is_fit) m in
+      (first_so (all (λ p. is_fit c g cycle x.hub.id d p.elements) plan.alternatives) _ x.is_fit) m in
       either (is_primary c g cycle x.hub.id d es)
       (λ y. inr (primary_before c k cycle x.is_rule es y))
       (λ n. inl (recursive_before c k cycle x.is_rule es (rw n at
-      (right_true (not (any (gives_hub_arguments g x.hub.id) es || all is_epsilon_only es)) _ fit)) (without_arguments p m)))
+      (second_so (not (any (gives_hub_arguments g x.hub.id) es || all is_epsilon_only es)) _ fit)) (without_arguments p m)))
 
   one_primary : (p : Planned d) × Memᴰ p plan.alternatives × Primary d rs c cycle p.elements
   unfolding planned_hub_is_directly_rewritable
   one_primary =
-      let both = right_true (all (λ p. is_fit c g cycle x.hub.id d p.elements) plan.alternatives) _ x.is_fit in
-      let (p, m, t) = any_in (λ p. is_primary c g cycle x.hub.id d p.elements) plan.alternatives (left_true _ _ both) in
+      let both = second_so (all (λ p. is_fit c g cycle x.hub.id d p.elements) plan.alternatives) _ x.is_fit in
+      let (p, m, t) = any_in (λ p. is_primary c g cycle x.hub.id d p.elements) plan.alternatives (first_so _ _ both) in
       (p, m, primary_before c k cycle x.is_rule p.elements t)
 
   one_recursive : (p : Planned d) × Memᴰ p plan.alternatives × Recursive d rs x.hub.name p.elements
   unfolding planned_hub_is_directly_rewritable
   one_recursive =
-      let both = right_true (all (λ p. is_fit c g cycle x.hub.id d p.elements) plan.alternatives) _ x.is_fit in
+      let both = second_so (all (λ p. is_fit c g cycle x.hub.id d p.elements) plan.alternatives) _ x.is_fit in
       let (p, m, t) =
       any_in (λ p. is_recursive g x.hub.id d p.elements) plan.alternatives
-      (right_true (any (λ p. is_primary c g cycle x.hub.id d p.elements) plan.alternatives) _ both) in
+      (second_so (any (λ p. is_primary c g cycle x.hub.id d p.elements) plan.alternatives) _ both) in
       (p, m, recursive_before c k cycle x.is_rule p.elements t (without_arguments p m))
 
   -- After the plan: each alternative has a planned one, and each planned one an alternative.

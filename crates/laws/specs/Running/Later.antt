@@ -3,6 +3,7 @@ use Rattle.std.specs.Prelude.{ℕ, suc, ◌≤◌, ◌≡◌, refl, ◌⊎◌, t
 use Rattle.std.proofs.Common.{sym, ap, ◌∙◌, subst, subst₂, inl, inr, ⊎_elim, arith, ltb-true}
 use mathlib.Core.List.{List, [], ◌∷◌, Memᴰ}
 use Rattle.std.proofs.Math.Decide.{ℕ_discrete}
+use Rattle.std.specs.Cmp.{first_so}
 use Rattle.grammar.specs.Laws.Lists.{in_member}
 use Rattle.grammar.specs.Tree.{ElementHead, Call, call, leaf, AlternativeOf, Block, Rule, body_depth}
 use Rattle.grammar.specs.Lists.{member, rising}
@@ -10,7 +11,7 @@ use Rattle.language.specs.Shape.{call_of, erase_block, Shapes, erase_rules}
 use Rattle.language.specs.Derive.{CanBeEmpty, RuleCanBeEmpty}
 use Rattle.grammar.specs.Corners.{Corners}
 use Rattle.language.specs.LeftCorners.{Corner, c_call, c_first, c_later, Leads, Reaches, r_last, r_more}
-use Rattle.grammar.specs.Laws.Parse.{left_true, either}
+use Rattle.grammar.specs.Laws.Parse.{either}
 use Rattle.grammar.specs.Numbers.{once}
 use Rattle.language.specs.Laws.Corner.{reaches_trans}
 use Rattle.language.specs.Laws.Rules.{found_rule, rule_can_be_empty}
@@ -125,7 +126,7 @@ unfolding rising member
 another i [] s r = absurd (omega arith)
 another i (x ∷ []) s r = absurd (omega arith)
 another i (x ∷ y ∷ ys) s r =
-    let l = ltb-true x y (left_true (ltb x y) (rising (y ∷ ys)) r) in
+    let l = ltb-true x y (first_so (ltb x y) (rising (y ∷ ys)) r) in
     elim (ℕ_discrete x i) [
       | yes p ↦ (y, in_member {x = y} {xs = x ∷ y ∷ ys} (Memᴰ.tail (Memᴰ.head refl)), λ q. omega arith)
       | no ne ↦ (x, in_member {x = x} {xs = x ∷ y ∷ ys} (Memᴰ.head refl), ne)

@@ -6,6 +6,7 @@ use Rattle.std.proofs.Math.Path.{sym, ap, ap₂, subst}
 use Rattle.std.proofs.Common.{◌∙◌, subst₂, append-nil, zero-add, le_trans, mul-le-mul, length-append}
 use native.Mathlib.Omega.{arith}
 use Rattle.std.proofs.Math.ListN.{length}
+use Rattle.std.specs.Cmp.{first_so}
 use borrow.Author.Tests.{leb-true, eq-eqb}
 use Rattle.grammar.specs.Tree.{body_depth, Sheet}
 use Rattle.grammar.specs.Encode.{encode}
@@ -13,7 +14,6 @@ use Rattle.grammar.specs.Ids.{rule_ids, rule_names}
 use Rattle.grammar.specs.Lists.{distinct, member}
 use Rattle.grammar.specs.Valid.{rule_limit, valid, fits}
 use Rattle.grammar.specs.Corners.{Corners}
-use Rattle.grammar.specs.Laws.Parse.{left_true}
 use Rattle.grammar.specs.Laws.Whole.{valid_parts}
 use Rattle.grammar.specs.Numbers.{most_words, word_end, parser, plan_too_large}
 use Rattle.reference.specs.Numbers.{most_entries}
@@ -99,7 +99,7 @@ module _ (limits : Limits) (corners : Corners) (s : Sheet) where
           ids = sound.ids;
           names = sound.names;
           rules = sound.few;
-          words = leb-true (length (encode now)) most_words (left_true (leb (length (encode now)) most_words) _ g.fitting);
+          words = leb-true (length (encode now)) most_words (first_so (leb (length (encode now)) most_words) _ g.fitting);
           kind = sym (ap (λ t. t.kind) m.is_now) ∙ same_kind s stages;
           preserved = preserved_now;
           plans = chain_few limits corners s.preserved told (stages_chain limits corners s.kind s.preserved m.happened);

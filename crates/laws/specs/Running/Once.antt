@@ -6,7 +6,7 @@ use mathlib.Core.List.Memᴰ
 use mathlib.Core.List.{List, [], ◌∷◌, ◌++◌, map, Memᴰ}
 use Rattle.std.proofs.Math.Option.{some, some-injective}
 use Rattle.std.proofs.Math.Bool.{not}
-use Rattle.std.proofs.lemmas.Bool.{false≢true}
+use Rattle.std.proofs.lemmas.Bool.{false≢true, and_from}
 use Rattle.std.proofs.lemmas.List.{length-map}
 use Rattle.grammar.specs.Laws.Lists.{in_member, member_in, in_map}
 use Rattle.grammar.specs.Lists.{AllOf, member, distinct}
@@ -14,7 +14,7 @@ use Rattle.grammar.specs.Tree.{ElementHead, Call, call, Element, leaf, Block, Ru
 use Rattle.language.specs.Shape.{find, erase_block, erase_rules}
 use Rattle.grammar.specs.Corners.{Corners}
 use Rattle.language.specs.LeftCorners.{Corner, Reaches}
-use Rattle.grammar.specs.Laws.Parse.{both_true, either}
+use Rattle.grammar.specs.Laws.Parse.{either}
 use Rattle.language.specs.Laws.Rules.{rule_found}
 use Rattle.reference.specs.Walks.{sort_of, is_epsilon_only}
 use Rattle.reference.specs.Analysis.{Grammar, ids_of, target, grammar_of}
@@ -188,7 +188,7 @@ module _ (limits : Limits) (corners : Corners) (preserved : List ℕ) where
   hubs_distinct k (next {t = t} {ts = ts} e h c) =
       let b = subst Told (sym e) k in
       let (x, y) = follows_all limits corners preserved b h (follows_here limits corners preserved b h) c in
-      both_true (not (member t.plan.hub (hubs ts))) (distinct (hubs ts))
+      and_from (not (member t.plan.hub (hubs ts))) (distinct (hubs ts))
       (either (member t.plan.hub (hubs ts)) (λ m. absurd (y t.plan.hub (member_in (hubs ts) m) refl)) (λ n. ap not n))
       (hubs_distinct (stage_leaves limits corners preserved b h).told c)
 

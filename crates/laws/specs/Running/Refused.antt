@@ -4,11 +4,11 @@ use Rattle.std.proofs.Math.Path.{refl}
 use Rattle.std.proofs.Common.{subst, inl, inr, arith}
 use Rattle.std.proofs.Math.Bool.{true, false}
 use Rattle.std.proofs.Math.Dec.{leb}
+use Rattle.std.specs.Cmp.{first_so, second_so}
 use borrow.Author.Tests.{leb-true, leb-false, ltb-true, ltb-false}
 use Rattle.grammar.specs.Tree.{Rule, Counters}
 use Rattle.grammar.specs.Encode.{encode, encode_counters}
 use Rattle.grammar.specs.Lists.{all, AllOf, AnyOf}
-use Rattle.grammar.specs.Laws.Parse.{left_true, right_true}
 use Rattle.reference.specs.Apply.{Fresh}
 use Rattle.reference.specs.Run.{are_words, sheet_with, is_short, refusal_of}
 use Rattle.grammar.specs.Numbers.{most_words}
@@ -20,8 +20,8 @@ all_words : (ns : List ℕ) → all (λ n. ltb n word_end) ns ≡ true → AllOf
 unfolding all
 all_words [] t = tt
 all_words (n ∷ ns) t =
-    let h = ltb-true n word_end (left_true (ltb n word_end) _ t) in
-    (omega arith, all_words ns (right_true (ltb n word_end) _ t))
+    let h = ltb-true n word_end (first_so (ltb n word_end) _ t) in
+    (omega arith, all_words ns (second_so (ltb n word_end) _ t))
 
 no_word : (ns : List ℕ) → all (λ n. ltb n word_end) ns ≡ false → AnyOf (λ n. counter_end ≤ n) ns
 unfolding all

@@ -8,12 +8,13 @@ use mathlib.Core.List.Memᴰ
 use mathlib.Core.List.{List, [], ◌∷◌, ◌++◌, append-nil, append_assoc, Memᴰ}
 use Rattle.std.proofs.Math.ListN.{length, length-append}
 use Rattle.std.proofs.lemmas.Bool.{eqb-false}
+use Rattle.std.specs.Cmp.{first_so, second_so}
 use Rattle.grammar.specs.Tree.{Rule, body_depth, Counters, Sheet}
 use Rattle.grammar.specs.Ids.{rule_ids, rule_names, is_distinct}
 use Rattle.grammar.specs.Lists.{distinct, total}
 use Rattle.grammar.specs.Valid.{valid}
 use Rattle.grammar.specs.Corners.{Corners}
-use Rattle.grammar.specs.Laws.Parse.{left_true, right_true, either}
+use Rattle.grammar.specs.Laws.Parse.{either}
 use Rattle.grammar.specs.Laws.Whole.{valid_parts}
 use Rattle.grammar.specs.Numbers.{parser, plan_too_large}
 use Rattle.reference.specs.Analysis.{grammar_of, left_corner_cycles}
@@ -89,8 +90,8 @@ pub distinct_told : (rs : List Rule) → is_distinct rs ≡ true → Told rs
 unfolding is_distinct
 distinct_told rs t =
     record {
-      ids = left_true (distinct (rule_ids rs)) _ t;
-      names = left_true (distinct (rule_names rs)) _ (right_true (distinct (rule_ids rs)) _ t);
+      ids = first_so (distinct (rule_ids rs)) _ t;
+      names = first_so (distinct (rule_names rs)) _ (second_so (distinct (rule_ids rs)) _ t);
     }
 
 pub valid_told : (s : Sheet) → valid s ≡ true → Told s.rules

@@ -4,8 +4,9 @@ use Rattle.std.specs.Prelude.{◌≡◌, List, [], ◌∷◌, ◌++◌, map, Boo
 use Rattle.std.proofs.Math.Path.{refl}
 use Rattle.std.proofs.Common.{sym, ap, ◌∙◌, subst, arith, leb-true, lt-ltb}
 use Rattle.std.proofs.lemmas.List.{length-map}
+use Rattle.std.proofs.lemmas.Bool.{and_from}
+use Rattle.std.specs.Cmp.{first_so, second_so}
 use Rattle.grammar.specs.Lists.{AllOf, all, each}
-use Rattle.grammar.specs.Laws.Parse.{both_true, left_true, right_true}
 use Rattle.grammar.specs.Read.{is_name}
 use Rattle.grammar.specs.Numbers.{word_end, most_name, block_kind}
 use Rattle.grammar.specs.Encode.{encode_option, encode_reference, label_id, label_name, encode_head, leaf_kind, encode_leaf, encode_element}
@@ -28,25 +29,25 @@ Wordy xs = all W xs ≡ true
 pub wordy_both : (xs ys : List ℕ) → Wordy xs → Wordy ys → Wordy (xs ++ ys)
 unfolding all
 wordy_both [] ys h k = k
-wordy_both (x ∷ xs) ys h k = both_true (W x) _ (left_true (W x) _ h) (wordy_both xs ys (right_true (W x) _ h) k)
+wordy_both (x ∷ xs) ys h k = and_from (W x) _ (first_so (W x) _ h) (wordy_both xs ys (second_so (W x) _ h) k)
 
 pub wordy_left : (xs ys : List ℕ) → Wordy (xs ++ ys) → Wordy xs
 unfolding all
 wordy_left [] ys h = refl
-wordy_left (x ∷ xs) ys h = both_true (W x) _ (left_true (W x) _ h) (wordy_left xs ys (right_true (W x) _ h))
+wordy_left (x ∷ xs) ys h = and_from (W x) _ (first_so (W x) _ h) (wordy_left xs ys (second_so (W x) _ h))
 
 pub wordy_right : (xs ys : List ℕ) → Wordy (xs ++ ys) → Wordy ys
 unfolding all
 wordy_right [] ys h = h
-wordy_right (x ∷ xs) ys h = wordy_right xs ys (right_true (W x) _ h)
+wordy_right (x ∷ xs) ys h = wordy_right xs ys (second_so (W x) _ h)
 
 -- A word more, kept a word.
 more : (x y : ℕ) (xs ys : List ℕ) → (W x ≡ true → W y ≡ true) → (Wordy xs → Wordy ys) → Wordy (x ∷ xs) → Wordy (y ∷ ys)
 unfolding all
-more x y xs ys h k t = both_true (W y) _ (h (left_true (W x) _ t)) (k (right_true (W x) _ t))
+more x y xs ys h k t = and_from (W y) _ (h (first_so (W x) _ t)) (k (second_so (W x) _ t))
 
 name_word : (n : ℕ) → is_name n ≡ true → W n ≡ true
-name_word n t = let h = leb-true n most_name (right_true (leb 1 n) _ t) in lt-ltb n word_end (omega arith)
+name_word n t = let h = leb-true n most_name (second_so (leb 1 n) _ t) in lt-ltb n word_end (omega arith)
 
 as_was : (n m : ℕ) → m ≡ n → W n ≡ true → W m ≡ true
 as_was n m e t = ap W e ∙ t

@@ -2,9 +2,10 @@
 use Prim.Native.Nat.{ℕ, zero, suc}
 use Rattle.std.specs.Prelude.{◌≡◌, Bool, true, leb}
 use Rattle.std.proofs.Math.Path.{refl}
+use Rattle.std.proofs.lemmas.Bool.{and_from}
+use Rattle.std.specs.Cmp.{first_so, second_so}
 use mathlib.Core.List.{List, [], ◌∷◌, map}
 use Rattle.grammar.specs.Lists.{AllOf, all, each}
-use Rattle.grammar.specs.Laws.Parse.{both_true, left_true, right_true}
 use Rattle.grammar.specs.Read.{is_name}
 use Rattle.grammar.specs.Numbers.{non_local, one_or_more_nongreedy, most_alternative_flag, most_rule_flags}
 use Rattle.grammar.specs.Valid.{ok_option, ok_reference, ok_label, ok_head, ok_leaf, ok_element, ok_alternative, ok_rule, ok_block}
@@ -23,17 +24,17 @@ module _ (f r : ℕ → ℕ) where
   options_good : (os : List OptionDecl) → AllOf Good (option_names os) → all ok_option (map (on_option f r) os) ≡ true
   unfolding all
   options_good [] h = refl
-  options_good (o ∷ os) h = both_true (is_name (f o.name)) _ h.0 (options_good os h.1)
+  options_good (o ∷ os) h = and_from (is_name (f o.name)) _ h.0 (options_good os h.1)
 
   references_good : (os : List Reference) → AllOf Good (map (λ o. o.name) os) → all ok_reference os ≡ true
       → all ok_reference (map (on_reference f r) os) ≡ true
   unfolding all
   references_good [] h t = refl
   references_good (o ∷ os) h t =
-      both_true _ _
-      (both_true (leb o.kind non_local) (is_name (f o.name)) (left_true (leb o.kind non_local) _ (left_true (ok_reference o) _ t))
+      and_from _ _
+      (and_from (leb o.kind non_local) (is_name (f o.name)) (first_so (leb o.kind non_local) _ (first_so (ok_reference o) _ t))
       h.0)
-      (references_good os h.1 (right_true (ok_reference o) _ t))
+      (references_good os h.1 (second_so (ok_reference o) _ t))
 
   label_good : (l : Label) → AllOf Good (label_names l) → ok_label (on_label f r l) ≡ true
   unfolding ok_label
@@ -43,8 +44,8 @@ module _ (f r : ℕ → ℕ) where
   head_good : (x : ElementHead) → AllOf Good (head_names x) → ok_head x ≡ true → ok_head (on_head f r x) ≡ true
   unfolding ok_head
   head_good x h t =
-      both_true (leb x.quantifier one_or_more_nongreedy) _ (left_true (leb x.quantifier one_or_more_nongreedy) _ t)
-      (both_true (ok_label (on_label f r x.label)) _
+      and_from (leb x.quantifier one_or_more_nongreedy) _ (first_so (leb x.quantifier one_or_more_nongreedy) _ t)
+      (and_from (ok_label (on_label f r x.label)) _
       (label_good x.label (left_of Good (label_names x.label) (option_names x.options) h))
       (options_good x.options (right_of Good (label_names x.label) (option_names x.options) h)))
 
@@ -64,8 +65,8 @@ module _ (f r : ℕ → ℕ) where
   unfolding all
   each_good names on ok ok' e [] h t = refl
   each_good names on ok ok' e (a ∷ as') h t =
-      both_true (ok' (on a)) _ (e a (left_of Good (names a) (each names as') h) (left_true (ok a) _ t))
-      (each_good names on ok ok' e as' (right_of Good (names a) (each names as') h) (right_true (ok a) _ t))
+      and_from (ok' (on a)) _ (e a (left_of Good (names a) (each names as') h) (first_so (ok a) _ t))
+      (each_good names on ok ok' e as' (right_of Good (names a) (each names as') h) (second_so (ok a) _ t))
 
   module _ {B : Type 0} (of_b : B → List ℕ) (on_b : B → B) (ok : B → Bool)
       (e : (b : B) → AllOf Good (of_b b) → ok b ≡ true → ok (on_b b) ≡ true) where
@@ -73,22 +74,22 @@ module _ (f r : ℕ → ℕ) where
         → ok_element ok (on_element f r on_b x) ≡ true
     unfolding ok_element on_element element_names
     element_good (leaf h l) n t =
-        both_true (ok_head (on_head f r h)) _ (head_good h (left_of Good (head_names h) (names_of_leaf l) n) (left_true (ok_head h) _ t))
-        (leaf_good l (right_of Good (head_names h) (names_of_leaf l) n) (right_true (ok_head h) _ t))
+        and_from (ok_head (on_head f r h)) _ (head_good h (left_of Good (head_names h) (names_of_leaf l) n) (first_so (ok_head h) _ t))
+        (leaf_good l (right_of Good (head_names h) (names_of_leaf l) n) (second_so (ok_head h) _ t))
     element_good (block h b) n t =
-        both_true (ok_head (on_head f r h)) _ (head_good h (left_of Good (head_names h) (of_b b) n) (left_true (ok_head h) _ t))
-        (e b (right_of Good (head_names h) (of_b b) n) (right_true (ok_head h) _ t))
+        and_from (ok_head (on_head f r h)) _ (head_good h (left_of Good (head_names h) (of_b b) n) (first_so (ok_head h) _ t))
+        (e b (right_of Good (head_names h) (of_b b) n) (second_so (ok_head h) _ t))
 
     alternative_good : (a : AlternativeOf B) → AllOf Good (alternative_names of_b a) → ok_alternative ok a ≡ true
         → ok_alternative ok (on_alternative f r on_b a) ≡ true
     unfolding ok_alternative
     alternative_good a n t =
-        let u = right_true (leb a.flag most_alternative_flag) _ t in
-        both_true (leb a.flag most_alternative_flag) _ (left_true (leb a.flag most_alternative_flag) _ t)
-        (both_true (all ok_option (map (on_option f r) a.options)) _
+        let u = second_so (leb a.flag most_alternative_flag) _ t in
+        and_from (leb a.flag most_alternative_flag) _ (first_so (leb a.flag most_alternative_flag) _ t)
+        (and_from (all ok_option (map (on_option f r) a.options)) _
         (options_good a.options (left_of Good (option_names a.options) (each (element_names of_b) a.elements) n))
         (each_good (element_names of_b) (on_element f r on_b) (ok_element ok) (ok_element ok) element_good a.elements
-        (right_of Good (option_names a.options) (each (element_names of_b) a.elements) n) (right_true (all ok_option a.options) _ u)))
+        (right_of Good (option_names a.options) (each (element_names of_b) a.elements) n) (second_so (all ok_option a.options) _ u)))
 
   block_good : (d : ℕ) (b : Block d) → AllOf Good (block_names d b) → ok_block d b ≡ true → ok_block d (on_block f r d b) ≡ true
   unfolding ok_block on_block block_names
@@ -102,10 +103,10 @@ module _ (f r : ℕ → ℕ) where
       → ok_rule (ok_block body_depth) (on_rule f r (on_block f r body_depth) q) ≡ true
   unfolding ok_rule
   rule_good q n t =
-      let u = right_true (is_name q.name) _ t in
-      both_true (is_name (f q.name)) _ n.0
-      (both_true (leb q.flags most_rule_flags) _ (left_true (leb q.flags most_rule_flags) _ u)
-      (block_good body_depth q.body n.1 (right_true (leb q.flags most_rule_flags) _ u)))
+      let u = second_so (is_name q.name) _ t in
+      and_from (is_name (f q.name)) _ n.0
+      (and_from (leb q.flags most_rule_flags) _ (first_so (leb q.flags most_rule_flags) _ u)
+      (block_good body_depth q.body n.1 (second_so (leb q.flags most_rule_flags) _ u)))
 
   -- All the rules.
   pub rules_good : (rs : List Rule) → AllOf Good (each (λ (q : Rule). q.name ∷ block_names body_depth q.body) rs)

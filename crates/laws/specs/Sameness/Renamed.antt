@@ -5,8 +5,9 @@ use Rattle.std.proofs.Math.Path.{ap, subst}
 use Rattle.std.proofs.Math.ListN.{length}
 use Rattle.std.proofs.lemmas.List.{length-map}
 use Rattle.std.proofs.Math.Dec.{leb}
+use Rattle.std.proofs.lemmas.Bool.{and_from}
+use Rattle.std.specs.Cmp.{first_so, second_so}
 use Rattle.grammar.specs.Lists.{all, member}
-use Rattle.grammar.specs.Laws.Parse.{both_true, left_true, right_true}
 use Rattle.grammar.specs.Laws.Words.{AreBytes, AreWords, words_bound, length_words, length_bytes, words_bytes}
 use Rattle.grammar.specs.Words.{words, bytes}
 use Rattle.grammar.specs.Read.{is_name}
@@ -16,12 +17,12 @@ use Rattle.grammar.specs.Ids.{is_distinct, is_below}
 use Rattle.grammar.specs.Valid.{rule_limit}
 use Rattle.grammar.specs.Reading.{Reading, refused, sheet, is_length, is_trailer, rules_of, sheet_of, judge, read_words, read}
 use Rattle.grammar.specs.Tree.{Sheet, body_depth}
+use Rattle.grammar.specs.Laws.Whole.{Records, stands_encoded, encoded_stands}
 use Rattle.laws.specs.Demands.Sameness.{TreeIn}
 use Rattle.laws.specs.Lists.Every.{all_members}
 use Rattle.laws.specs.Proved.Table.{good_length_lem, length_good}
 use Rattle.laws.specs.Demands.Marks.{on_rule, on_block, on_sheet, names_in}
 use Rattle.laws.specs.Sameness.Lengths.{body_length, whole_length}
-use Rattle.laws.specs.Sameness.Standing.{Records, stands_encoded, encoded_stands}
 use Rattle.laws.specs.Sameness.Good.{Good, rules_good}
 use Rattle.laws.specs.Sameness.Fitting.{W, Wordy, wordy_both, wordy_left, wordy_right, rules_words}
 
@@ -29,13 +30,13 @@ use Rattle.laws.specs.Sameness.Fitting.{W, Wordy, wordy_both, wordy_left, wordy_
 words_wordy : (ws : List ℕ) → AreWords ws → Wordy ws
 unfolding all
 words_wordy [] h = refl
-words_wordy (w ∷ ws) h = both_true (W w) _ (lt-ltb w word_end (h 0)) (words_wordy ws (λ i. h (suc i)))
+words_wordy (w ∷ ws) h = and_from (W w) _ (lt-ltb w word_end (h 0)) (words_wordy ws (λ i. h (suc i)))
 
 wordy_words : (ws : List ℕ) → Wordy ws → AreWords ws
 unfolding all
 wordy_words [] h i = omega arith
-wordy_words (w ∷ ws) h zero = ltb-true w word_end (left_true (W w) _ h)
-wordy_words (w ∷ ws) h (suc i) = wordy_words ws (right_true (W w) _ h) i
+wordy_words (w ∷ ws) h zero = ltb-true w word_end (first_so (W w) _ h)
+wordy_words (w ∷ ws) h (suc i) = wordy_words ws (second_so (W w) _ h) i
 
 -- What 5 and 6 make of a tree.
 unfoldable pub reading_of : Sheet → Reading

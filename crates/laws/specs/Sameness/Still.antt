@@ -3,13 +3,14 @@ use Rattle.std.specs.Prelude.{ℕ, ◌*◌, ◌%◌, List, [], true, leb}
 use Rattle.std.proofs.Math.Path.{◌≡◌, refl}
 use native.Mathlib.Omega.{arith}
 use Rattle.std.proofs.Math.ListN.{length}
+use Rattle.std.specs.Cmp.{second_so}
 use borrow.Author.Tests.{eqb-true}
 use Rattle.grammar.specs.Tree.{Sheet}
 use Rattle.grammar.specs.Words.{words, bytes}
 use Rattle.grammar.specs.Lists.{total}
 use Rattle.grammar.specs.Reading.{refused, sheet, is_length, read}
 use Rattle.grammar.specs.Corners.{Corners}
-use Rattle.grammar.specs.Laws.Parse.{right_true, either}
+use Rattle.grammar.specs.Laws.Parse.{either}
 use Rattle.grammar.specs.Laws.Words.{AreBytes, length_words, bytes_words}
 use Rattle.grammar.specs.Laws.Codec.{is_encoding_words}
 use Rattle.grammar.specs.Numbers.{most_bytes, least_bytes, bad_length}
@@ -48,6 +49,6 @@ module _ (limits : Limits) (c : Corners) where
   unfolding outcome delivered bytes
   still_outcome bs result trail work b s e n l =
       let t = accepted_length bs s e in
-      let whole = eqb-true (length bs % 4) 0 (right_true (leb (length bs) most_bytes) _ (right_true (leb least_bytes (length bs)) _ t)) in
+      let whole = eqb-true (length bs % 4) 0 (second_so (leb (length bs) most_bytes) _ (second_so (leb least_bytes (length bs)) _ t)) in
       let size : 4 * length (words bs) ≡ length bs = let h = length_words bs in omega arith in
       rw (t, l, outcome) (rw (still_answer bs s e n) (rw (bytes_words bs b whole, size) refl))

@@ -7,6 +7,8 @@ use Rattle.std.proofs.Math.Bool.{true}
 use native.Mathlib.Omega.{arith}
 use Rattle.std.proofs.Math.ListN.{length, length-append}
 use Rattle.std.proofs.Math.Dec.{ltb}
+use Rattle.std.proofs.lemmas.Bool.{and_from}
+use Rattle.std.specs.Cmp.{first_so, second_so}
 use borrow.Author.Tests.{leb-true, ltb-true, le-leb, lt-ltb}
 use Rattle.grammar.specs.Tree.{Leaf, epsilon, action, predicate, call, token, terminal, end_of_input, Element, leaf, block, AlternativeOf}
 use Rattle.grammar.specs.Tree.{Block, Rule, Counters, Sheet, body_depth}
@@ -17,7 +19,6 @@ use Rattle.grammar.specs.Lists.{each, only, below, all}
 use Rattle.grammar.specs.Read.{is_name}
 use Rattle.grammar.specs.Ids.{head_ids, leaf_ids, element_ids, alternative_ids, block_ids, body_ids, is_below}
 use Rattle.grammar.specs.Valid.{ok_option, ok_head, ok_element, ok_alternative, ok_rule, ok_block, fits}
-use Rattle.grammar.specs.Laws.Parse.{both_true, left_true, right_true}
 use Rattle.grammar.specs.Laws.Whole.{Parts}
 use Rattle.grammar.specs.Numbers.{most_words, most_name, kind_end, word_end, lexer, combined, most_rule_flags, most_alternative_flag}
 use Rattle.grammar.specs.Numbers.{alternative_sort}
@@ -52,17 +53,17 @@ module _ {B : Type 0} (of_block enc : B → List ℕ) (ids : ℕ → B → List 
       let n = length-append (encode_head x (leaf_kind l)) (encode_leaf l) in
       ⊎_elim
       (λ i. told_in (Memᴰ.append_left (leaf_words l)) (λ s. Memᴰ.append_left (leaf_ids (number s) l))
-      (head_told x (leaf_kind l) (kind_small l) (left_true (ok_head x) _ t) (omega arith) i))
+      (head_told x (leaf_kind l) (kind_small l) (first_so (ok_head x) _ t) (omega arith) i))
       (λ i. told_in (Memᴰ.append_right (head_words x)) (λ s. Memᴰ.append_right (head_ids (number s) x))
-      (leaf_told l (right_true (ok_head x) _ t) (omega arith) i))
+      (leaf_told l (second_so (ok_head x) _ t) (omega arith) i))
       (Memᴰ.append_cases (encode_head x (leaf_kind l)) m)
   element_told (block x b) t h {w} m =
       let n = length-append (encode_head x 6) (enc b) in
       ⊎_elim
       (λ i. told_in (Memᴰ.append_left (of_block b)) (λ s. Memᴰ.append_left (ids (number s) b))
-      (head_told x 6 (omega arith) (left_true (ok_head x) _ t) (omega arith) i))
+      (head_told x 6 (omega arith) (first_so (ok_head x) _ t) (omega arith) i))
       (λ i. told_in (Memᴰ.append_right (head_words x)) (λ s. Memᴰ.append_right (head_ids (number s) x))
-      (inside b (right_true (ok_head x) _ t) (omega arith) w i))
+      (inside b (second_so (ok_head x) _ t) (omega arith) w i))
       (Memᴰ.append_cases (encode_head x 6) m)
 
   long : (e : Element B) → 1 ≤ length (encode_element enc e)
@@ -75,12 +76,12 @@ module _ {B : Type 0} (of_block enc : B → List ℕ) (ids : ℕ → B → List 
       → Told (alternative_words of_block a) (λ k. alternative_ids k (ids k) a) w
   unfolding ok_alternative encode_alternative alternative_words alternative_ids
   alternative_told a t h {w} m =
-      let f = leb-true a.flag most_alternative_flag (left_true (leb a.flag most_alternative_flag) _ t) in
-      let u = right_true (leb a.flag most_alternative_flag) _ t in
+      let f = leb-true a.flag most_alternative_flag (first_so (leb a.flag most_alternative_flag) _ t) in
+      let u = second_so (leb a.flag most_alternative_flag) _ t in
       let n = length-append (each encode_option a.options) (each (encode_element enc) a.elements) in
       let p = each_count encode_option (λ o. omega arith) a.options in
       let q = each_count (encode_element enc) long a.elements in
-      go f (left_true (all ok_option a.options) _ u) (right_true (all ok_option a.options) _ u) (omega arith) (omega arith)
+      go f (first_so (all ok_option a.options) _ u) (second_so (all ok_option a.options) _ u) (omega arith) (omega arith)
       (omega arith) m
     where
       go : a.flag ≤ most_alternative_flag → all ok_option a.options ≡ true → all (ok_element ok) a.elements ≡ true
@@ -135,7 +136,7 @@ pub record Carries (s : Sheet) : Type 0 where
 pub fits_carries : (s : Sheet) → fits s ≡ true → Carries s
 unfolding fits encode encode_rule
 fits_carries s t =
-    let u = right_true (leb (length (encode s)) most_words) _ t in
+    let u = second_so (leb (length (encode s)) most_words) _ t in
     record {
       rule = λ r m. go u (Memᴰ.append_left s.preserved (in_each (encode_rule (encode_block body_depth)) m (Memᴰ.head refl)));
       inside =
@@ -155,20 +156,20 @@ ids_under c rs t = go
   where
     t₃ : (below c.element (body_ids 3 rs) &&
         (below c.label (body_ids 4 rs) && (below c.action (body_ids 5 rs) && below c.predicate (body_ids 6 rs)))) ≡ true
-    t₃ = right_true (below c.alternative (body_ids 2 rs)) _ t
+    t₃ = second_so (below c.alternative (body_ids 2 rs)) _ t
 
     t₄ : (below c.label (body_ids 4 rs) && (below c.action (body_ids 5 rs) && below c.predicate (body_ids 6 rs))) ≡ true
-    t₄ = right_true (below c.element (body_ids 3 rs)) _ t₃
+    t₄ = second_so (below c.element (body_ids 3 rs)) _ t₃
 
     t₅ : (below c.action (body_ids 5 rs) && below c.predicate (body_ids 6 rs)) ≡ true
-    t₅ = right_true (below c.label (body_ids 4 rs)) _ t₄
+    t₅ = second_so (below c.label (body_ids 4 rs)) _ t₄
 
     go : (s : Sort) → below (counter_at s c) (body_ids (number s) rs) ≡ true
-    go of_alternative = left_true (below c.alternative (body_ids 2 rs)) _ t
-    go of_element = left_true (below c.element (body_ids 3 rs)) _ t₃
-    go of_label = left_true (below c.label (body_ids 4 rs)) _ t₄
-    go of_action = left_true (below c.action (body_ids 5 rs)) _ t₅
-    go of_predicate = right_true (below c.action (body_ids 5 rs)) _ t₅
+    go of_alternative = first_so (below c.alternative (body_ids 2 rs)) _ t
+    go of_element = first_so (below c.element (body_ids 3 rs)) _ t₃
+    go of_label = first_so (below c.label (body_ids 4 rs)) _ t₄
+    go of_action = first_so (below c.action (body_ids 5 rs)) _ t₅
+    go of_predicate = second_so (below c.action (body_ids 5 rs)) _ t₅
 
 pub below_of : (c : Counters) (rs : List Rule) → is_below c rs ≡ true → Below c body_ids rs
 below_of c rs t s i m = below_in (counter_at s c) (body_ids (number s) rs) (ids_under c rs t s) i m
@@ -202,19 +203,19 @@ module _ (s : Sheet) (v : Parts s) (c : Carries s) (a : are_words s.counters ≡
       go : (is_name r.name && (leb r.flags most_rule_flags && ok_block body_depth r.body)) ≡ true
           → Memᴰ w (r.id ∷ r.name ∷ r.flags ∷ encode_block body_depth r.body) → w < word_end
       go t (Memᴰ.head e) = let x = c.rule r m in omega arith
-      go t (Memᴰ.tail (Memᴰ.head e)) = let x = name_small r.name (left_true (is_name r.name) _ t) in omega arith
+      go t (Memᴰ.tail (Memᴰ.head e)) = let x = name_small r.name (first_so (is_name r.name) _ t) in omega arith
       go t (Memᴰ.tail (Memᴰ.tail (Memᴰ.head e))) =
           let x =
-          leb-true r.flags most_rule_flags (left_true (leb r.flags most_rule_flags) _ (right_true (is_name r.name) _ t)) in omega
+          leb-true r.flags most_rule_flags (first_so (leb r.flags most_rule_flags) _ (second_so (is_name r.name) _ t)) in omega
           arith
       go t (Memᴰ.tail (Memᴰ.tail (Memᴰ.tail n))) =
-          told (block_told body_depth r.body (right_true (leb r.flags most_rule_flags) _ (right_true (is_name r.name) _ t))
+          told (block_told body_depth r.body (second_so (leb r.flags most_rule_flags) _ (second_so (is_name r.name) _ t))
           (omega arith) w n)
 
   trailer_word : {w : ℕ} → length (encode_rules s.rules ++ s.preserved) ≤ most_words → length s.preserved ≤ most_words
       → Memᴰ w (s.kind ∷ length (encode_rules s.rules ++ s.preserved) ∷ length s.preserved ∷ encode_counters s.counters)
       → w < word_end
-  trailer_word p q (Memᴰ.head e) = let x = leb-true s.kind combined (right_true (leb lexer s.kind) _ v.kind) in omega arith
+  trailer_word p q (Memᴰ.head e) = let x = leb-true s.kind combined (second_so (leb lexer s.kind) _ v.kind) in omega arith
   trailer_word p q (Memᴰ.tail (Memᴰ.head e)) = omega arith
   trailer_word p q (Memᴰ.tail (Memᴰ.tail (Memᴰ.head e))) = omega arith
   trailer_word p q (Memᴰ.tail (Memᴰ.tail (Memᴰ.tail (Memᴰ.head e)))) =
@@ -236,7 +237,7 @@ module _ (s : Sheet) (v : Parts s) (c : Carries s) (a : are_words s.counters ≡
       let body = encode_rules s.rules ++ s.preserved in
       let n = length-append body (s.kind ∷ length body ∷ length s.preserved ∷ encode_counters s.counters) in
       let p = length-append (encode_rules s.rules) s.preserved in
-      both_true _ _ (le-leb (length (encode s)) most_words l)
+      and_from _ _ (le-leb (length (encode s)) most_words l)
       (in_all (λ w. ltb w word_end) (encode s) λ w m.
       lt-ltb w word_end
       (⊎_elim

@@ -4,7 +4,7 @@ use Rattle.std.specs.Prelude.{◌≡◌, Bool, true, false, length}
 use Rattle.std.proofs.Math.Path.{refl, sym, ap, ap₂}
 use Rattle.std.proofs.Common.{◌∙◌, arith}
 use mathlib.Core.List.{List, [], ◌∷◌, ◌++◌, map}
-use Rattle.std.proofs.Math.Bool.{◌&&◌, and-true, and-false}
+use Rattle.std.proofs.Math.Bool.{◌&&◌, and-true, and-false, and_assoc}
 use Rattle.std.proofs.Math.Dec.{leb}
 use borrow.Author.Tests.{leb-true, le-leb}
 use Rattle.grammar.specs.Numbers.{rule_limit, most_name, one_or_more_nongreedy, non_local, most_rule_flags, most_alternative_flag}
@@ -28,10 +28,6 @@ both true true b q = refl
 both true false b q = sym (and-false b)
 both false p b q = refl
 
-group : (a b c : Bool) → (a && (b && c)) ≡ ((a && b) && c)
-group true b c = refl
-group false b c = refl
-
 behind : (k r s d b n : Bool) → (k && (((r && n) && s) && (d && b))) ≡ ((k && ((r && s) && (d && b))) && n)
 behind k r s d b true = rw (and-true r) (sym (and-true (k && ((r && s) && (d && b)))))
 behind k r s d b false = rw (and-false r) (and-false k ∙ sym (and-false (k && ((r && s) && (d && b)))))
@@ -43,7 +39,7 @@ module _ (m : ℕ) (low : m ≤ most_name) where
   fine_append : (xs ys : List ℕ) → fine (xs ++ ys) ≡ (fine xs && fine ys)
   unfolding all
   fine_append [] ys = refl
-  fine_append (x ∷ xs) ys = ap (λ b. leb x m && b) (fine_append xs ys) ∙ group (leb x m) (fine xs) (fine ys)
+  fine_append (x ∷ xs) ys = ap (λ b. leb x m && b) (fine_append xs ys) ∙ sym (and_assoc (leb x m) (fine xs) (fine ys))
 
   name_told : (n : ℕ) → up_to m n ≡ (is_name n && fine (n ∷ []))
   unfolding all
@@ -81,7 +77,7 @@ module _ (m : ℕ) (low : m ≤ most_name) where
       names_told (ok_reference_by (up_to m)) ok_reference (λ r. r.name)
       (λ r.
       ap (λ b. leb r.kind non_local && b) (name_told r.name)
-      ∙ group (leb r.kind non_local) (is_name r.name) (fine (r.name ∷ [])))
+      ∙ sym (and_assoc (leb r.kind non_local) (is_name r.name) (fine (r.name ∷ []))))
 
   label_told : (b : Label) → ok_label_by (up_to m) b ≡ (ok_label b && fine (label_names b))
   unfolding ok_label all
@@ -96,7 +92,7 @@ module _ (m : ℕ) (low : m ≤ most_name) where
       ∙ both (ok_label h.label) (fine (label_names h.label)) (all ok_option h.options) (fine (option_names h.options))
       ∙ ap (λ b. (ok_label h.label && all ok_option h.options) && b)
       (sym (fine_append (label_names h.label) (option_names h.options))))
-      ∙ group (leb h.quantifier one_or_more_nongreedy) (ok_label h.label && all ok_option h.options) (fine (head_names h))
+      ∙ sym (and_assoc (leb h.quantifier one_or_more_nongreedy) (ok_label h.label && all ok_option h.options) (fine (head_names h)))
 
   leaf_told : (l : Leaf) → ok_leaf_by (up_to m) l ≡ (ok_leaf l && fine (names_of_leaf l))
   unfolding ok_leaf names_of_leaf all
@@ -131,7 +127,7 @@ module _ (m : ℕ) (low : m ≤ most_name) where
         (ap₂ ◌&&◌ (options_told os) t
         ∙ both (all ok_option os) (fine (option_names os)) (all (ok_element g) es) (fine (each (element_names inside) es))
         ∙ ap (λ b. (all ok_option os && all (ok_element g) es) && b) (sym (fine_append (option_names os) (each (element_names inside) es))))
-        ∙ group (leb a.flag most_alternative_flag) (all ok_option os && all (ok_element g) es) (fine (alternative_names inside a))
+        ∙ sym (and_assoc (leb a.flag most_alternative_flag) (all ok_option os && all (ok_element g) es) (fine (alternative_names inside a)))
 
     rule_told : (r : RuleOf B) → ok_rule_by (up_to m) f r ≡ (ok_rule g r && fine (r.name ∷ inside r.body))
     unfolding ok_rule
@@ -139,7 +135,7 @@ module _ (m : ℕ) (low : m ≤ most_name) where
         let flags = leb r.flags most_rule_flags in
         let own = fine (r.name ∷ []) in
         let inner = fine (inside r.body) in
-        ap₂ ◌&&◌ (name_told r.name) (ap (λ b. flags && b) (h r.body) ∙ group flags (g r.body) inner)
+        ap₂ ◌&&◌ (name_told r.name) (ap (λ b. flags && b) (h r.body) ∙ sym (and_assoc flags (g r.body) inner))
         ∙ both (is_name r.name) own (flags && g r.body) inner
         ∙ ap (λ b. (is_name r.name && (flags && g r.body)) && b) (sym (fine_append (r.name ∷ []) (inside r.body)))
 
@@ -159,7 +155,7 @@ module _ (m : ℕ) (low : m ≤ most_name) where
       ap (λ b. leb (length rs) rule_limit && b)
       (each_told (ok_rule_by (up_to m) (ok_block_by (up_to m) d)) (ok_rule (ok_block d)) (λ (q : Rule). q.name ∷ block_names d q.body)
       (rule_told (ok_block_by (up_to m) d) (ok_block d) (block_names d) (block_told d)) rs)
-      ∙ group (leb (length rs) rule_limit) (all (ok_rule (ok_block body_depth)) rs) names
+      ∙ sym (and_assoc (leb (length rs) rule_limit) (all (ok_rule (ok_block body_depth)) rs) names)
 
   sheet_told : (s : Sheet) → valid_by (up_to m) s ≡ (valid s && fine (names_in s))
   unfolding valid names_in

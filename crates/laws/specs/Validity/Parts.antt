@@ -2,6 +2,8 @@
 use Rattle.std.specs.Prelude.{ℕ, suc, ◌+◌, ◌≤◌, ◌<◌, ◌≡◌, Bool, true, ◌&&◌, leb, eqb}
 use Rattle.std.proofs.Math.Path.{refl}
 use Rattle.std.proofs.Common.{sym, ap}
+use Rattle.std.proofs.lemmas.Bool.{and_from}
+use Rattle.std.specs.Cmp.{first_so, second_so}
 use mathlib.Core.List.Memᴰ
 use mathlib.Core.List.{List, [], ◌∷◌, map, Memᴰ}
 use native.Mathlib.Omega.{arith}
@@ -10,7 +12,7 @@ use Rattle.grammar.specs.Tree.{OptionDecl, Element, leaf, block, Block, RuleOf, 
 use Rattle.grammar.specs.Lists.{each, all, keep}
 use Rattle.grammar.specs.Ids.{head_ids, element_ids, block_ids}
 use Rattle.grammar.specs.Valid.{ok_option, ok_label, ok_head, ok_element, ok_block}
-use Rattle.grammar.specs.Laws.Parse.{both_true, left_true, right_true, either}
+use Rattle.grammar.specs.Laws.Parse.{either}
 use Rattle.grammar.specs.Numbers.{word_end, most_alternative_flag, one_or_more_nongreedy}
 use Rattle.reference.specs.Substitute.{plain}
 use Rattle.reference.specs.Apply.{Fresh, fresh_each, with_body}
@@ -88,17 +90,17 @@ pub plain_part : (d : ℕ) (c : Counters) (e : Element (Block d)) → Part d c e
 unfolding plain ok_element element_words element_ids ok_head head_ids
 plain_part d c (leaf h l) p =
     record {
-      ok = both_true _ _ (right_true (leb h.quantifier one_or_more_nongreedy) _
-          (left_true (leb h.quantifier one_or_more_nongreedy && (ok_label h.label && all ok_option h.options)) _ p.ok))
-          (right_true (leb h.quantifier one_or_more_nongreedy && (ok_label h.label && all ok_option h.options)) _ p.ok);
+      ok = and_from _ _ (second_so (leb h.quantifier one_or_more_nongreedy) _
+          (first_so (leb h.quantifier one_or_more_nongreedy && (ok_label h.label && all ok_option h.options)) _ p.ok))
+          (second_so (leb h.quantifier one_or_more_nongreedy && (ok_label h.label && all ok_option h.options)) _ p.ok);
       words = p.words;
       ids = p.ids;
     }
 plain_part d c (block h b) p =
     record {
-      ok = both_true _ _ (right_true (leb h.quantifier one_or_more_nongreedy) _
-          (left_true (leb h.quantifier one_or_more_nongreedy && (ok_label h.label && all ok_option h.options)) _ p.ok))
-          (right_true (leb h.quantifier one_or_more_nongreedy && (ok_label h.label && all ok_option h.options)) _ p.ok);
+      ok = and_from _ _ (second_so (leb h.quantifier one_or_more_nongreedy) _
+          (first_so (leb h.quantifier one_or_more_nongreedy && (ok_label h.label && all ok_option h.options)) _ p.ok))
+          (second_so (leb h.quantifier one_or_more_nongreedy && (ok_label h.label && all ok_option h.options)) _ p.ok);
       words = p.words;
       ids = p.ids;
     }

@@ -7,13 +7,14 @@ use mathlib.Core.List.{List, Memᴰ, [], ◌∷◌, ◌++◌}
 use Rattle.std.proofs.Math.Bool.{true}
 use native.Mathlib.Omega.{arith}
 use Rattle.std.proofs.Math.ListN.{length-append}
+use Rattle.std.proofs.lemmas.Bool.{and_from}
+use Rattle.std.specs.Cmp.{first_so, second_so}
 use Rattle.grammar.specs.Tree.{Rule, Counters, Sheet, body_depth}
 use Rattle.grammar.specs.Encode.{encode, encode_rules}
 use Rattle.grammar.specs.Lists.{each, distinct, below, rising}
 use Rattle.grammar.specs.Ids.{rule_ids, rule_names, body_ids, is_distinct, is_below}
 use Rattle.grammar.specs.Valid.{is_kind, rule_limit, valid, fits}
 use Rattle.grammar.specs.Corners.{Corners}
-use Rattle.grammar.specs.Laws.Parse.{both_true, left_true, right_true}
 use Rattle.grammar.specs.Laws.Whole.{Parts, parts_valid, valid_parts}
 use Rattle.grammar.specs.Laws.Codec.{reads_back_lem}
 use Rattle.reference.specs.Numbers.{most_entries}
@@ -44,23 +45,23 @@ module _ (rs : List Rule) (t : is_distinct rs ≡ true) where
     where
       t₂ : (distinct (body_ids 2 rs) &&
           (distinct (body_ids 3 rs) && (distinct (body_ids 4 rs) && (distinct (body_ids 5 rs) && distinct (body_ids 6 rs))))) ≡ true
-      t₂ = right_true (distinct (rule_names rs)) _ (right_true (distinct (rule_ids rs)) _ t)
+      t₂ = second_so (distinct (rule_names rs)) _ (second_so (distinct (rule_ids rs)) _ t)
 
       t₃ : (distinct (body_ids 3 rs) && (distinct (body_ids 4 rs) && (distinct (body_ids 5 rs) && distinct (body_ids 6 rs)))) ≡ true
-      t₃ = right_true (distinct (body_ids 2 rs)) _ t₂
+      t₃ = second_so (distinct (body_ids 2 rs)) _ t₂
 
       t₄ : (distinct (body_ids 4 rs) && (distinct (body_ids 5 rs) && distinct (body_ids 6 rs))) ≡ true
-      t₄ = right_true (distinct (body_ids 3 rs)) _ t₃
+      t₄ = second_so (distinct (body_ids 3 rs)) _ t₃
 
       t₅ : (distinct (body_ids 5 rs) && distinct (body_ids 6 rs)) ≡ true
-      t₅ = right_true (distinct (body_ids 4 rs)) _ t₄
+      t₅ = second_so (distinct (body_ids 4 rs)) _ t₄
 
       go : (s : Sort) → distinct (body_ids (number s) rs) ≡ true
-      go of_alternative = left_true (distinct (body_ids 2 rs)) _ t₂
-      go of_element = left_true (distinct (body_ids 3 rs)) _ t₃
-      go of_label = left_true (distinct (body_ids 4 rs)) _ t₄
-      go of_action = left_true (distinct (body_ids 5 rs)) _ t₅
-      go of_predicate = right_true (distinct (body_ids 5 rs)) _ t₅
+      go of_alternative = first_so (distinct (body_ids 2 rs)) _ t₂
+      go of_element = first_so (distinct (body_ids 3 rs)) _ t₃
+      go of_label = first_so (distinct (body_ids 4 rs)) _ t₄
+      go of_action = first_so (distinct (body_ids 5 rs)) _ t₅
+      go of_predicate = second_so (distinct (body_ids 5 rs)) _ t₅
 
 pub parts_sound : (s : Sheet) → Parts s → Carries s → Sound body_depth s.counters s.rules
 parts_sound s v c =
@@ -89,12 +90,12 @@ sound_parts s k p h =
       rules = h.rules;
       preserved = p;
       distinct =
-          both_true _ _ h.ids (both_true _ _ h.names
-          (both_true _ _ (d of_alternative)
-          (both_true _ _ (d of_element) (both_true _ _ (d of_label) (both_true _ _ (d of_action) (d of_predicate))))));
+          and_from _ _ h.ids (and_from _ _ h.names
+          (and_from _ _ (d of_alternative)
+          (and_from _ _ (d of_element) (and_from _ _ (d of_label) (and_from _ _ (d of_action) (d of_predicate))))));
       below =
-          both_true _ _ (b of_alternative)
-          (both_true _ _ (b of_element) (both_true _ _ (b of_label) (both_true _ _ (b of_action) (b of_predicate))));
+          and_from _ _ (b of_alternative)
+          (and_from _ _ (b of_element) (and_from _ _ (b of_label) (and_from _ _ (b of_action) (b of_predicate))));
     }
 
 -- A sheet that is valid and fits.
@@ -118,7 +119,7 @@ counters_fit : (s : Sheet) → fits s ≡ true → (k : Sort) → counter_at k s
 unfolding fits encode
 counters_fit s t k =
     ltb-true (counter_at k s.counters) word_end
-    (all_in (λ w. ltb w word_end) (right_true (leb (length (encode s)) most_words) _ t)
+    (all_in (λ w. ltb w word_end) (second_so (leb (length (encode s)) most_words) _ t)
     (Memᴰ.append_right (encode_rules s.rules ++ s.preserved)
     (Memᴰ.tail (Memᴰ.tail (Memᴰ.tail (counter_in s.counters k))))))
 

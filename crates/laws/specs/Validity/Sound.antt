@@ -5,13 +5,15 @@ use Rattle.std.proofs.Common.{sym, ap, ◌∙◌, ⊎_elim, arith, ltb-true, ltb
 use mathlib.Core.List.Memᴰ
 use mathlib.Core.List.{List, ◌∷◌, ◌++◌, map, Memᴰ}
 use Rattle.std.proofs.lemmas.List.{length-map}
+use Rattle.std.proofs.lemmas.Bool.{and_from}
+use Rattle.std.specs.Cmp.{first_so, second_so}
 use Rattle.grammar.specs.Laws.Lists.{in_map}
 use Rattle.grammar.specs.Tree.{Element, AlternativeOf, Block, RuleOf, Counters}
 use Rattle.grammar.specs.Lists.{each, member, distinct, only, all, keep}
 use Rattle.grammar.specs.Ids.{element_ids, alternative_ids, block_ids}
 use Rattle.grammar.specs.Read.{is_name}
 use Rattle.grammar.specs.Valid.{ok_option, ok_element, ok_alternative, ok_rule, ok_block}
-use Rattle.grammar.specs.Laws.Parse.{both_true, left_true, right_true, either}
+use Rattle.grammar.specs.Laws.Parse.{either}
 use Rattle.grammar.specs.Numbers.{word_end, rule_limit, most_rule_flags, most_alternative_flag, alternative_sort}
 use Rattle.language.specs.Laws.Copies.{map_unseen}
 use Rattle.reference.specs.Substitute.{Planned}
@@ -61,16 +63,16 @@ module _ (d : ℕ) (c : Counters) where
       → Alternative-holds d Slot (λ i. i < c.alternative) Choice (Part d c) a
   unfolding ok_alternative alternative_words alternative_ids
   alternative_fine a t w i =
-      let u = right_true (leb a.flag most_alternative_flag) _ t in
+      let u = second_so (leb a.flag most_alternative_flag) _ t in
       record {
-        slot = (left_true (leb a.flag most_alternative_flag) _ t, w a.carried (Memᴰ.head refl));
+        slot = (first_so (leb a.flag most_alternative_flag) _ t, w a.carried (Memᴰ.head refl));
         origin = i of_alternative a.id (Memᴰ.head refl);
         options = λ o m. (
-          all_in ok_option (left_true (all ok_option a.options) _ u) m,
+          all_in ok_option (first_so (all ok_option a.options) _ u) m,
           w o.value (Memᴰ.tail (Memᴰ.append_left (each (element_words (block_words d)) a.elements) (in_map (λ o. o.value) m))),
         );
         elements = λ e m. record {
-          ok = all_in (ok_element (ok_block d)) (right_true (all ok_option a.options) _ u) m;
+          ok = all_in (ok_element (ok_block d)) (second_so (all ok_option a.options) _ u) m;
           words = λ x k. w x (Memᴰ.tail (Memᴰ.append_right (option_words a.options) (in_each (element_words (block_words d)) m k)));
           ids =
               λ s x k. i s x (Memᴰ.append_right (only (eqb (number s) alternative_sort) a.id)
@@ -101,9 +103,9 @@ module _ (d : ℕ) (c : Counters) where
     made_ok c₁ =
         let o = in_all ok_option p.options λ o m. (h.options o m).0 in
         either p.verbatim
-        (λ t. rw (t, apply_alternative) (both_true _ _ h.slot.0 (both_true _ _ o elements_ok)))
-        (λ f. rw (f, apply_alternative) (both_true _ _ h.slot.0
-        (both_true _ _ o (ok_elements (renumber_block d) (ok_block d) (ok_block_lem d) p.elements (past alternative_sort c₁)
+        (λ t. rw (t, apply_alternative) (and_from _ _ h.slot.0 (and_from _ _ o elements_ok)))
+        (λ f. rw (f, apply_alternative) (and_from _ _ h.slot.0
+        (and_from _ _ o (ok_elements (renumber_block d) (ok_block d) (ok_block_lem d) p.elements (past alternative_sort c₁)
         ∙ elements_ok))))
 
     parts_words : (es : List (Element (Block d)))
@@ -130,7 +132,7 @@ module _ (d : ℕ) (c : Counters) (rs : List (RuleOf (Block (suc d)))) (h : Soun
   unfolding ok_rule ok_block block_words block_ids
   given r m a k =
       let t =
-      right_true (leb r.flags most_rule_flags) _ (right_true (is_name r.name) _ (all_in (ok_rule (ok_block (suc d))) h.rules m)) in
+      second_so (leb r.flags most_rule_flags) _ (second_so (is_name r.name) _ (all_in (ok_rule (ok_block (suc d))) h.rules m)) in
       alternative_fine d c a (all_in (ok_alternative (ok_block d)) t k)
       (λ w l. h.body_words r m w (in_each (alternative_words (block_words d)) k l))
       (λ s i l. sound_below h s i (in_each (λ r. block_ids (number s) (suc d) r.body) m
@@ -198,8 +200,8 @@ module _ (d : ℕ) (c : Counters) (rs : List (RuleOf (Block (suc d)))) (h : Soun
   unfolding ok_rule
   rule_ok {r} m (is_hub e) =
       let t = all_in (ok_rule (ok_block (suc d))) h.rules m in
-      let u = right_true (is_name r.name) _ t in
-      both_true _ _ (left_true (is_name r.name) _ t) (both_true _ _ (left_true (leb r.flags most_rule_flags) _ u) body_ok)
+      let u = second_so (is_name r.name) _ t in
+      and_from _ _ (first_so (is_name r.name) _ t) (and_from _ _ (first_so (leb r.flags most_rule_flags) _ u) body_ok)
   rule_ok m is_other = all_in (ok_rule (ok_block (suc d))) h.rules m
 
   rule_word : {r q : RuleOf (Block (suc d))} → Memᴰ r rs → Bodied d plan.hub made.node r q → q.id < word_end

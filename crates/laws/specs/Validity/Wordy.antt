@@ -3,6 +3,7 @@
 use Rattle.std.specs.Prelude.{ℕ, zero, suc, ◌+◌, ◌*◌, ◌≤◌, ◌<◌, ◌≡◌, ◌⊎◌, true, length, leb}
 use Rattle.std.proofs.Common.{sym, ap, subst, inl, inr, arith, length-append, leb-true}
 use Rattle.std.proofs.Math.Logic.{⊎_elim}
+use Rattle.std.specs.Cmp.{first_so, second_so}
 use mathlib.Core.List.Memᴰ
 use mathlib.Core.List.{List, [], ◌∷◌, ◌++◌, map, Memᴰ}
 use Rattle.grammar.specs.Laws.Lists.{in_map}
@@ -14,7 +15,6 @@ use Rattle.grammar.specs.Lists.{each, all}
 use Rattle.grammar.specs.Read.{is_name}
 use Rattle.grammar.specs.Ids.{label_ids, head_ids, leaf_ids}
 use Rattle.grammar.specs.Valid.{ok_option, ok_reference, ok_label, ok_head, ok_leaf}
-use Rattle.grammar.specs.Laws.Parse.{left_true, right_true}
 use Rattle.grammar.specs.Numbers.{most_name, one_or_more_nongreedy, kind_end, non_local}
 use Rattle.laws.specs.Lists.Lookup.{all_in}
 use Rattle.graph.specs.Members.{in_each, each_in}
@@ -109,7 +109,7 @@ told_in f g (copied m) = copied (f m)
 told_in f g (is_id s m) = is_id s (g s m)
 
 pub name_small : (n : ℕ) → is_name n ≡ true → n ≤ most_name
-name_small n t = leb-true n most_name (right_true (leb 1 n) (leb n most_name) t)
+name_small n t = leb-true n most_name (second_so (leb 1 n) (leb n most_name) t)
 
 -- Of lists of items: as many as words at most, and each item's words among those of all.
 pub each_count : {A : Type 0} (enc : A → List ℕ) → ((a : A) → 1 ≤ length (enc a)) → (xs : List A) → length xs ≤ length (each enc xs)
@@ -134,9 +134,9 @@ reference_told : (rs : List Reference) → all ok_reference rs ≡ true → {us 
 reference_told rs t m =
     let (r, k, l) = each_in encode_reference rs m in
     let u = all_in ok_reference t k in
-    ⊎_elim (λ e. small (let h = leb-true r.kind non_local (left_true (leb r.kind non_local) _ u) in omega arith))
+    ⊎_elim (λ e. small (let h = leb-true r.kind non_local (first_so (leb r.kind non_local) _ u) in omega arith))
     (λ n. let q = Memᴰ.eq_of_singleton n in small
-    (let h = name_small r.name (right_true (leb r.kind non_local) _ u) in omega arith)) (Memᴰ.cases_cons l)
+    (let h = name_small r.name (second_so (leb r.kind non_local) _ u) in omega arith)) (Memᴰ.cases_cons l)
 
 pub leaf_told : (l : Leaf) → ok_leaf l ≡ true → length (encode_leaf l) ≤ most_name → {w : ℕ} → Memᴰ w (encode_leaf l)
     → Told (leaf_words l) (λ k. leaf_ids k l) w
@@ -169,10 +169,10 @@ pub head_told : (x : ElementHead) (kind : ℕ) → kind < kind_end → ok_head x
     → Memᴰ w (encode_head x kind) → Told (head_words x) (λ k. head_ids k x) w
 unfolding ok_head encode_head head_ids
 head_told x kind b t h {w} m =
-    let q = leb-true x.quantifier one_or_more_nongreedy (left_true (leb x.quantifier one_or_more_nongreedy) _ t) in
-    let u = right_true (leb x.quantifier one_or_more_nongreedy) _ t in
-    let l = left_true (ok_label x.label) _ u in
-    let o = right_true (ok_label x.label) (all ok_option x.options) u in
+    let q = leb-true x.quantifier one_or_more_nongreedy (first_so (leb x.quantifier one_or_more_nongreedy) _ t) in
+    let u = second_so (leb x.quantifier one_or_more_nongreedy) _ t in
+    let l = first_so (ok_label x.label) _ u in
+    let o = second_so (ok_label x.label) (all ok_option x.options) u in
     let g = each_count encode_option (λ a. omega arith) x.options in
     go q l o (omega arith) m
   where

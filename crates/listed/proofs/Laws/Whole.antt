@@ -1,32 +1,26 @@
 -- The parts of a text, put together.
 use Prim.Native.Nat.{ℕ, ◌+◌, ◌-◌, ◌*◌, ◌≤◌}
 use mathlib.Core.Path.{◌≡◌}
-use mathlib.Core.List.{List, [], ◌∷◌, ◌++◌, append_assoc}
+use mathlib.Core.List.{List, [], ◌∷◌, ◌++◌}
 use native.Mathlib.Omega.{arith}
 use lib.ListN.{length, get_or}
 use lib.Dec.{leb}
 use borrow.Author.Tests.{leb-true}
+use Rattle.std.specs.Cmp.{first_so, second_so}
 use Rattle.grammar.specs.Numbers.{trailer_words, rule_limit}
 use Rattle.grammar.specs.Lists.{all}
 use Rattle.grammar.specs.Tree.{Sheet, body_depth}
 use Rattle.grammar.specs.Words.{words}
 use Rattle.grammar.specs.Stands.{Stands}
-use Rattle.grammar.specs.Encode.{encode, encode_rules, encode_counters}
+use Rattle.grammar.specs.Encode.{encode_rules}
 use Rattle.grammar.specs.Valid.{ok_rule, ok_block, ok_rules}
-use Rattle.grammar.specs.Laws.Parse.{left_true, right_true}
 use Rattle.grammar.specs.Laws.Stands.{stands_split, stands_length, stands_within}
+use Rattle.grammar.specs.Laws.Trailer.{trailing, encode_split}
 use Rattle.listed.specs.Text.{line}
 use Rattle.listed.specs.Listed.{ok_word, refused_word, listed_refusal, listed_rules}
 use Rattle.listed.specs.Put.{PutFew, Filled}
 use Rattle.listed.specs.Ready.{Ruled, Held, Recorded, RulesEnd, RulesPut, EntriesPut, JoinedPut, most_text}
 use Rattle.listed.proofs.Laws.Put.{put_then, put_filled}
-
-trailing : Sheet → List ℕ
-trailing s = s.kind ∷ length (encode_rules s.rules ++ s.preserved) ∷ length s.preserved ∷ encode_counters s.counters
-
-encode_split : (s : Sheet) → encode s ≡ encode_rules s.rules ++ (s.preserved ++ trailing s)
-unfolding encode trailing
-encode_split s = append_assoc (encode_rules s.rules) s.preserved _
 
 -- The parts of a sheet of n words: where its rules end, and the number of preserved ids in its trailer.
 record Parts (ws : List ℕ) (n : ℕ) (s : Sheet) : Type 0 where
@@ -82,9 +76,9 @@ module _ {result : List ℕ} {n : ℕ} (h : Held result n) where
           rules = r;
           spans = record {
             stands = rw (← e) at (stands_within (length (encode_rules r)) (omega arith) s);
-            fine = right_true (leb (length r) rule_limit) (all (ok_rule (ok_block body_depth)) r) h.good;
+            fine = second_so (leb (length r) rule_limit) (all (ok_rule (ok_block body_depth)) r) h.good;
           };
-          few = leb-true (length r) rule_limit (left_true (leb (length r) rule_limit) _ h.good);
+          few = leb-true (length r) rule_limit (first_so (leb (length r) rule_limit) _ h.good);
         }
 
 -- The lines one behind the other, in the buffer as it is handed back.

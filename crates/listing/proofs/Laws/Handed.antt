@@ -1,17 +1,19 @@
 -- What the pass hands over is listed as the definition says.
 use Rattle.std.specs.Prelude.{Result, Ok, Err}
-use Prim.Native.Nat.{ℕ, zero, suc, ◌-◌, ◌*◌, ◌/◌, ◌%◌, ◌≤◌, ◌<◌}
+use Rattle.std.proofs.lemmas.Bool.{and_from}
+use Rattle.std.specs.Cmp.{first_so}
+use Prim.Native.Nat.{ℕ, ◌-◌, ◌*◌, ◌/◌, ◌%◌, ◌≤◌}
 use mathlib.Core.Path.{◌≡◌, refl, sym, ap, ◌∙◌}
-use mathlib.Core.List.{List, [], ◌∷◌, ◌++◌, Memᴰ}
+use mathlib.Core.List.{List, [], ◌∷◌, ◌++◌}
 use mathlib.Core.Bool.{true, false}
 use native.Mathlib.Omega.{arith}
 use lib.ListN.{length, replicate, length-append}
 use lib.Seq.{take-append_seam}
 use lib.Dec.{leb}
 use borrow.Author.Tests.{leb-true, le-leb}
-use Rattle.grammar.specs.Numbers.{most_words, word_end, result_bytes, trail_bytes, work_bytes}
+use Rattle.grammar.specs.Numbers.{most_words, result_bytes, trail_bytes, work_bytes}
 use Rattle.grammar.specs.Corners.{rust}
-use Rattle.grammar.specs.Lists.{each, all, member}
+use Rattle.grammar.specs.Lists.{all, member}
 use Rattle.grammar.specs.Tree.{Sheet}
 use Rattle.grammar.specs.Words.{word_of, words, bytes}
 use Rattle.grammar.specs.Encode.{encode}
@@ -19,15 +21,15 @@ use Rattle.grammar.specs.Stands.{Stands}
 use Rattle.grammar.specs.Valid.{ok_rules, fits}
 use Rattle.grammar.specs.Reading as reading
 use Rattle.grammar.specs.Reading.{refused, sheet, is_length, read}
-use Rattle.grammar.specs.Laws.Words.{AreBytes, AreWords, length_bytes, words_bytes}
-use Rattle.grammar.specs.Laws.Parse.{either, left_true, both_true}
+use Rattle.grammar.specs.Laws.Words.{AreBytes, length_bytes, words_bytes, in_words}
+use Rattle.grammar.specs.Laws.Parse.{either}
 use Rattle.grammar.specs.Laws.Stands.{slice_stands}
 use Rattle.grammar.specs.Laws.Whole.{valid_parts}
-use Rattle.grammar.specs.Laws.Codec.{is_encoding_words, refuses_only}
+use Rattle.grammar.specs.Laws.Codec.{is_encoding_words, refuses_only, encode_length}
 use Rattle.reference.specs.Substitute.{standard}
 use Rattle.reference.specs.Apply.{Entry}
 use Rattle.reference.specs.Run as R
-use Rattle.reference.specs.Run.{Run, ended, stopped, eliminate_mutual_left_recursion, sheet_after, encode_entry, entries_of, are_lent, filled}
+use Rattle.reference.specs.Run.{Run, ended, stopped, eliminate_mutual_left_recursion, sheet_after, entries_of, are_lent, filled}
 use Rattle.reference.specs.Run.{outcome}
 use Rattle.reference.specs.Run.{answer_to, answer_reading, answer_run, delivered, untouched, refused_with, refusal, answer}
 use Rattle.laws.specs.Demands.Answers.{Answered}
@@ -41,6 +43,7 @@ use Rattle.words.specs.declared.numbers.Refusal.{Refusal}
 use Rattle.pass.specs.declared.answer.Totals.{Totals}
 use Rattle.pass.specs.Handed.{outcome_of, Handed}
 use Rattle.listing.specs.Told.{refusal_in, Answers, Lent}
+use Rattle.apply.proofs.Laws.Done.{entries_long}
 
 -- The listing of bytes, by their answer.
 module _ (bs : List ℕ) where
@@ -90,21 +93,6 @@ front_long ws buffer =
     let k = length_bytes ws in
     omega arith
 
--- Numbers of which each is a word are words.
-in_words : (ws : List ℕ) → ((w : ℕ) → Memᴰ w ws → w < word_end) → AreWords ws
-in_words [] h i = omega arith
-in_words (w ∷ ws) h zero = h w (Memᴰ.head refl)
-in_words (w ∷ ws) h (suc i) = in_words ws (λ x m. h x (Memᴰ.tail m)) i
-
-entries_length : (es : List Entry) → length (each encode_entry es) ≡ 4 * length es
-unfolding encode_entry
-entries_length [] = refl
-entries_length (e ∷ es) = let h = entries_length es in omega arith
-
-encode_length : (s : Sheet) → 8 ≤ length (encode s)
-unfolding encode
-encode_length s = simp length-append (omega arith)
-
 -- No refusal has the number 0.
 stops_positive : {s : _} {stages : List R.Stage} {n : ℕ} → Stops s standard rust stages n → n ≡ 0 → ⊥
 stops_positive (too_large x d) e = omega arith
@@ -128,11 +116,11 @@ module _ {bs : List ℕ} {plans steps : ℕ} {ws ts : List ℕ} (a : Answered st
       let same : words (bytes ws) ≡ ws = rw g.is_encoding at (sym (is_encoding_words (bytes (encode t)) t r.found)) in
       record {
         sheet = t;
-        good = let v = valid_parts t r.is_valid in both_true _ _ v.few v.rules;
+        good = let v = valid_parts t r.is_valid in and_from _ _ v.few v.rules;
         stands = rw (f, e, g.is_encoding) (front_stands buffer same);
         room = rw (f, e) (front_long ws buffer);
         most =
-            let l = leb-true (length (encode t)) most_words (left_true (leb (length (encode t)) most_words) _ r.is_fitting) in
+            let l = leb-true (length (encode t)) most_words (first_so (leb (length (encode t)) most_words) _ r.is_fitting) in
             let m = ap length g.is_encoding in
             omega arith;
       }
@@ -143,7 +131,7 @@ module _ {bs : List ℕ} {plans steps : ℕ} {ws ts : List ℕ} (a : Answered st
   answer_recorded {after} buffer k f e =
       let g = a.good in
       let es = entries_of a.stages in
-      let l = entries_length es in
+      let l = entries_long es in
       let m = ap length a.trail_is in
       let s = front_stands buffer (words_bytes ts (in_words ts g.are_words)) in
       record {
@@ -224,7 +212,7 @@ module _ (bs result trail work : List ℕ) (are : AreBytes bs) (lent : are_lent 
         let l : t.result ≡ 4 * length ws = ap (λ o. o.result_length) x in
         let m : t.trail ≡ 4 * length ts = ap (λ o. o.trail_length) x in
         let k = ap length a.trail_is in
-        let i = entries_length (entries_of a.stages) in
+        let i = entries_long (entries_of a.stages) in
         record {
           so =
               record {
@@ -243,8 +231,8 @@ handed_answers {bs} {result} {trail} {work} {a} {result'} {trail'} {work'} k l h
   where
     lent : are_lent result trail work ≡ true
     lent =
-        both_true _ _ (le-leb result_bytes (length result) l.result)
-        (both_true _ _ (le-leb trail_bytes (length trail) l.trail) (le-leb work_bytes (length work) l.work))
+        and_from _ _ (le-leb result_bytes (length result) l.result)
+        (and_from _ _ (le-leb trail_bytes (length trail) l.trail) (le-leb work_bytes (length work) l.work))
 
     go : (a : Result Totals Refusal) → outcome_of a result' trail' work' ≡ outcome standard rust bs result trail work → Answers bs a result' trail'
     go (Err r) e = refused_answers bs result trail work k lent r e (came bs result trail work k lent)

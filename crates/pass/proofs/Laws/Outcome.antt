@@ -1,5 +1,6 @@
 -- The returns of a call: each hands back the definition's outcome.
 use Rattle.std.specs.Prelude.{Result, Ok, Err}
+use Rattle.std.specs.Cmp.{first_so, second_so}
 use Prim.Native.Nat.{ℕ, ◌*◌}
 use mathlib.Core.Path.{◌≡◌, refl, sym, ◌∙◌, subst}
 use mathlib.Core.List.{List}
@@ -25,7 +26,6 @@ use Rattle.apply.specs.Applied.{Buffers}
 use Rattle.pass.specs.declared.answer.Totals.{Totals}
 use Rattle.words.specs.declared.numbers.Refusal.{Refusal}
 use Rattle.words.specs.declared.numbers.Refusal.TheVariants.{BadLength, ShortBuffer}
-use Rattle.grammar.specs.Laws.Parse.{left_true, right_true}
 use Rattle.pass.specs.Handed.{outcome_of, Handed, ClearedFrom, lent_by, Lent}
 use Rattle.pass.proofs.Laws.Bytes.{front_filled, none_filled}
 
@@ -43,15 +43,15 @@ pub call_lent : {bs result trail work : List ℕ} {r q : Bool} → r ≡ is_leng
     → q ≡ lent_by (length result) (length trail) (length work) → not q ≡ false → Lent bs result trail work
 call_lent {bs} {result} {trail} {work} i n j m =
     let e = sym j ∙ not-false _ m in
-    let a = left_true (leb result_bytes (length result)) _ e in
-    let f = right_true (leb result_bytes (length result)) _ e in
+    let a = first_so (leb result_bytes (length result)) _ e in
+    let f = second_so (leb result_bytes (length result)) _ e in
     record {
       long = sym i ∙ not-false _ n;
       buffers =
           record {
             for_result = leb-true _ _ a;
-            for_trail = leb-true _ _ (left_true (leb trail_bytes (length trail)) _ f);
-            for_work = leb-true _ _ (right_true (leb trail_bytes (length trail)) _ f);
+            for_trail = leb-true _ _ (first_so (leb trail_bytes (length trail)) _ f);
+            for_work = leb-true _ _ (second_so (leb trail_bytes (length trail)) _ f);
           };
     }
 

@@ -1,5 +1,6 @@
 -- From what the reader answers to the run: a refusal, a unit of another kind, or a parser's sheet in the result.
 use Rattle.std.specs.Prelude.{Result, Ok, Err}
+use Rattle.std.specs.Cmp.{first_so, second_so}
 use Prim.Native.Nat.{ℕ, ◌+◌, ◌*◌, ◌/◌, ◌≤◌}
 use mathlib.Core.Path.{◌≡◌, refl, sym, ap, ◌∙◌, subst}
 use mathlib.Core.List.{List, []}
@@ -17,7 +18,6 @@ use Rattle.grammar.specs.Encode.{encode, encode_rules}
 use Rattle.grammar.specs.Reading as reading
 use Rattle.grammar.specs.Reading.{refused, sheet, is_length, read_words, read}
 use Rattle.grammar.specs.Laws.Words.{AreBytes, length_words}
-use Rattle.grammar.specs.Laws.Parse.{left_true, right_true}
 use Rattle.grammar.specs.Laws.Stands.{stands_none}
 use Rattle.grammar.specs.Laws.Codec.{accepted_valid, is_encoding_words}
 use Rattle.reference.specs.Substitute.{standard}
@@ -114,7 +114,7 @@ module _ (past : Bool) (bs : List ℕ) (long : is_length (length bs) ≡ true) w
       most : n ≤ most_words
       most =
           let l = leb-true (length bs) most_bytes
-          (left_true (leb (length bs) most_bytes) _ (right_true (leb least_bytes (length bs)) _ long)) in
+          (first_so (leb (length bs) most_bytes) _ (second_so (leb least_bytes (length bs)) _ long)) in
           omega arith
 
       counted : 0 + length (words bs) ≡ n
@@ -219,7 +219,7 @@ module _ {bs : List ℕ} {r : Reading} (s : WasSheet bs r) {result trail work : 
 
 pub lent_most : {bs result trail work : List ℕ} → Lent bs result trail work → length bs ≤ most_bytes
 lent_most {bs} l =
-    leb-true (length bs) most_bytes (left_true (leb (length bs) most_bytes) _ (right_true (leb least_bytes (length bs)) _ l.long))
+    leb-true (length bs) most_bytes (first_so (leb (length bs) most_bytes) _ (second_so (leb least_bytes (length bs)) _ l.long))
 
 -- The sheet has room in the result.
 pub lent_room : {bs result trail work : List ℕ} {n : ℕ} → Lent bs result trail work → n ≡ length bs / 4 → 4 * (0 + n) ≤ length result

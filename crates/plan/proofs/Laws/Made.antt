@@ -8,7 +8,7 @@ use lib.Dec.{eqb}
 use borrow.Author.Tests.{ne_eqb}
 use Rattle.grammar.specs.Tree.{inner_depth}
 use Rattle.grammar.specs.Lists.{member}
-use Rattle.grammar.specs.Laws.Parse.{both_true, either}
+use Rattle.grammar.specs.Laws.Parse.{either}
 use Rattle.graph.specs.Members.{keep_in}
 use Rattle.reference.specs.Substitute.{Decided, ◌and_then◌, Substituted, substitute, substitution_budget}
 use Rattle.reference.specs.Plan.{CyclePlan, satellite_is_inlinable, as_they_are, last_tests}
@@ -18,9 +18,10 @@ use Rattle.analysis.specs.Survey.{reading}
 use Rattle.analysis.specs.Facts.{Among, Standing}
 use Rattle.analysis.specs.declared.rounds.Marks.{Marks}
 use Rattle.analysis.proofs.Laws.Standing.{id_at}
+use Rattle.analysis.proofs.Laws.Rounded.{is_among}
 use Rattle.hub.specs.Budget.{IsBudget}
 use Rattle.hub.proofs.Laws.Lists.{all_false}
-use Rattle.hub.proofs.Laws.Grounds.{row_bit, is_among, at_place, place_low, same_place}
+use Rattle.hub.proofs.Laws.Grounds.{row_bit, at_place, place_low, same_place}
 use Rattle.planned.specs.List.{Laid, AllIn}
 use Rattle.turns.specs.Ground.{Ground}
 use Rattle.turns.specs.Midway.{limits_of}
@@ -28,6 +29,7 @@ use Rattle.substitution.specs.Run.{MadeTo, MadeOf}
 use Rattle.turns.specs.declared.limits.Limits.{Limits}
 use Rattle.substitution.specs.declared.turning.Done.{Done}
 use Rattle.std.specs.Prelude.{Option, Some, None, Result, Ok, Err}
+use Rattle.std.proofs.lemmas.Bool.{and_from}
 use Rattle.steps.specs.declared.decide.Clause.TheVariants.{NoSteps}
 use Rattle.turns.specs.Turn.{UnplannedBy}
 use Rattle.turns.specs.declared.turn.Unplanned.{Unplanned}
@@ -60,7 +62,7 @@ module _ {ws : List ℕ} {end : ℕ} {rules : Rules} {past : Bool} {calls : List
         absurd
         (true≢false
         (sym x.inlinable
-        ∙ all_false (satellite_is_inlinable inner_depth) (keep_in _ (is_among a) (both_true _ _ own (ap not apart))) f)))
+        ∙ all_false (satellite_is_inlinable inner_depth) (keep_in _ (is_among a) (and_from _ _ own (ap not apart))) f)))
 
     pub ground_of : {n : ℕ} → n ≡ rules.n → Ground ws end rules.names rules.places (record { n = n; members = members; hub = hub })
     ground_of e =

@@ -5,13 +5,13 @@ use mathlib.Core.Logic.{⊎_elim}
 use mathlib.Core.List.{List}
 use native.Mathlib.Omega.{arith}
 use native.Mathlib.Numerals.{add-one}
+use Rattle.std.proofs.lemmas.Bool.{cases_lt}
 use Rattle.reference.specs.Substitute.{without}
 use Rattle.planned.specs.Layout.{half, head_at, options_at, marked, record_at, elements_from, meaning}
 use Rattle.planned.specs.List.{Laid, HasRoom, InHand, ListedIn}
 use Rattle.planned.specs.Moves.{Grown}
 use Rattle.planned.specs.Written.{Finished, CopiedWithout}
 use Rattle.planned.specs.Split.{with_other, PushedAbsent}
-use Rattle.planned.specs.Laws.Order.{order}
 use Rattle.planned.specs.Laws.Parts.{Copied, elements_copied, elements_append, elements_take, elements_drop}
 use Rattle.planned.specs.Laws.Kept.{Outside, OneOn, with_top, one_laid, pushed_one}
 use Rattle.planned.proofs.Laws.Placed.{means_other, Place, place_on, place_grown, placed}
@@ -69,7 +69,7 @@ module _ {b₀ b₁ b₂ : List ℕ} {l : Sizes} {x : Listed} {index k a e o : �
               let u : e + i ≡ e + index + (i - index) = omega arith in
               let v : x.e + (index + 1) + (i - index) ≡ x.e + (i + 1) = omega arith in
               rw (u, absent_rest.each (i - index) (omega arith), v) (t.elements (i + 1) (omega arith)))
-              (order i index);
+              (cases_lt i index);
           options = λ i h. rw (absent_options.each i (omega arith)) (t.options i (omega arith));
         }
 

@@ -5,6 +5,7 @@ use mathlib.Core.Logic.{◌⊎◌, inr, ⊎_elim}
 use mathlib.Core.List.{List}
 use mathlib.Core.Bool.{Bool, true, false}
 use native.Mathlib.Omega.{arith}
+use Rattle.std.proofs.lemmas.Bool.{cases_lt}
 use Rattle.grammar.specs.Tree.{Element, leaf, block, Block}
 use Rattle.reference.specs.Substitute.{plain, with_plain}
 use Rattle.planned.specs.Layout.{half, head_at, options_at, marked, is_marked, place_of, made_if, standing, element_of, record_at}
@@ -13,7 +14,6 @@ use Rattle.planned.specs.Halves.{HalfPut}
 use Rattle.planned.specs.List.{Laid, HasRoom, InHand, ElementIn, ListedIn, CallAt}
 use Rattle.planned.specs.Written.{Writable, Wrote}
 use Rattle.planned.specs.Split.{MadePlain, WrotePresent, with_other, PushedPresent}
-use Rattle.planned.specs.Laws.Order.{order}
 use Rattle.planned.specs.Laws.Parts.{Copied, elements_copied, elements_around, elements_take, elements_drop, elements_at_lem}
 use Rattle.planned.specs.Laws.Kept.{OneOn, with_top, one_laid, pushed_one}
 use Rattle.planned.proofs.Laws.Placed.{means_other, Place, place_on, place_grown, placed}
@@ -108,8 +108,8 @@ module _ {b₀ b₂ : List ℕ} {l : Sizes} {x : Listed} {index a e o : ℕ} (la
           elements = λ i h.
               ⊎_elim (λ z. rw (p.other i (omega arith) (λ y. omega arith)) (t.elements i (omega arith)))
               (λ z. ⊎_elim (λ y. rw (p.other i (omega arith) (λ u. omega arith)) (t.elements i (omega arith)))
-              (λ y. let u : i ≡ index = omega arith in rw u (present_element (t.elements index few) c)) (order index i))
-              (order i index);
+              (λ y. let u : i ≡ index = omega arith in rw u (present_element (t.elements index few) c)) (cases_lt index i))
+              (cases_lt i index);
           options = λ i h. rw (p.options.each i (omega arith)) (t.options i (omega arith));
         }
 

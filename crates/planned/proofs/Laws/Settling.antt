@@ -4,11 +4,11 @@ use mathlib.Core.Path.{◌≡◌}
 use mathlib.Core.Logic.{inl, inr, ⊎_elim}
 use mathlib.Core.List.{List, [], ◌∷◌, ◌++◌}
 use native.Mathlib.Omega.{arith}
+use Rattle.std.proofs.lemmas.Bool.{cases_lt}
 use Rattle.planned.specs.Layout.{record_at, meaning, records_from, settled, stack}
 use Rattle.planned.specs.List.{elements_of, options_of, Laid, HasRoom, Movable, ListedIn, AllIn}
 use Rattle.planned.specs.Moves.{SameEnds, Settled}
 use Rattle.planned.specs.Written.{Writable, Wrote}
-use Rattle.planned.specs.Laws.Order.{order}
 use Rattle.planned.specs.Laws.Parts.{meaning_copied, listed_copied}
 use Rattle.planned.specs.Laws.Runs.{elements_of_append, options_of_append, elements_of_one, options_of_one, runs_append}
 use Rattle.planned.specs.Laws.Kept.{kept, record_stands}
@@ -92,13 +92,13 @@ module _ {before : List ℕ} {l : Sizes} {x : Listed} (laid : Laid before l) (ro
           let m = w.no_is in
           record {
             heads = λ i n m.
-                ⊎_elim (λ t. ⊎_elim (λ c. old.heads i n (inl c)) (λ c. new.heads i c t) (order i l.outa))
+                ⊎_elim (λ t. ⊎_elim (λ c. old.heads i n (inl c)) (λ c. new.heads i c t) (cases_lt i l.outa))
                 (λ t. old.heads i n (inr t)) m;
             elements = λ i n m.
-                ⊎_elim (λ t. ⊎_elim (λ c. old.elements i n (inl c)) (λ c. new.elements i c (omega arith)) (order i l.oute))
+                ⊎_elim (λ t. ⊎_elim (λ c. old.elements i n (inl c)) (λ c. new.elements i c (omega arith)) (cases_lt i l.oute))
                 (λ t. old.elements i n (inr t)) m;
             options = λ i n m.
-                ⊎_elim (λ t. ⊎_elim (λ c. old.options i n (inl c)) (λ c. new.options i c (omega arith)) (order i l.outo))
+                ⊎_elim (λ t. ⊎_elim (λ c. old.options i n (inl c)) (λ c. new.options i c (omega arith)) (cases_lt i l.outo))
                 (λ t. old.options i n (inr t)) m;
           }
 

@@ -2,12 +2,12 @@
 use Rattle.std.specs.Prelude.{ℕ, ◌+◌, ◌-◌, ◌<◌, ◌≤◌, ◌≡◌, ◌⊎◌, List, [], ◌∷◌, ◌++◌, length}
 use Rattle.std.proofs.Common.{sym, ap, ◌∙◌, inl, inr, append_assoc, arith}
 use Rattle.std.proofs.Math.Logic.{⊎_elim}
+use Rattle.std.proofs.lemmas.Bool.{cases_lt}
 use Rattle.reference.specs.Numbers.{most_alternatives, most_elements}
 use Rattle.reference.specs.Substitute.{Planned}
 use Rattle.planned.specs.Layout.{half, heads_at, head_at, options_at, hand_at, record_at, meaning, records_from, settled, stack}
 use Rattle.planned.specs.List.{elements_of, options_of, Laid, HeadIn, ElementIn, ListedIn, AllIn}
 use Rattle.planned.specs.Moves.{SameEnds, Pushed}
-use Rattle.planned.specs.Laws.Order.{order}
 use Rattle.planned.specs.Laws.Runs.{SameHeads, elements_of_same, options_of_same, run_same, runs_append}
 use Rattle.planned.specs.Laws.Runs.{elements_of_append, options_of_append, elements_of_one, options_of_one}
 use Rattle.planned.specs.declared.list.Sizes.{Sizes}
@@ -173,13 +173,13 @@ module _ {before after : List ℕ} {l : Sizes} {k a x y : ℕ} (laid : Laid befo
             record {
               heads = λ i n m.
                   ⊎_elim (λ t. old.heads i n (inl t))
-                  (λ t. ⊎_elim (λ c. new.heads i t c) (λ c. old.heads i n (inr c)) (order i l.topa)) m;
+                  (λ t. ⊎_elim (λ c. new.heads i t c) (λ c. old.heads i n (inr c)) (cases_lt i l.topa)) m;
               elements = λ i n m.
                   ⊎_elim (λ t. old.elements i n (inl t))
-                  (λ t. ⊎_elim (λ c. new.elements i t c) (λ c. old.elements i n (inr c)) (order i l.tope)) m;
+                  (λ t. ⊎_elim (λ c. new.elements i t c) (λ c. old.elements i n (inr c)) (cases_lt i l.tope)) m;
               options = λ i n m.
                   ⊎_elim (λ t. old.options i n (inl t))
-                  (λ t. ⊎_elim (λ c. new.options i t c) (λ c. old.options i n (inr c)) (order i l.topo)) m;
+                  (λ t. ⊎_elim (λ c. new.options i t c) (λ c. old.options i n (inr c)) (cases_lt i l.topo)) m;
             };
         long = out.long;
       }

@@ -2,8 +2,9 @@
 use Prim.Native.Nat.{ℕ, zero, suc, ◌+◌, ◌-◌, ◌<◌, ◌≤◌}
 use Rattle.std.specs.Prelude.{◌≡◌, length, take, drop}
 use Rattle.std.proofs.Math.Path.{refl, ap, ap₂}
-use mathlib.Core.List.{List, ◌∷◌, ◌++◌}
+use mathlib.Core.List.{List, [], ◌∷◌, ◌++◌}
 use native.Mathlib.Omega.{arith}
+use lib.ListN.{drop_of_length-le}
 use Rattle.planned.specs.Layout.{half, element_of, option_of, elements_from, options_from, meaning}
 use Rattle.planned.specs.List.{ListedIn}
 use Rattle.planned.specs.declared.list.Listed.{Listed}
@@ -120,3 +121,9 @@ module _ (ws : List ℕ) (end d : ℕ) where
         elements = λ i h. rw (e.each i (omega arith)) (t.elements i (omega arith));
         options = λ i h. rw (o.each i (omega arith)) (t.options i (omega arith));
       }
+
+-- From their number on there are none.
+pub no_steps_left : (ws : List ℕ) (end d : ℕ) (bs : List ℕ) (x : Listed) (i : ℕ) → x.ne ≤ i → drop i (meaning ws end d bs x).elements ≡ []
+unfolding meaning
+no_steps_left ws end d bs x i l =
+    drop_of_length-le (meaning ws end d bs x).elements {i = i} (let c = elements_count ws end d bs x.e x.ne in omega arith)

@@ -2,8 +2,9 @@
 use Rattle.std.specs.Prelude.{ℕ, ◌+◌, ◌≡◌, List, ◌++◌, true, length, leb}
 use native.Mathlib.Omega.{arith}
 use Rattle.std.proofs.Common.{length-append}
+use Rattle.std.proofs.lemmas.Bool.{and_from}
+use Rattle.std.specs.Cmp.{first_so, second_so}
 use borrow.Author.Tests.{leb-true, le-leb}
-use Rattle.grammar.specs.Laws.Parse.{left_true, right_true, both_true}
 use Rattle.reference.specs.Numbers.{most_alternatives, most_elements, most_options}
 use Rattle.reference.specs.Substitute.{Planned, standard, is_within}
 use Rattle.planned.specs.Layout.{settled, stack}
@@ -66,8 +67,8 @@ module _ (ws : List ℕ) (end d : ℕ) (bs : List ℕ) (l : Sizes) (laid : Laid 
       let a = count_all in
       let e = elements_of_all in
       let o = options_of_all in
-      both_true _ _ (le-leb (length all) most_alternatives (omega arith))
-      (both_true _ _ (le-leb (elements_all all) most_elements (omega arith)) (le-leb (options_all all) most_options (omega arith)))
+      and_from _ _ (le-leb (length all) most_alternatives (omega arith))
+      (and_from _ _ (le-leb (elements_all all) most_elements (omega arith)) (le-leb (options_all all) most_options (omega arith)))
 
   pub within_room : is_within d standard all ≡ true → HasRoom l (length ps) (elements_all ps) (options_all ps)
   unfolding is_within
@@ -75,8 +76,8 @@ module _ (ws : List ℕ) (end d : ℕ) (bs : List ℕ) (l : Sizes) (laid : Laid 
       let a = count_all in
       let e = elements_of_all in
       let o = options_of_all in
-      let u = leb-true (length all) most_alternatives (left_true (leb (length all) most_alternatives) _ t) in
-      let v = right_true (leb (length all) most_alternatives) _ t in
-      let w = leb-true (elements_all all) most_elements (left_true (leb (elements_all all) most_elements) _ v) in
-      let z = leb-true (options_all all) most_options (right_true (leb (elements_all all) most_elements) _ v) in
+      let u = leb-true (length all) most_alternatives (first_so (leb (length all) most_alternatives) _ t) in
+      let v = second_so (leb (length all) most_alternatives) _ t in
+      let w = leb-true (elements_all all) most_elements (first_so (leb (elements_all all) most_elements) _ v) in
+      let z = leb-true (options_all all) most_options (second_so (leb (elements_all all) most_elements) _ v) in
       record { alternatives = omega arith; elements = omega arith; options = omega arith }

@@ -1,66 +1,40 @@
 -- What the decisions rest on: a sheet that was read has its preserved ids behind its rules, and the limits are the definition's.
 use Prim.Native.Nat.{ℕ, ◌+◌, ◌-◌, ◌≤◌}
-use mathlib.Core.Path.{◌≡◌, refl, sym, ap, ◌∙◌}
-use mathlib.Core.List.{List, ◌∷◌, ◌++◌, append_assoc}
-use mathlib.Core.Bool.{Bool, true, false}
+use mathlib.Core.Path.{◌≡◌, sym, ap, ◌∙◌}
+use mathlib.Core.List.{List, ◌++◌}
 use native.Mathlib.Omega.{arith}
 use lib.ListN.{length, length-append}
 use lib.Seq.{take-append_seam, drop-append_seam}
-use lib.Dec.{leb}
 use borrow.Author.Tests.{leb-true}
-use Rattle.grammar.specs.Numbers.{most_words, work_bytes}
+use Rattle.grammar.specs.Numbers.{most_words}
 use Rattle.grammar.specs.Tree as tree
 use Rattle.grammar.specs.Words.{words}
-use Rattle.grammar.specs.Lists.{rising, distinct}
-use Rattle.grammar.specs.Ids.{rule_ids, rule_names, is_distinct}
-use Rattle.grammar.specs.Laws.Parse.{left_true, right_true}
-use Rattle.analysis.specs.Facts.{Standing}
-use Rattle.grammar.specs.Encode.{encode, encode_rules, encode_counters}
-use Rattle.grammar.specs.Reading.{refused, sheet, is_length, read_words, read}
+use Rattle.grammar.specs.Lists.{rising}
+use Rattle.grammar.specs.Encode.{encode, encode_rules}
+use Rattle.grammar.specs.Reading.{sheet}
 use Rattle.grammar.specs.Laws.Words.{length_words}
 use Rattle.grammar.specs.Laws.Whole.{words_sound, reads_sheet, valid_parts}
-use Rattle.records.specs.declared.rules.Rules.{Rules}
+use Rattle.grammar.specs.Laws.Trailer.{trailing, encode_split}
 use Rattle.hub.specs.Preserved.{between}
 use Rattle.sheet.specs.Answer.{read_lent, numbers_in, answer_of, parts_of, ReadAs, Lent}
 use Rattle.sheet.specs.declared.answer.Reading.{Reading}
 use Rattle.std.specs.Prelude.{Ok}
 use Rattle.sheet.specs.Read.{WasRead}
 use Rattle.sheet.proofs.Laws.Lent.{lent_all}
-use Rattle.sheet.proofs.Laws.Sizes.{was_read}
+use Rattle.sheet.proofs.Laws.Sizes.{was_read, Taken, taken}
 use Rattle.plan.specs.Ground.{KeptAt}
 
--- Where a sheet was read, its words encode it, and all that was lent is long enough.
-record Taken (bs work : List ℕ) (s : tree.Sheet) : Type 0 where
-  is : read_words (words bs) ≡ sheet s
-  lent : Lent bs work
-
-never_sheet : {A : Type 0} {n : ℕ} {s : tree.Sheet} → refused n ≡ sheet s → A
-never_sheet e = absurd (let u : ◌≡◌ {A = ℕ} 0 1 = cc in omega arith)
-
-taken : (bs work : List ℕ) (s : tree.Sheet) → read_lent bs work ≡ sheet s → Taken bs work s
-unfolding read_lent read
-taken bs work s e = go (is_length (length bs)) refl (leb work_bytes (length work)) refl
-  where
-    go : (b : Bool) → is_length (length bs) ≡ b → (d : Bool) → leb work_bytes (length work) ≡ d → Taken bs work s
-    go false x d y = never_sheet (rw (x, read_lent) at e)
-    go true x false y = never_sheet (rw (x, y, read_lent) at e)
-    go true x true y =
-        record { is = rw (x, read) at (rw (x, y, read_lent) at e); lent = lent_all bs work x (leb-true _ _ y) }
+-- Where a sheet was read, all that was lent is long enough, and its words encode it.
+lent : {bs work : List ℕ} {s : tree.Sheet} → Taken bs work s → Lent bs work
+lent {bs} {work} t = lent_all bs work t.long (leb-true _ _ t.enough)
 
 encoded : {bs work : List ℕ} {s : tree.Sheet} → Taken bs work s → encode s ≡ words bs
 encoded {bs} t =
     let l = length_words bs in
-    let h = t.lent.least in
+    let h = (lent t).least in
     (reads_sheet (words_sound (words bs) (omega arith)) t.is).words
 
 -- The words behind the rules are the preserved ids.
-trailing : tree.Sheet → List ℕ
-trailing s = s.kind ∷ length (encode_rules s.rules ++ s.preserved) ∷ length s.preserved ∷ encode_counters s.counters
-
-encode_split : (s : tree.Sheet) → encode s ≡ encode_rules s.rules ++ (s.preserved ++ trailing s)
-unfolding encode trailing
-encode_split s = append_assoc (encode_rules s.rules) s.preserved _
-
 kept_between : (s : tree.Sheet) {ws : List ℕ} {from to : ℕ} → encode s ≡ ws → from ≡ length (encode_rules s.rules)
     → to ≡ from + length s.preserved → between ws from to ≡ s.preserved
 kept_between s {ws} {from} {to} e f g =
@@ -68,20 +42,7 @@ kept_between s {ws} {from} {to} e f g =
     rw (n, f, ← e, encode_split s, drop-append_seam (encode_rules s.rules) (s.preserved ++ trailing s))
     (take-append_seam s.preserved (trailing s))
 
--- Its rules stand in it.
-unfoldable pub read_stands : {bs work : List ℕ} {end : ℕ} {rules : Rules} → WasRead bs work end rules → Standing (words bs) end rules
-unfolding is_distinct
-read_stands w =
-    let d = (valid_parts w.tree w.good).distinct in
-    record {
-      rows = w.rows;
-      ids = ap (λ rs. distinct (rule_ids rs)) w.trees ∙ left_true (distinct (rule_ids w.tree.rules)) _ d;
-      names =
-          ap (λ rs. distinct (rule_names rs)) w.trees
-          ∙ left_true (distinct (rule_names w.tree.rules)) _ (right_true (distinct (rule_ids w.tree.rules)) _ d);
-    }
-
--- The same of an answer of the reader.
+-- An answer of the reader.
 module _ (bs work : List ℕ) {r : Reading} (a : ReadAs (read_lent bs work) (Ok r)) where
   abbrev was : WasRead bs work r.parts.preserved r.rules
   was = was_read bs work a
@@ -96,7 +57,7 @@ module _ (bs work : List ℕ) {r : Reading} (a : ReadAs (read_lent bs work) (Ok 
   read_count = ap (λ q. q.count) parts_are
 
   pub read_small : r.parts.preserved ≤ most_words
-  read_small = let t = (taken bs work was.tree was.is).lent.most in let z = was.room.trailer in omega arith
+  read_small = let t = (lent (taken bs work was.tree was.is)).most in let z = was.room.trailer in omega arith
 
   module _ {to : ℕ} (e : to ≡ r.parts.preserved + r.parts.count) where
     pub read_preserved : between (words bs) r.parts.preserved to ≡ was.tree.preserved

@@ -29,7 +29,8 @@ use Rattle.plans.specs.Told.{Cleared, NthToldOf, NthTold, FirstToldOf, FirstTold
 use Rattle.plans.specs.First.{SearchAs, FirstAs, FirstOf, search_numbers, search_cycle, search_row}
 use Rattle.plan.specs.declared.search.Found.{Found}
 use Rattle.reference.specs.Substitute.{standard}
-use Rattle.plans.proofs.Laws.Ground.{read_stands, read_end, read_preserved}
+use Rattle.plans.proofs.Laws.Ground.{read_end, read_preserved}
+use Rattle.facts.proofs.Laws.Told.{read_stands}
 
 -- Equals in the place of equals.
 moved : {ws : List ℕ} {e₁ e₂ : ℕ} {i₁ i₂ : List ℕ} {n₁ n₂ : ℕ} {bs : List ℕ} {c : Corners} {r₁ r₂ : List Rule} {p₁ p₂ : List ℕ} {nth : ℕ}

@@ -9,7 +9,7 @@ use native.Mathlib.Omega.{arith}
 use borrow.Author.Tests.{lt-ltb, not-true}
 use Rattle.grammar.specs.Laws.Lists.{in_member, member_in}
 use Rattle.grammar.specs.Lists.{each, member}
-use Rattle.grammar.specs.Laws.Parse.{both_true, left_true, right_true, either}
+use Rattle.grammar.specs.Laws.Parse.{either}
 use Rattle.reference.specs.Analysis.{Row, reach, component, is_cycle, cycles_from}
 use Rattle.graph.specs.Members.{each_in}
 use Rattle.graph.specs.Order.{Rising}
@@ -20,8 +20,9 @@ use Rattle.reach.specs.Reach.{Around}
 use Rattle.reach.specs.Cycles.{Least, NoneLeft, IsNext}
 use Rattle.reach.specs.Listed.{row_at, Numbered, Ids, Members, Left, Given, GivesNext}
 use Rattle.std.specs.Prelude.{Option, Some, None}
+use Rattle.std.proofs.lemmas.Bool.{and_from}
+use Rattle.std.specs.Cmp.{first_so, second_so, both_ways}
 use Rattle.reach.proofs.Laws.Graph.{in_id}
-use Rattle.reach.proofs.Laws.Listed.{same_test}
 
 -- The first of the cycles listed from rising ids; the others are listed from greater ones.
 record Front (closed : List Row) (c : List ℕ) (cs : List (List ℕ)) : Type 0 where
@@ -133,21 +134,21 @@ module _ {rows : List Row} {n : ℕ} (k : Numbered rows n) where
 
       -- Without its members, those of the later cycles are left.
       without_first : {row less : List ℕ} → Members rows n row (comp (id i)) → Minus left row less → Members rows n less (each (λ c. c) cs)
-      without_first {row} {less} a m = record { at = λ j b. m.at j ∙ same_test _ _ (there j b) (back j b) }
+      without_first {row} {less} a m = record { at = λ j b. m.at j ∙ both_ways _ _ (there j b) (back j b) }
         where
           of_row : (j : ℕ) → j < n → bit row j ≡ member (id j) c
           of_row j b = a.at j b ∙ ap (member (id j)) (sym is_first)
 
           there : (j : ℕ) → j < n → (bit left j && not (bit row j)) ≡ true → member (id j) (each (λ c. c) cs) ≡ true
           there j b t =
-              let out = not-true (bit row j) (right_true (bit left j) _ t) in
-              let some = member_in (each (λ c. c) (c ∷ cs)) (sym (h.members.at j b) ∙ left_true (bit left j) _ t) in
+              let out = not-true (bit row j) (second_so (bit left j) _ t) in
+              let some = member_in (each (λ c. c) (c ∷ cs)) (sym (h.members.at j b) ∙ first_so (bit left j) _ t) in
               ⊎_elim (λ o. absurd (true≢false (sym (in_member o) ∙ sym (of_row j b) ∙ out))) in_member (Memᴰ.append_cases c some)
 
           back : (j : ℕ) → j < n → member (id j) (each (λ c. c) cs) ≡ true → (bit left j && not (bit row j)) ≡ true
           back j b t =
               let o = member_in (each (λ c. c) cs) t in
-              both_true (bit left j) _ (h.members.at j b ∙ in_member (Memᴰ.append_right c o))
+              and_from (bit left j) _ (h.members.at j b ∙ in_member (Memᴰ.append_right c o))
               (ap not (either (bit row j) (λ u. absurd (disjoint (member_in c (sym (of_row j b) ∙ u)) o)) (λ u. u)))
 
       pub is_given : Given rows n all closed left i (c ∷ cs)
@@ -163,7 +164,7 @@ module _ {rows : List Row} {n : ℕ} (k : Numbered rows n) where
               rises = head.rises;
               listed = head.rest;
               members = without_first (around_is row a) m;
-              cycle = λ j b t. h.cycle j b (left_true (bit left j) _ (sym (m.at j) ∙ t));
+              cycle = λ j b t. h.cycle j b (first_so (bit left j) _ (sym (m.at j) ∙ t));
             };
           }
 

@@ -9,9 +9,11 @@ use native.Mathlib.Omega.{arith}
 use lib.ListN.{length, get_or}
 use lib.Dec.{eqb}
 use borrow.Author.Tests.{eqb-true, eqb-false, not-true}
+use Rattle.std.proofs.lemmas.Bool.{and_from}
+use Rattle.std.specs.Cmp.{first_so, second_so}
 use Rattle.grammar.specs.Laws.Lists.{in_member, member_in, in_map}
 use Rattle.grammar.specs.Lists.{member, distinct}
-use Rattle.grammar.specs.Laws.Parse.{both_true, left_true, right_true, either}
+use Rattle.grammar.specs.Laws.Parse.{either}
 use Rattle.reference.specs.Analysis.{Row, row_ids}
 use Rattle.graph.specs.Members.{one_with}
 use Rattle.graph.specs.Reach.{Edge, Way, way_start}
@@ -34,7 +36,7 @@ not_behind : {A : Type 0} (key : A → ℕ) (d x : A) (xs : List A) → distinct
     → key x ≡ key (get_or xs j d) → ⊥
 unfolding distinct
 not_behind key d x xs t j l e =
-    let f = not-true (member (key x) (map key xs)) (left_true (not (member (key x) (map key xs))) _ t) in
+    let f = not-true (member (key x) (map key xs)) (first_so (not (member (key x) (map key xs))) _ t) in
     true≢false (sym (in_member (subst (λ n. Memᴰ n (map key xs)) (sym e) (in_map key (at_in d xs j l)))) ∙ f)
 
 pub one_place : {A : Type 0} (key : A → ℕ) (d : A) (xs : List A) → distinct (map key xs) ≡ true → (i j : ℕ) → i < length xs → j < length xs
@@ -45,27 +47,27 @@ one_place key d (x ∷ xs) t zero zero l m e = refl
 one_place key d (x ∷ xs) t zero (suc j) l m e = absurd (not_behind key d x xs t j (omega arith) e)
 one_place key d (x ∷ xs) t (suc i) zero l m e = absurd (not_behind key d x xs t i (omega arith) (sym e))
 one_place key d (x ∷ xs) t (suc i) (suc j) l m e =
-    ap suc (one_place key d xs (right_true (not (member (key x) (map key xs))) _ t) i j (omega arith) (omega arith) e)
+    ap suc (one_place key d xs (second_so (not (member (key x) (map key xs))) _ t) i j (omega arith) (omega arith) e)
 
 -- Paths between different rules, and paths with a rule's own edges.
 pub other_path : (corners : List (List ℕ)) {n i j : ℕ} → Path (other corners) n i j → Path (edge corners) n i j
 unfolding other
-other_path corners (last {i = i} {j = j} e) = last (left_true (edge corners i j) _ e)
-other_path corners (more {i = i} {k = k} e l p) = more (left_true (edge corners i k) _ e) l (other_path corners p)
+other_path corners (last {i = i} {j = j} e) = last (first_so (edge corners i j) _ e)
+other_path corners (more {i = i} {k = k} e l p) = more (first_so (edge corners i k) _ e) l (other_path corners p)
 
 pub other_differs : (corners : List (List ℕ)) {i j : ℕ} → other corners i j ≡ true → i ≡ j → ⊥
 unfolding other
-other_differs corners {i} {j} e d = eqb-false j i (not-true (eqb j i) (right_true (edge corners i j) _ e)) (sym d)
+other_differs corners {i} {j} e d = eqb-false j i (not-true (eqb j i) (second_so (edge corners i j) _ e)) (sym d)
 
 pub path_other : (corners : List (List ℕ)) {n i j : ℕ} → Path (edge corners) n i j → (i ≡ j) ⊎ Path (other corners) n i j
 unfolding other
 path_other corners {n} (last {i = i} {j = j} e) = either (eqb j i) (λ t. inl (sym (eqb-true j i t)))
-    (λ f. inr (last (both_true (edge corners i j) _ e (ap not f))))
+    (λ f. inr (last (and_from (edge corners i j) _ e (ap not f))))
 path_other corners {n} (more {i = i} {k = k} {j = j} e l p) =
     either (eqb k i)
     (λ t. subst (λ x. (x ≡ j) ⊎ Path (other corners) n x j) (eqb-true k i t) (path_other corners p))
     (λ f.
-    let d = both_true (edge corners i k) _ e (ap not f) in
+    let d = and_from (edge corners i k) _ e (ap not f) in
     ⊎_elim (λ q. inr (last (subst (λ x. other corners i x ≡ true) q d))) (λ q. inr (more d l q)) (path_other corners p))
 
 module _ {rows : List Row} {n : ℕ} (h : Numbered rows n) where

@@ -4,13 +4,15 @@ use mathlib.Core.Path.{◌≡◌, refl, sym, ap, ◌∙◌, subst}
 use mathlib.Core.Logic.{◌⊎◌, ⊎_elim}
 use mathlib.Core.List.Memᴰ
 use mathlib.Core.List.{List, [], ◌∷◌, Memᴰ}
-use mathlib.Core.Bool.{Bool, true, false, ◌&&◌}
+use mathlib.Core.Bool.{true, ◌&&◌}
 use native.Mathlib.Omega.{arith}
 use lib.Dec.{eqb}
 use borrow.Author.Tests.{eqb-true, eqb-false, eq-eqb, lt-ltb}
+use Rattle.std.proofs.lemmas.Bool.{and_from}
+use Rattle.std.specs.Cmp.{first_so, second_so, both_ways}
 use Rattle.grammar.specs.Laws.Lists.{in_member, member_in}
 use Rattle.grammar.specs.Lists.{each, member, sorted}
-use Rattle.grammar.specs.Laws.Parse.{both_true, left_true, right_true, either}
+use Rattle.grammar.specs.Laws.Parse.{either}
 use Rattle.reference.specs.Analysis.{Row, row_ids, reach, component, is_cycle, cycles_from, left_corner_cycles}
 use Rattle.graph.specs.Members.{in_each, each_in}
 use Rattle.graph.specs.Order.{Rising, distinct_of, sorted_in, sorted_rising, rising_same}
@@ -22,11 +24,6 @@ use Rattle.reach.specs.Cycles.{Joined}
 use Rattle.reach.specs.Listed.{row_at, Edges, Left, corner_rows, AllLeft}
 use Rattle.reach.proofs.Laws.Paths.{path_path}
 use Rattle.reach.proofs.Laws.Graph.{other_path, other_differs, path_other, id_in, in_id, one_id, path_way, way_path}
-
-pub same_test : (a b : Bool) → (a ≡ true → b ≡ true) → (b ≡ true → a ≡ true) → a ≡ b
-same_test true b f g = sym (f refl)
-same_test false true f g = g refl
-same_test false false f g = refl
 
 -- A list of two members at least, of which the first is the least.
 cycle_of : (x : ℕ) (xs : List ℕ) → (y z : ℕ) → Memᴰ y (x ∷ xs) → Memᴰ z (x ∷ xs) → (y ≡ z → ⊥) → is_cycle x (x ∷ xs) ≡ true
@@ -57,22 +54,22 @@ module _ {rows : List Row} {n : ℕ} {corners closed : List (List ℕ)} (h : Edg
   -- Who reaches a rule of a cycle and is reached by it is in its component.
   pub around_component : {i : ℕ} → i < n → edge closed i i ≡ true → (j : ℕ) → j < n
       → (edge closed i j && edge closed j i) ≡ member (id j) (comp (id i))
-  around_component {i} l t j m = same_test _ _ there back
+  around_component {i} l t j m = both_ways _ _ there back
     where
       there : (edge closed i j && edge closed j i) ≡ true → member (id j) (comp (id i)) ≡ true
       there b =
-          let p = (f.reaches i l t i j l).0 (left_true (edge closed i j) _ b) in
-          let q = (f.reaches i l t j i m).0 (right_true (edge closed i j) _ b) in
+          let p = (f.reaches i l t i j l).0 (first_so (edge closed i j) _ b) in
+          let q = (f.reaches i l t j i m).0 (second_so (edge closed i j) _ b) in
           in_member (ways_component rows (id_in h.numbered m) (id_in h.numbered l) (other_way l m p) (other_way m l q))
 
       own : i ≡ j → (edge closed i j && edge closed j i) ≡ true
-      own e = subst (λ x. (edge closed i x && edge closed x i) ≡ true) e (both_true (edge closed i i) _ t t)
+      own e = subst (λ x. (edge closed i x && edge closed x i) ≡ true) e (and_from (edge closed i i) _ t t)
 
       apart : Way rows (id i) (id j) → Way rows (id j) (id i) → (edge closed i j && edge closed j i) ≡ true
       apart a b =
           ⊎_elim own
           (λ p. ⊎_elim (λ e. own (sym e))
-          (λ q. both_true (edge closed i j) _ ((f.reaches i l t i j l).1 p) ((f.reaches i l t j i m).1 q)) (way_other m l b))
+          (λ q. and_from (edge closed i j) _ ((f.reaches i l t i j l).1 p) ((f.reaches i l t j i m).1 q)) (way_other m l b))
           (way_other l m a)
 
       back : member (id j) (comp (id i)) ≡ true → (edge closed i j && edge closed j i) ≡ true
@@ -174,7 +171,7 @@ module _ {rows : List Row} {n : ℕ} {corners closed : List (List ℕ)} (h : Edg
         members =
             record {
               at = λ j l.
-                  looping j l ∙ same_test _ _ (λ t. in_member (loop_listed l t)) (λ t. listed_loop l (member_in _ t));
+                  looping j l ∙ both_ways _ _ (λ t. in_member (loop_listed l t)) (λ t. listed_loop l (member_in _ t));
             };
         cycle = λ i l t j m. around_component l (sym (looping i l) ∙ t) j m;
       }

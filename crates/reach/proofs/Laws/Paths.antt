@@ -6,8 +6,9 @@ use mathlib.Core.Bool.{Bool, true, ◌&&◌, ◌||◌}
 use native.Mathlib.Omega.{arith}
 use lib.Dec.{eqb}
 use borrow.Author.Tests.{eqb-true, eqb-false}
-use Rattle.std.proofs.lemmas.Bool.{or_cases, or_left, or_right}
-use Rattle.grammar.specs.Laws.Parse.{both_true, left_true, right_true, either}
+use Rattle.std.proofs.lemmas.Bool.{or_cases, or_left, or_right, and_from}
+use Rattle.std.specs.Cmp.{first_so, second_so}
+use Rattle.grammar.specs.Laws.Parse.{either}
 use Rattle.reach.specs.Reach.{Path, last, more}
 
 pub path_path : {f : ℕ → ℕ → Bool} {n i k j : ℕ} → Path f n i k → k < n → Path f n k j → Path f n i j
@@ -23,11 +24,11 @@ module _ (f : ℕ → ℕ → Bool) where
   -- The last step in, the two steps over k, and both ways to tell them apart.
   step : (k i j : ℕ) → within (suc k) i j ≡ true → (within k i j ≡ true) ⊎ ((within k i k ≡ true) × (within k k j ≡ true))
   unfolding within
-  step k i j t = ⊎_elim inl (λ u. inr (left_true (within k i k) _ u, right_true (within k i k) _ u)) (or_cases (within k i j) _ t)
+  step k i j t = ⊎_elim inl (λ u. inr (first_so (within k i k) _ u, second_so (within k i k) _ u)) (or_cases (within k i j) _ t)
 
   over : (k i j : ℕ) → within k i k ≡ true → within k k j ≡ true → within (suc k) i j ≡ true
   unfolding within
-  over k i j a b = or_right (within k i j) _ (both_true (within k i k) (within k k j) a b)
+  over k i j a b = or_right (within k i j) _ (and_from (within k i k) (within k k j) a b)
 
   stay : (k i j : ℕ) → within k i j ≡ true → within (suc k) i j ≡ true
   unfolding within

@@ -22,9 +22,6 @@ edge_same rows i row j l = ap (λ x. bit x j) (get_or-set_same rows i row [] l)
 pub edge_other : (rows : List (List ℕ)) (i : ℕ) (row : List ℕ) (a j : ℕ) → (a ≡ i → ⊥) → edge (set rows i row) a j ≡ edge rows a j
 edge_other rows i row a j n = ap (λ x. bit x j) (get_or-set_other rows i a row [] n)
 
-pub size_set : {n : ℕ} (rows : List (List ℕ)) (i : ℕ) (row : List ℕ) → length rows ≡ n → length (set rows i row) ≡ n
-size_set rows i row e = length-set rows i row ∙ e
-
 -- An index below i + 1.
 upto : {R : Type 0} (a i : ℕ) → a < i + 1 → (a ≡ i → R) → (a < i → R) → R
 upto a i l f g = either (eqb a i) (λ t. f (eqb-true a i t)) (λ e. let n = eqb-false a i e in g (omega arith))
@@ -42,7 +39,7 @@ pub cleared_more : {rows : List (List ℕ)} {n i : ℕ} {r : List (List ℕ)} {t
 unfolding other
 cleared_more {rows} {n} {i} {r} {t} h l m w =
     record {
-      size = size_set r i t h.size;
+      size = length-set r i t ∙ h.size;
       room = omega arith;
       below = λ a j k.
           upto a i k

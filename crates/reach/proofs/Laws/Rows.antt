@@ -12,7 +12,7 @@ use Rattle.grammar.specs.Laws.Parse.{either}
 use Rattle.reach.specs.Rows.{digit, bit, One, Union, Meet, Minus, Empty}
 use Rattle.reach.proofs.Laws.Words.{or_digit, and_digit, minus_digit, zero_digit, one_digit, some_digit}
 
-low_bit : (row : List ℕ) (j : ℕ) → j < 64 → bit row j ≡ digit (get_or row 0 0) j
+pub low_bit : (row : List ℕ) (j : ℕ) → j < 64 → bit row j ≡ digit (get_or row 0 0) j
 unfolding bit
 low_bit row j l =
     let w : j / 64 ≡ 0 = omega arith in
@@ -26,7 +26,7 @@ high_bit row j h l =
     let p : j % 64 ≡ j - 64 = omega arith in
     rw (lt-ltb j 128 l, w, p)
 
-no_bit : (row : List ℕ) (j : ℕ) → 128 ≤ j → bit row j ≡ false
+pub no_bit : (row : List ℕ) (j : ℕ) → 128 ≤ j → bit row j ≡ false
 unfolding bit
 no_bit row j h = rw (le-ltb j 128 h)
 

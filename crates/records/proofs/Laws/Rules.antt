@@ -1,7 +1,7 @@
 -- The rules read so far, and what is left to read.
 use Prim.Native.Nat.{ℕ, zero, suc, ◌+◌, ◌-◌, ◌<◌, ◌≤◌}
 use mathlib.Core.Path.{◌≡◌, refl, sym, ap, subst, ◌∙◌}
-use mathlib.Core.List.{List, [], ◌∷◌, ◌++◌, map, append_assoc, append-nil}
+use mathlib.Core.List.{List, [], ◌∷◌, ◌++◌, append_assoc, append-nil, map-append}
 use native.Mathlib.Omega.{arith}
 use lib.ListN.{length, get_or, set, replicate, length-append, length-map, length-replicate}
 use lib.Seq.{set-append_seam}
@@ -21,6 +21,7 @@ use Rattle.records.specs.declared.rules.Rules.{Rules}
 use Rattle.records.specs.Step.{step_of}
 use Rattle.records.specs.Rules.{row, places_from, RowsOf, IsEmpty, IsWith, RulesRead, is_got}
 use Rattle.records.proofs.Laws.Trees.{rule_short}
+use Rattle.records.specs.Laws.Places.{places_length, places_more}
 
 pub record SoFar (ws : List ℕ) (end at : ℕ) (rules : Rules) : Type 0 where
   pub read : List Rule
@@ -43,28 +44,9 @@ row_more xs x n e h =
     let z = replicate {A = ℕ} (rule_limit - (length xs + 1)) 0 in
     rw (e, m, k) (set-append_seam xs 0 z x ∙ sym (append_assoc xs (x ∷ []) z))
 
-places_more : (rs : List Rule) (r : Rule) (at : ℕ)
-    → places_from at (rs ++ (r ∷ [])) ≡ places_from at rs ++ ((at + length (encode_rules rs)) ∷ [])
-unfolding places_from
-places_more [] r at = ap (λ n. n ∷ []) (omega arith)
-places_more (x ∷ rs) r at =
-    ap (λ l. at ∷ l)
-    (places_more rs r (at + length (encode_rule (encode_block body_depth) x))
-    ∙ ap (λ n. places_from (at + length (encode_rule (encode_block body_depth) x)) rs ++ (n ∷ []))
-    (let l = length-append (encode_rule (encode_block body_depth) x) (encode_rules rs) in omega arith))
-
-map_more : (f : Rule → ℕ) (rs : List Rule) (r : Rule) → map f (rs ++ (r ∷ [])) ≡ map f rs ++ (f r ∷ [])
-map_more f [] r = refl
-map_more f (x ∷ rs) r = ap (λ l. f x ∷ l) (map_more f rs r)
-
 pub row_long : (xs : List ℕ) → length xs ≤ rule_limit → length (row xs) ≡ rule_limit
 unfolding row
 row_long xs l = rw (length-append, length-replicate) (omega arith)
-
-places_length : (rs : List Rule) (at : ℕ) → length (places_from at rs) ≡ length rs
-unfolding places_from
-places_length [] at = refl
-places_length (x ∷ rs) at = ap suc (places_length rs _)
 
 rules_length : (rs : List Rule) (r : Rule)
     → length (encode_rules (rs ++ (r ∷ []))) ≡ length (encode_rules rs) + length (encode_rule (encode_block body_depth) r)
@@ -80,18 +62,18 @@ row_with : {before after : List ℕ} (xs ys : List ℕ) (n x : ℕ) → after �
     → ys ≡ xs ++ (x ∷ []) → after ≡ row ys
 row_with xs ys n x e f g h k = e ∙ ap (λ l. set l n x) f ∙ row_more xs x n g h ∙ sym (ap row k)
 
-rows_more : {rules more : Rules} {id name at : ℕ} (rs : List Rule) (r : Rule) → RowsOf rs rules → rules.n < rule_limit
+pub rows_more : {rules more : Rules} {id name at : ℕ} (rs : List Rule) (r : Rule) → RowsOf rs rules → rules.n < rule_limit
     → at ≡ length (encode_rules rs) → id ≡ r.id → name ≡ r.name → IsWith rules id name at more → RowsOf (rs ++ (r ∷ [])) more
 rows_more {rules} {more} {id} {name} {at} rs r o h p e f w =
     record {
       ids =
           row_with (rule_ids rs) _ rules.n id w.ids o.ids (o.count ∙ sym (length-map rs _)) h
-          (map_more (λ x. x.id) rs r ∙ ap (λ i. rule_ids rs ++ (i ∷ [])) (sym e));
+          (map-append (λ x. x.id) rs (r ∷ []) ∙ ap (λ i. rule_ids rs ++ (i ∷ [])) (sym e));
       names =
           row_with (rule_names rs) _ rules.n name w.names o.names (o.count ∙ sym (length-map rs _)) h
-          (map_more (λ x. x.name) rs r ∙ ap (λ i. rule_names rs ++ (i ∷ [])) (sym f));
+          (map-append (λ x. x.name) rs (r ∷ []) ∙ ap (λ i. rule_names rs ++ (i ∷ [])) (sym f));
       places =
-          row_with (places_from 0 rs) _ rules.n at w.places o.places (o.count ∙ sym (places_length rs 0)) h
+          row_with (places_from 0 rs) _ rules.n at w.places o.places (o.count ∙ sym (places_length 0 rs)) h
           (places_more rs r 0 ∙ ap (λ i. places_from 0 rs ++ (i ∷ [])) (let z : 0 + length (encode_rules rs) ≡ at = omega arith in z));
       count = omega (arith, w.count, o.count, length-append rs (r ∷ []));
     }

@@ -26,8 +26,9 @@ use Rattle.analysis.specs.Facts.{Standing, Among, SurveyOf, stopping, RowsBy}
 use Rattle.analysis.specs.declared.rounds.Marks.{Marks}
 use Rattle.analysis.proofs.Laws.Standing.{among, few, all_rules, id_at, key_at, rule_spans}
 use Rattle.analysis.proofs.Laws.Agree.{agrees}
+use Rattle.analysis.proofs.Laws.Rounded.{is_among, kept_id}
 use Rattle.hub.specs.Grounds.{rules_of}
-use Rattle.hub.proofs.Laws.Grounds.{row_bit, row_of, row_none, is_among, in_among, kept_id, same_place}
+use Rattle.hub.proofs.Laws.Grounds.{row_bit, row_of, row_none, in_among, same_place}
 use Rattle.plan.specs.Search.{RulesKnown}
 use Rattle.renew.specs.Fewer.{staying, HasRow, HasRows, IsAt, Fewer, RulesLess}
 use Rattle.renew.specs.Renewed.{HubSurveyed, Renewable, RenewedAs, RenewedOf}

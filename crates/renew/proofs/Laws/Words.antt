@@ -13,6 +13,7 @@ use borrow.Author.Tests.{ltb-true, ltb-false, lt-ltb, le-ltb}
 use Rattle.grammar.specs.Laws.Parse.{either}
 use Rattle.reach.specs.Rows.{digit, bit}
 use Rattle.reach.proofs.Laws.Words.{or_digit, minus_digit}
+use Rattle.reach.proofs.Laws.Rows.{low_bit, no_bit}
 use Rattle.renew.specs.Less.{before, WordLess, Less}
 
 pub before_low : {k j : ℕ} → j < k → before k j ≡ j
@@ -88,18 +89,6 @@ module _ (w k : ℕ) (l : k < 64) (b : w < 2 ^ 64) where
           shl_high (w / 2 ^ k / 2 ^ 1) m ∙ shr_digit (w / 2 ^ k) 1 (j - k) ∙ shr_digit w k (1 + (j - k))
           ∙ ap (digit w) (let e : k + (1 + (j - k)) ≡ suc j = omega arith in e) in
           rw (same, next, before_high m) (neither (digit w j) (digit w (suc j)))
-
--- Bits of a row by its words.
-low_bit : (row : List ℕ) (j : ℕ) → j < 64 → bit row j ≡ digit (get_or row 0 0) j
-unfolding bit
-low_bit row j l =
-    let w : j / 64 ≡ 0 = omega arith in
-    let p : j % 64 ≡ j = omega arith in
-    rw (lt-ltb j 128 (omega arith), w, p)
-
-no_bit : (row : List ℕ) (j : ℕ) → 128 ≤ j → bit row j ≡ false
-unfolding bit
-no_bit row j h = rw (le-ltb j 128 h)
 
 -- Behind its second word a row has no bits, as the word has none.
 high_bit : (row : List ℕ) (j : ℕ) → 64 ≤ j → get_or row 1 0 < 2 ^ 64 → bit row j ≡ digit (get_or row 1 0) (j - 64)

@@ -9,11 +9,12 @@ use mathlib.Core.Bool.{Bool, true, false, ◌&&◌, ◌||◌, not, or-false, or-
 use lib.ListN.{get_or}
 use lib.Dec.{eqb, ltb}
 use borrow.Author.Tests.{eqb-true, ltb-true, lt-ltb}
+use Rattle.std.specs.Cmp.{first_so, second_so}
 use Rattle.grammar.specs.Tree.{Leaf, epsilon, action, predicate, call, token, terminal, end_of_input, Element, leaf, block, Block}
 use Rattle.grammar.specs.Lists.{each, any, member, meet}
 use Rattle.grammar.specs.Corners.{Corners}
 use Rattle.grammar.specs.Laws.Lists.{in_member, member_in}
-use Rattle.grammar.specs.Laws.Parse.{left_true, right_true, either}
+use Rattle.grammar.specs.Laws.Parse.{either}
 use Rattle.reference.specs.Walks.{sort_of}
 use Rattle.reference.specs.Analysis.{Grammar, target, calls, element_nullable, block_is_nullable, is_stop, collect_left_corner_calls}
 use Rattle.reference.specs.Analysis.{block_corners, left_corners}
@@ -77,8 +78,8 @@ module _ {g : Grammar} {ids : List ℕ} {v : View} (w : Agrees g ids v) where
           let b = sym (w.calls m j ∙ ap (λ o. holds ids v.n (elim o [ none ↦ [] | some t ↦ t ∷ [] ]) j) e) ∙ a in
           record {
             place = j;
-            low = ltb-true j v.n (left_true (ltb j v.n) _ b);
-            is = eqb-true (get_or ids j 0) t (sym (or-false (eqb (get_or ids j 0) t)) ∙ right_true (ltb j v.n) _ b) ∙ sym u;
+            low = ltb-true j v.n (first_so (ltb j v.n) _ b);
+            is = eqb-true (get_or ids j 0) t (sym (or-false (eqb (get_or ids j 0) t)) ∙ second_so (ltb j v.n) _ b) ∙ sym u;
           }
 
   placed_leaf : (l : Leaf) → AllPlaced ids v.n (calls g l)
@@ -137,8 +138,8 @@ module _ {ids : List ℕ} {n : ℕ} {xs ys a b both : List ℕ} (p : AllPlaced i
       common u =
           let (j, l, t) = e.some u in
           let k = sym (in_both j) ∙ t in
-          let x = right_true (ltb j n) _ (left_true (holds ids n xs j) (holds ids n ys j) k) in
-          let y = right_true (ltb j n) _ (right_true (holds ids n xs j) (holds ids n ys j) k) in
+          let x = second_so (ltb j n) _ (first_so (holds ids n xs j) (holds ids n ys j) k) in
+          let y = second_so (ltb j n) _ (second_so (holds ids n xs j) (holds ids n ys j) k) in
           in_meet ys (member_in xs x) y
 
 -- So it is for the left corners of elements and the cycle.

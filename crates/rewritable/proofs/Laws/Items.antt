@@ -46,7 +46,7 @@ is_some o = elim o [ none ↦ false | some c ↦ true ]
 abbrev gives : Option Call → Bool
 gives o = elim o [ none ↦ false | some c ↦ not (eqb c.arguments 0) ]
 
-abbrev some_if : Bool → Call → Option Call
+abbrev pub some_if : Bool → Call → Option Call
 some_if b c = elim b [ true ↦ some c | false ↦ none ]
 
 -- An element of depth d.

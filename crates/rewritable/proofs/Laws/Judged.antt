@@ -3,17 +3,17 @@ use Prim.Native.Nat.{ℕ, ◌<◌}
 use mathlib.Core.Path.{◌≡◌, refl, sym, ap, ap₂, ◌∙◌, subst}
 use mathlib.Core.List.{List, [], ◌∷◌}
 use mathlib.Core.Option.{Option, none, some}
-use mathlib.Core.Bool.{Bool, true, false, ◌&&◌, ◌||◌, not, and-false, or-false, true≢false}
+use mathlib.Core.Bool.{Bool, true, false, ◌&&◌, ◌||◌, not, and-false, or-false}
 use lib.ListN.{get_or, drop}
 use lib.Dec.{eqb}
-use borrow.Author.Tests.{eqb-true, eq-eqb, ne_eqb, lt-ltb, not-true, not-false}
+use borrow.Author.Tests.{lt-ltb, not-true, not-false}
 use Rattle.std.specs.Bool.{then_some}
 use Rattle.std.specs.Prelude.{None}
 use Rattle.std.specs.declared.option.Option.{Option as Opt}
-use Rattle.grammar.specs.Tree.{Call, epsilon, action, predicate, call, token, terminal, end_of_input, Element, leaf, block, Block}
+use Rattle.grammar.specs.Tree.{epsilon, action, predicate, call, token, terminal, end_of_input, Element, leaf, block, Block}
 use Rattle.grammar.specs.Lists.{all, any, member, meet}
 use Rattle.grammar.specs.Corners.{Corners}
-use Rattle.grammar.specs.Laws.Parse.{either}
+use Rattle.grammar.specs.Laws.Lists.{eqb_swap}
 use Rattle.reference.specs.Walks.{sort_of, is_epsilon_only, is_one}
 use Rattle.reference.specs.Analysis.{Grammar, target, left_corners, element_nullable, block_is_nullable}
 use Rattle.reference.specs.Plan.{hub_call, is_hub_call, gives_hub_arguments, starts_with_hub_call, is_recursive, is_primary, is_fit}
@@ -27,14 +27,7 @@ use Rattle.rewritable.specs.Judge.{FitAs, IsJudged, VerdictOf}
 use Rattle.rewritable.specs.declared.judge.Verdict.{Verdict}
 use Rattle.analysis.specs.declared.leaf.Seen.{Seen as Held}
 use Rattle.rewritable.proofs.Laws.Corners.{corners_apart}
-
-eqb_swap : (a b : ℕ) → eqb a b ≡ eqb b a
-eqb_swap a b =
-    either (eqb b a) (λ t. ap (eqb a) (eqb-true b a t) ∙ eq-eqb a a refl ∙ sym t)
-    (λ f. ne_eqb a b (λ e. true≢false (sym (eq-eqb b a (sym e)) ∙ f)) ∙ sym f)
-
-abbrev some_if : Bool → Call → Option Call
-some_if b c = elim b [ true ↦ some c | false ↦ none ]
+use Rattle.rewritable.proofs.Laws.Items.{some_if}
 
 -- The hub's name tells what its id tells.
 module _ {g : Grammar} {ids : List ℕ} {v : View} (w : Agrees g ids v) {hub : ℕ} (low : hub < v.n) where

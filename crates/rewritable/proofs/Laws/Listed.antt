@@ -1,10 +1,10 @@
 -- The elements of a listed alternative, from an index on; and the tests of them.
 use Prim.Native.Nat.{ℕ, ◌+◌, ◌≤◌}
 use mathlib.Core.Path.{◌≡◌, refl, sym, ap, ◌∙◌}
-use mathlib.Core.List.{List, [], ◌∷◌}
+use mathlib.Core.List.{List, ◌∷◌}
 use mathlib.Core.Bool.{Bool, true, false, ◌&&◌, ◌||◌, not, and-true, and_assoc}
 use native.Mathlib.Omega.{arith}
-use lib.ListN.{drop, drop_of_length-le}
+use lib.ListN.{drop}
 use Rattle.grammar.specs.Tree.{Element, Block}
 use Rattle.grammar.specs.Lists.{all, any}
 use Rattle.grammar.specs.Found.{FoundElement}
@@ -12,15 +12,10 @@ use Rattle.reference.specs.Walks.{is_epsilon_only}
 use Rattle.planned.specs.Layout.{made_if, meaning}
 use Rattle.planned.specs.List.{ListedIn, ItemAt}
 use Rattle.planned.specs.Reading.{ItemIs}
-use Rattle.planned.specs.Laws.Parts.{elements_count}
+use Rattle.planned.specs.Laws.Parts.{no_steps_left}
 use Rattle.planned.specs.declared.list.Listed.{Listed}
 use Rattle.rewritable.specs.Items.{is_call_of, gives_arguments, starts_with_call, may_be_rewritten, ItemTested}
 use Rattle.rewritable.specs.Walks.{ItemStands}
-
-pub no_steps_left : (ws : List ℕ) (end d : ℕ) (bs : List ℕ) (x : Listed) (i : ℕ) → x.ne ≤ i → drop i (meaning ws end d bs x).elements ≡ []
-unfolding meaning
-no_steps_left ws end d bs x i l =
-    drop_of_length-le (meaning ws end d bs x).elements {i = i} (let c = elements_count ws end d bs x.e x.ne in omega arith)
 
 module _ (ws : List ℕ) (end d : ℕ) {bs : List ℕ} {x : Listed} {i at : ℕ} {made : Bool} (listed : ListedIn ws end d bs x)
     (item : ItemIs bs x i at made) where

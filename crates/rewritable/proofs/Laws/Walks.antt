@@ -21,9 +21,10 @@ use Rattle.planned.specs.Layout.{made_if, meaning}
 use Rattle.planned.specs.List.{ListedIn}
 use Rattle.planned.specs.Reading.{ItemIs}
 use Rattle.planned.specs.declared.list.Listed.{Listed}
+use Rattle.planned.specs.Laws.Parts.{no_steps_left}
 use Rattle.rewritable.specs.Walks.{ItemStands, past_element, ItemWalked, RestWalked, Agreeing, WalkOf}
 use Rattle.rewritable.proofs.Laws.Meant.{past_adds, past_null}
-use Rattle.rewritable.proofs.Laws.Listed.{no_steps_left, there, next_left, item_stands}
+use Rattle.rewritable.proofs.Laws.Listed.{there, next_left, item_stands}
 
 -- One that was made plain is a call.
 module _ {ws : List ℕ} {end at k p : ℕ} (head : HeadAt ws end at k p) (d : ℕ) {made : Bool} (i : ItemStands ws end d at made)

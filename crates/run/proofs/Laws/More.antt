@@ -19,7 +19,7 @@ use Rattle.grammar.specs.Laws.Lists.{each_append}
 use Rattle.grammar.specs.Laws.Stands.{stands_append, stands_within}
 use Rattle.reference.specs.Substitute as R
 use Rattle.reference.specs.Numbers.{entry_words}
-use Rattle.reference.specs.Apply.{Entry, fresh_each, apply_alternative, apply_plan}
+use Rattle.reference.specs.Apply.{fresh_each, apply_alternative, apply_plan}
 use Rattle.reference.specs.Run.{Stage, sheet_with, refusal_of, entries_of, encode_entry, answer_run}
 use Rattle.laws.specs.Running.Midway.{Midway, SoFar, NextPlan, stage_from, midway_so_far, midway_next}
 use Rattle.laws.specs.Running.Midway.{midway_more, midway_refused, steps_fit}
@@ -35,6 +35,7 @@ use Rattle.apply.specs.Applied.{AppliedAs, AppliedOf, Done}
 use Rattle.apply.specs.Laws.Held.{held_long, held_room, held_standing}
 use Rattle.apply.specs.declared.apply.Applied.{Applied}
 use Rattle.apply.specs.Judged.{number_in}
+use Rattle.apply.proofs.Laws.Done.{entries_long}
 use Rattle.words.specs.Refusal.{refusal_number}
 use Rattle.words.specs.declared.numbers.Refusal.{Refusal}
 use Rattle.words.specs.declared.numbers.Refusal.TheVariants.{BadLength, ShortBuffer, BadTrailer, BadRecord, SharedNumber}
@@ -61,11 +62,6 @@ module _ (ws vs : List ℕ) (end q : ℕ) (e : (j : ℕ) → j < q → get_or vs
 
   stands_kept : {xs : List ℕ} {at : ℕ} → Stands ws end xs at q → Stands vs end xs at q
   stands_kept {xs} {at} s = record { run = run_kept xs at 0 s.run }
-
-words_of_entries : (es : List Entry) → length (each encode_entry es) ≡ entry_words * length es
-unfolding encode_entry
-words_of_entries [] = refl
-words_of_entries (e ∷ es) = let h = words_of_entries es in omega arith
 
 -- No refusal has the number 0.
 successor : (f : Refusal) → (k : ℕ) × (refusal_number f ≡ suc k)
@@ -211,7 +207,7 @@ module _ {limits : R.Limits} {past : Bool} {result trail work : List ℕ} {calls
           let new = each encode_entry stage.after.entries in
           let f = m.told in
           let c = done.entries in
-          let q = words_of_entries stage.after.entries in
+          let q = entries_long stage.after.entries in
           let i : n₀ + length new ≡ n₁ = omega arith in
           let t : Stands (words trail') n₁ new n₀ n₁ =
           subst (λ k. Stands (words trail') n₁ new n₀ k) i (wrote_stands done.told n₁ (omega arith)) in

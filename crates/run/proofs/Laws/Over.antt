@@ -4,11 +4,11 @@ use Rattle.std.specs.Prelude.{None, Ok, Err}
 use mathlib.Core.Path.{◌≡◌, refl, sym, ◌∙◌, subst}
 use mathlib.Core.List.{List}
 use mathlib.Core.Bool.{Bool}
-use native.Mathlib.Omega.{arith}
 use lib.ListN.{length}
 use Rattle.grammar.specs.Tree.{Sheet}
 use Rattle.grammar.specs.Lists.{each}
 use Rattle.grammar.specs.Encode.{encode}
+use Rattle.grammar.specs.Laws.Parse.{never}
 use Rattle.reference.specs.Substitute as R
 use Rattle.reference.specs.Run.{Stage, ended, stopped, no_plan, too_large, find_plan, answer_run, sheet_after}
 use Rattle.reference.specs.Run.{steps_of, entries_of, encode_entry}
@@ -23,9 +23,6 @@ use Rattle.words.specs.declared.numbers.Refusal.{Refusal}
 use Rattle.words.specs.declared.numbers.Refusal.TheVariants.{PlanTooLarge}
 use Rattle.run.specs.Turn.{ended_with, TurnedTo}
 use Rattle.run.proofs.Laws.Known.{midst_ended}
-
-never : {A : Type 0} → ◌≡◌ {A = ℕ} 0 1 → A
-never e = absurd (omega arith)
 
 -- A refusal.
 pub stopped_answer : {result trail : List ℕ} {f : Refusal} {n : ℕ} (s : Sheet) (ss : List Stage) → refusal_number f ≡ n

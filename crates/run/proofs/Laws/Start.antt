@@ -1,5 +1,6 @@
 -- The start of a run, and its loop.
 use Rattle.std.specs.Prelude.{Some, None, Ok, Err}
+use Rattle.std.specs.Cmp.{first_so}
 use Prim.Native.Nat.{ℕ, suc, ◌+◌, ◌-◌, ◌*◌, ◌≤◌, ◌<◌}
 use mathlib.Core.Path.{◌≡◌, refl, sym, subst}
 use mathlib.Core.List.{List, []}
@@ -13,7 +14,6 @@ use Rattle.grammar.specs.Encode.{encode}
 use Rattle.grammar.specs.Valid.{fits}
 use Rattle.grammar.specs.Lists.{total}
 use Rattle.grammar.specs.Words.{words}
-use Rattle.grammar.specs.Laws.Parse.{left_true}
 use Rattle.grammar.specs.Laws.Stands.{stands_none}
 use Rattle.reference.specs.Substitute as R
 use Rattle.reference.specs.Numbers.{entry_words}
@@ -40,7 +40,7 @@ module _ {result : List ℕ} {end to : ℕ} {rules : Rules} {counters : Counters
   unfolding fits
   begun_short =
       let e = held_long x.held in
-      let l = leb-true (length (encode x.sheet)) most_words (left_true (leb (length (encode x.sheet)) most_words) _ x.is_fitting) in
+      let l = leb-true (length (encode x.sheet)) most_words (first_so (leb (length (encode x.sheet)) most_words) _ x.is_fitting) in
       omega arith
 
   pub begun_room : Room result end

@@ -23,12 +23,13 @@ use Rattle.grammar.specs.Reading.{refused, sheet, trailer, unit_kind, first_dist
 use Rattle.grammar.specs.Reading.{preserved_ids, counters_of, rules_of, sheet_of, judge, read_words}
 use Rattle.grammar.specs.Laws.Words.{length_words}
 use Rattle.grammar.specs.Laws.Stands.{stands_length}
-use Rattle.grammar.specs.Laws.Parse.{left_true, right_true, yields_got}
+use Rattle.grammar.specs.Laws.Parse.{yields_got}
 use Rattle.grammar.specs.Laws.Sound.{rules_sound}
 use Rattle.writing.specs.declared.counters.Counters.{Counters}
 use Rattle.writing.specs.Taken as taken
 use Rattle.records.specs.declared.rules.Rules.{Rules}
 use Rattle.std.specs.Prelude.{Option, Some, None, Result, Ok, Err, is_some}
+use Rattle.std.specs.Cmp.{first_so, second_so}
 use Rattle.words.specs.declared.numbers.UnitKind.{UnitKind}
 use Rattle.words.specs.Kinds.{unit_number}
 use Rattle.words.specs.declared.numbers.Refusal.{Refusal}
@@ -218,10 +219,10 @@ module _ (bs : List ℕ) {b : Bool} (e : b ≡ is_trailer (words bs)) where
         × (get_or (words bs) (length bs / 4 - trailer_words + 2) 0 ≤ length bs / 4 - trailer_words)
     unfolding is_trailer
     trailer_good m =
-        let u = right_true (is_kind (unit_kind (words bs))) _ trailer_true in
+        let u = second_so (is_kind (unit_kind (words bs))) _ trailer_true in
         let first = first_distance (words bs) in
-        let f = eqb-true first (trailer (words bs)) (left_true (eqb first (trailer (words bs))) _ u) in
-        let g = leb-true (second_distance (words bs)) first (right_true (eqb first (trailer (words bs))) _ u) in
+        let f = eqb-true first (trailer (words bs)) (first_so (eqb first (trailer (words bs))) _ u) in
+        let g = leb-true (second_distance (words bs)) first (second_so (eqb first (trailer (words bs))) _ u) in
         (omega arith, rw (here bs refl) at (rw f at g))
 
     module _ {t end : ℕ} (k : EndAt bs t end) where

@@ -2,7 +2,7 @@
 use Prim.Native.Nat.{ℕ}
 use mathlib.Core.Path.{◌≡◌, refl, sym, ap, ◌∙◌}
 use mathlib.Core.List.{List}
-use mathlib.Core.Bool.{Bool, true, false, ◌&&◌}
+use mathlib.Core.Bool.{Bool, true, false, ◌&&◌, and_assoc}
 use lib.ListN.{length, take, length-map}
 use lib.Seq.{take-append_seam}
 use Rattle.grammar.specs.Tree as tree
@@ -18,7 +18,6 @@ use Rattle.sheet.specs.Verdict.{verdict}
 use Rattle.ids.specs.Survey.{Surveyed, BodiesDistinct, all_under}
 use Rattle.grammar.specs.Found.{FoundRules}
 use Rattle.records.specs.Rules.{row, FoundRows}
-use Rattle.ids.proofs.Laws.Track.{and_assoc}
 
 all_below : {ws : List ℕ} {end n : ℕ} (c : tree.Counters) {v : Survey} {r : Bool} → Surveyed ws end n v → r ≡ all_under v c
     → (f : FoundRules ws end n 0) → r ≡ is_below c f.trees

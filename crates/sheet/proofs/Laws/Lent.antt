@@ -9,8 +9,8 @@ use borrow.Author.Tests.{le-leb, lt-leb, leb-true}
 use Rattle.grammar.specs.Numbers.{least_bytes, most_bytes, work_bytes}
 use Rattle.grammar.specs.Words.{words}
 use Rattle.grammar.specs.Reading.{read_words, read, is_length}
-use Rattle.grammar.specs.Laws.Parse.{left_true, right_true}
 use Rattle.std.specs.Prelude.{Result, Err}
+use Rattle.std.specs.Cmp.{first_so, second_so}
 use Rattle.words.specs.declared.numbers.Refusal.{Refusal}
 use Rattle.words.specs.declared.numbers.Refusal.TheVariants.{BadLength, ShortBuffer}
 use Rattle.sheet.specs.declared.answer.Reading.{Reading}
@@ -21,8 +21,8 @@ use Rattle.sheet.proofs.Laws.Answer.{read_refused}
 pub lent_all : (bs work : List ℕ) → is_length (length bs) ≡ true → work_bytes ≤ length work → Lent bs work
 lent_all bs work e h =
     record {
-      least = leb-true _ _ (left_true (leb least_bytes (length bs)) _ e);
-      most = leb-true _ _ (left_true (leb (length bs) most_bytes) _ (right_true (leb least_bytes (length bs)) _ e));
+      least = leb-true _ _ (first_so (leb least_bytes (length bs)) _ e);
+      most = leb-true _ _ (first_so (leb (length bs) most_bytes) _ (second_so (leb least_bytes (length bs)) _ e));
       room = h;
     }
 

@@ -1,7 +1,7 @@
 -- Counting what stands in a sheet that was read.
 use Prim.Native.Nat.{ℕ, ◌+◌, ◌*◌, ◌≤◌}
 use mathlib.Core.Path.{◌≡◌, refl, sym, ap, ap₂, subst, ◌∙◌}
-use mathlib.Core.List.{List, ◌∷◌, ◌++◌, append_assoc}
+use mathlib.Core.List.{List, ◌++◌}
 use mathlib.Core.Bool.{Bool, true, false}
 use native.Mathlib.Omega.{arith}
 use lib.ListN.{length, length-append}
@@ -11,7 +11,7 @@ use Rattle.grammar.specs.Stands.{Stands}
 use Rattle.grammar.specs.Numbers.{least_bytes, trailer_words, work_bytes, rule_limit}
 use Rattle.grammar.specs.Tree as tree
 use Rattle.grammar.specs.Words.{words}
-use Rattle.grammar.specs.Encode.{encode, encode_rules, encode_counters}
+use Rattle.grammar.specs.Encode.{encode_rules}
 use Rattle.grammar.specs.Reading as reading
 use Rattle.grammar.specs.Reading.{refused, sheet, is_length, read_words, read}
 use Rattle.grammar.specs.Laws.Words.{length_words}
@@ -23,6 +23,7 @@ use Rattle.std.specs.Prelude.{Ok, Err}
 use Rattle.words.specs.declared.numbers.Refusal.{Refusal}
 use Rattle.words.specs.Refusal.{refusal_number}
 use Rattle.grammar.specs.Found.{FoundRules, RulesSpan}
+use Rattle.grammar.specs.Laws.Trailer.{trailing, encode_split}
 use Rattle.ids.specs.declared.survey.Survey.{Survey}
 use Rattle.ids.specs.Survey.{Surveyed}
 use Rattle.sheet.specs.declared.answer.Reading.{Reading}
@@ -48,19 +49,11 @@ record Good (bs : List ℕ) (s : tree.Sheet) : Type 0 where
   room : 4 * length (encode_rules s.rules) + least_bytes ≤ length bs
 
 -- the words behind the rules: the preserved ids and the trailer
-trailing : tree.Sheet → List ℕ
-trailing s =
-    s.kind ∷ length (encode_rules s.rules ++ s.preserved) ∷ length s.preserved ∷ encode_counters s.counters
-
-behind : tree.Sheet → List ℕ
+abbrev behind : tree.Sheet → List ℕ
 behind s = s.preserved ++ trailing s
 
-encode_split : (s : tree.Sheet) → encode s ≡ encode_rules s.rules ++ behind s
-unfolding encode behind trailing
-encode_split s = append_assoc (encode_rules s.rules) s.preserved _
-
 behind_long : (s : tree.Sheet) → trailer_words ≤ length (behind s)
-unfolding behind trailing
+unfolding trailing
 behind_long s = let l = length-append s.preserved (trailing s) in omega arith
 
 good_words : (bs : List ℕ) (s : tree.Sheet) → least_bytes ≤ length bs → read_words (words bs) ≡ sheet s → Good bs s
@@ -84,15 +77,15 @@ good_words bs s h e =
     }
 
 -- what was lent is long enough where a sheet was read
-record Taken (bs work : List ℕ) (s : tree.Sheet) : Type 0 where
-  long : is_length (length bs) ≡ true
-  enough : leb work_bytes (length work) ≡ true
-  is : read_words (words bs) ≡ sheet s
+pub record Taken (bs work : List ℕ) (s : tree.Sheet) : Type 0 where
+  pub long : is_length (length bs) ≡ true
+  pub enough : leb work_bytes (length work) ≡ true
+  pub is : read_words (words bs) ≡ sheet s
 
 never_sheet : {A : Type 0} {n : ℕ} {s : tree.Sheet} → refused n ≡ sheet s → A
 never_sheet e = absurd (let u : ◌≡◌ {A = ℕ} 0 1 = cc in omega arith)
 
-taken : (bs work : List ℕ) (s : tree.Sheet) → read_lent bs work ≡ sheet s → Taken bs work s
+pub taken : (bs work : List ℕ) (s : tree.Sheet) → read_lent bs work ≡ sheet s → Taken bs work s
 unfolding read_lent read
 taken bs work s e = go (is_length (length bs)) refl (leb work_bytes (length work)) refl
   where

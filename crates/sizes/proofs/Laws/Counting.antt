@@ -7,12 +7,12 @@ use native.Mathlib.Omega.{arith}
 use lib.ListN.{get_or}
 use lib.Dec.{eqb, leb}
 use borrow.Author.Tests.{ne_eqb, leb-true}
+use Rattle.std.specs.Cmp.{first_so, second_so}
 use Rattle.grammar.specs.Numbers.{most_name, one_or_more_nongreedy, action_kind, predicate_kind, kind_end}
 use Rattle.grammar.specs.Tree.{Label, unlabelled, labelled, ElementHead}
 use Rattle.grammar.specs.Encode.{label_name}
 use Rattle.grammar.specs.Valid.{ok_head, ok_label}
 use Rattle.grammar.specs.Found.{HeadAt}
-use Rattle.grammar.specs.Laws.Parse.{left_true, right_true}
 use Rattle.grammar.specs.Laws.Complete.{leaf_kind_lem}
 use Rattle.grammar.specs.Laws.Opened.{HeadWords}
 use Rattle.words.specs.Visit.{LeafPassed, BlockEntered, AlternativeEntered}
@@ -52,7 +52,7 @@ label_is_lem : (n : ℕ) (l : Label) → n ≡ label_name l → ok_label l ≡ t
 unfolding ok_label
 label_is_lem n unlabelled e k = rw e refl
 label_is_lem n (labelled j m) e k =
-    let h = leb-true 1 m (left_true (leb 1 m) (leb m most_name) k) in
+    let h = leb-true 1 m (first_so (leb 1 m) (leb m most_name) k) in
     rw (e, ne_eqb m 0 (λ z. omega arith)) refl
 
 own_is : {ws : List ℕ} {end at k kind p : ℕ} {h : ElementHead} (t : Tally) → HeadWords ws end at h kind p → kind < kind_end
@@ -62,7 +62,7 @@ unfolding ok_head
 own_is {ws} {at = at} {k} {kind} {h = h} t w low e =
     let same : k ≡ kind = let y = w.packed in omega arith in
     let label = label_is_lem (get_or ws (at + 4) 0) h.label w.named
-    (left_true (ok_label h.label) _ (right_true (leb h.quantifier one_or_more_nongreedy) _ w.fine)) in
+    (first_so (ok_label h.label) _ (second_so (leb h.quantifier one_or_more_nongreedy) _ w.fine)) in
     rw (same, label) refl
 
 -- So are they by the steps of the walk.

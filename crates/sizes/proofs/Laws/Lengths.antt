@@ -6,7 +6,7 @@ use mathlib.Core.Bool.{Bool, true, false}
 use native.Mathlib.Omega.{arith}
 use lib.ListN.{length, length-append}
 use Rattle.grammar.specs.Numbers.{alternative_sort, block_kind}
-use Rattle.grammar.specs.Tree.{ElementHead, Leaf, epsilon, action, predicate, call, token, terminal, end_of_input, Element, leaf, block}
+use Rattle.grammar.specs.Tree.{ElementHead, Element, leaf, block}
 use Rattle.grammar.specs.Tree.{AlternativeOf, Block, Counters}
 use Rattle.grammar.specs.Encode.{encode_option, encode_head, leaf_kind, encode_leaf, encode_element, encode_alternative, encode_block}
 use Rattle.grammar.specs.Lists.{each}
@@ -16,6 +16,7 @@ use Rattle.reference.specs.Substitute.{plain}
 use Rattle.reference.specs.Apply.{Fresh, fresh_each, past, renumber_head, renumber_leaf, renumber_element, renumber_elements}
 use Rattle.reference.specs.Apply.{renumber_alternative, renumber_block}
 use Rattle.planned.specs.Layout.{made_if}
+use Rattle.planned.specs.Laws.Leaves.{leaf_length}
 use Rattle.sizes.specs.Tally.{counting}
 use Rattle.sizes.specs.declared.tally.Tally.{Tally}
 
@@ -40,16 +41,6 @@ words_of enc a =
     let x = length-append (each encode_option a.options) (each (encode_element enc) a.elements) in
     let y = options_length a.options in
     omega arith
-
-leaf_length : (l : Leaf) (c : Counters) → length (encode_leaf (renumber_leaf l c).node) ≡ length (encode_leaf l)
-unfolding encode_leaf renumber_leaf
-leaf_length epsilon c = refl
-leaf_length (action a) c = refl
-leaf_length (predicate p) c = refl
-leaf_length (call k) c = refl
-leaf_length (token n) c = refl
-leaf_length terminal c = refl
-leaf_length end_of_input c = refl
 
 head_length : (h : ElementHead) (c : Counters) (k m : ℕ) → length (encode_head (renumber_head h c).node k) ≡ length (encode_head h m)
 unfolding encode_head renumber_head

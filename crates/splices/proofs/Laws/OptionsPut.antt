@@ -6,6 +6,7 @@ use mathlib.Core.List.{List, [], ◌∷◌, ◌++◌}
 use mathlib.Core.Option.{none, some}
 use native.Mathlib.Omega.{arith}
 use lib.ListN.{length, get_or}
+use Rattle.std.proofs.lemmas.Bool.{cases_lt}
 use Rattle.grammar.specs.Tree.{OptionDecl}
 use Rattle.grammar.specs.Found.{FoundAlternative}
 use Rattle.reference.specs.Substitute.{union_options}
@@ -13,7 +14,6 @@ use Rattle.planned.specs.Layout.{half, option_of, options_from}
 use Rattle.planned.specs.Halves.{HalvesMoved, Apart}
 use Rattle.splices.specs.Options.{meets, standing_options, OptionsIn, NewPut, NonePut, PutIfNew, UnionFits, OptionsFit, OptionsPut}
 use Rattle.splices.specs.Places.{OptionCount}
-use Rattle.planned.specs.Laws.Order.{order}
 use Rattle.planned.specs.Laws.Parts.{Copied, options_copied, options_count}
 use Rattle.planned.specs.declared.list.Listed.{Listed}
 use Rattle.splices.specs.declared.options.Meets.{Meets}
@@ -146,7 +146,7 @@ module _ {ws : List ℕ} {end d at : ℕ} {before : List ℕ} {h : Listed} {to n
             low = λ i l.
                 ⊎_elim (λ m. rw (q.other (to + i) (λ z. omega arith)) (g.low i m))
                 (λ m. let y : to + i ≡ t = omega arith in rw (y, q.here) (omega arith))
-                (order i (t - to));
+                (cases_lt i (t - to));
             front = λ i l. q.other i (λ z. omega arith) ∙ g.front i l;
             behind = λ i l. q.other i (λ z. omega arith) ∙ g.behind i (omega arith);
             long = q.long ∙ g.long;

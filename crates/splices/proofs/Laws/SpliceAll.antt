@@ -5,6 +5,7 @@ use mathlib.Core.Logic.{⊎_elim, ⊎_map, inl}
 use mathlib.Core.List.{List, [], ◌∷◌}
 use native.Mathlib.Omega.{arith}
 use lib.ListN.{length}
+use Rattle.std.proofs.lemmas.Bool.{cases_lt}
 use Rattle.grammar.specs.Tree.{Block, AlternativeOf}
 use Rattle.grammar.specs.Lists.{total}
 use Rattle.grammar.specs.Found.{FoundAlternative}
@@ -12,7 +13,6 @@ use Rattle.grammar.specs.Laws.Opened.{first_spans}
 use Rattle.reference.specs.Substitute.{Planned, decided, decide_each, splice_alternative}
 use Rattle.planned.specs.Layout.{half, head_at, options_at, record_at, meaning, records_from}
 use Rattle.splices.specs.Splice.{AlternativesSpan, HandIn, OneFits, OnePut, AllFit, AllPut}
-use Rattle.planned.specs.Laws.Order.{order}
 use Rattle.planned.specs.Laws.Parts.{Copied, meaning_copied, listed_copied}
 use Rattle.planned.specs.Laws.Kept.{Outside, StandsIn, record_stands}
 use Rattle.planned.specs.declared.list.Listed.{Listed}
@@ -151,9 +151,9 @@ module _ {ws : List ℕ} {end d : ℕ} {h : Listed} {index : ℕ} {cur mid last 
       let s = first_stands in
       let t = g.stands in
       record {
-        heads = λ i l m. ⊎_elim (λ c. s.heads i l (omega arith)) (λ c. t.heads i c (omega arith)) (order i (suc a));
-        elements = λ i l m. ⊎_elim (λ c. s.elements i l c) (λ c. t.elements i c m) (order i x');
-        options = λ i l m. ⊎_elim (λ c. s.options i l c) (λ c. t.options i c m) (order i y');
+        heads = λ i l m. ⊎_elim (λ c. s.heads i l (omega arith)) (λ c. t.heads i c (omega arith)) (cases_lt i (suc a));
+        elements = λ i l m. ⊎_elim (λ c. s.elements i l c) (λ c. t.elements i c m) (cases_lt i x');
+        options = λ i l m. ⊎_elim (λ c. s.options i l c) (λ c. t.options i c m) (cases_lt i y');
       }
 
   all_more : AllPut ws end d h index (suc n) at cur last a x y z w

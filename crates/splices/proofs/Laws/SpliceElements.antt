@@ -6,13 +6,13 @@ use mathlib.Core.List.{List, ◌++◌}
 use native.Mathlib.Omega.{arith}
 use native.Mathlib.Numerals.{add-one}
 use lib.ListN.{length, take, drop}
+use Rattle.std.proofs.lemmas.Bool.{cases_lt}
 use Rattle.grammar.specs.Tree.{Element, Block}
 use Rattle.planned.specs.Layout.{half, elements_from}
 use Rattle.planned.specs.Halves.{HalvesMoved}
 use Rattle.planned.specs.List.{ElementIn}
 use Rattle.splices.specs.Places.{ElementsSpan, PlacesPut}
 use Rattle.splices.specs.Splice.{spliced, ElementsPut}
-use Rattle.planned.specs.Laws.Order.{order}
 use Rattle.planned.specs.Laws.Parts.{Copied, elements_copied, elements_append, elements_take, elements_drop}
 use Rattle.planned.specs.declared.list.Listed.{Listed}
 
@@ -61,8 +61,8 @@ module _ {ws : List ℕ} {end d : ℕ} (h : Listed) {index n at to r : ℕ} {b�
       let x : to + i ≡ to + index + n + (i - index - n) = omega arith in
       let y : h.e + (index + 1) + (i - index - n) ≡ h.e + (i + 1 - n) = omega arith in
       rw (x, back_copied.each (i - index - n) (omega arith), y) (f (i + 1 - n) (omega arith)))
-      (order i (index + n)))
-      (order i index)
+      (cases_lt i (index + n)))
+      (cases_lt i index)
 
   pub elements_put : ElementsPut ws end d h index n at b₀ b₃ to r
   elements_put =

@@ -17,7 +17,7 @@ use Rattle.grammar.specs.Valid.{ok_leaf, ok_head, ok_label}
 use Rattle.grammar.specs.Lists.{member, is_empty}
 use Rattle.grammar.specs.Found.{FoundElement, HeadAt}
 use Rattle.grammar.specs.Laws.Stands.{stands_head}
-use Rattle.grammar.specs.Laws.Parse.{either, left_true, right_true}
+use Rattle.grammar.specs.Laws.Parse.{either}
 use Rattle.grammar.specs.Laws.Complete.{leaf_kind_lem}
 use Rattle.grammar.specs.Laws.Opened.{HeadWords, Opened, opened_leaf, opened_block, opened}
 use Rattle.reference.specs.Analysis.{Grammar, target}
@@ -28,6 +28,7 @@ use Rattle.reach.specs.Rows.{bit}
 use Rattle.analysis.specs.Names.{IsTarget}
 use Rattle.std.specs.Prelude as P
 use Rattle.std.specs.Prelude.{is_ok, Result, Ok}
+use Rattle.std.specs.Cmp.{first_so, second_so}
 use Rattle.words.specs.Kinds.{Names, quantifier_number}
 use Rattle.words.specs.Laws.Kinds.{quantifier_named}
 use Rattle.words.specs.declared.numbers.Quantifier.{Quantifier}
@@ -148,11 +149,11 @@ module _ (d : ℕ) {ws : List ℕ} {end at : ℕ} (f : FoundElement ws end d at)
       go (opened_leaf {h = h} {l = l} p o s) =
           let x = (leaf_kind_lem l).under in
           let y = o.packed in
-          let z = leb-true h.quantifier one_or_more_nongreedy (left_true (leb h.quantifier one_or_more_nongreedy) _ o.fine) in
+          let z = leb-true h.quantifier one_or_more_nongreedy (first_so (leb h.quantifier one_or_more_nongreedy) _ o.fine) in
           omega arith
       go (opened_block {h = h} p o s) =
           let y = o.packed in
-          let z = leb-true h.quantifier one_or_more_nongreedy (left_true (leb h.quantifier one_or_more_nongreedy) _ o.fine) in
+          let z = leb-true h.quantifier one_or_more_nongreedy (first_so (leb h.quantifier one_or_more_nongreedy) _ o.fine) in
           omega arith
 
   pub quantifier_known : is_ok r ≡ true
@@ -163,14 +164,14 @@ module _ {ws : List ℕ} {end at p q kind : ℕ} {h : ElementHead} (w : HeadWord
     (u : Spans ws end encode_leaf ok_leaf p (call k) q) where
   bare_is : bare_reference h k ≡ bare_at ws at p
   unfolding bare_reference encode_leaf ok_head ok_label
-  bare_is = rw (w.named, u.stands.run.1.0, w.counted) (go h.label h.options (left_true (ok_label h.label) _ (right_true (leb h.quantifier 6) _ w.fine)))
+  bare_is = rw (w.named, u.stands.run.1.0, w.counted) (go h.label h.options (first_so (ok_label h.label) _ (second_so (leb h.quantifier 6) _ w.fine)))
     where
       go : (l : Label) (os : List OptionDecl) → ok_label l ≡ true
           → elim l as (λ z. Bool) [ unlabelled ↦ eqb k.arguments 0 && is_empty os | labelled i n ↦ false ]
           ≡ (eqb (label_name l) 0 && (eqb k.arguments 0 && eqb (length os) 0))
       go unlabelled [] o = refl
       go unlabelled (x ∷ os) o = rw (eqb-suc-zero (length os)) refl
-      go (labelled i n) os o = rw (ne_eqb n 0 (λ z. let y = leb-true 1 n (left_true (leb 1 n) _ o) in omega arith)) refl
+      go (labelled i n) os o = rw (ne_eqb n 0 (λ z. let y = leb-true 1 n (first_so (leb 1 n) _ o) in omega arith)) refl
 
 -- One element of the list.
 module _ {names : List ℕ} {c : Cycle} {ws : List ℕ} {end at k p : ℕ} (d : ℕ) (made : Bool) (head : HeadAt ws end at k p) where

@@ -2,7 +2,7 @@
 use Prim.Native.Nat.{ℕ, zero, suc, ◌+◌, ◌-◌, ◌*◌, ◌<◌}
 use mathlib.Core.Path.{◌≡◌, refl, sym, ap, ◌∙◌}
 use mathlib.Core.List.{List, [], ◌∷◌}
-use mathlib.Core.Bool.{Bool, true, false}
+use mathlib.Core.Bool.{Bool, true, false, true≢false, false≢true}
 use native.Mathlib.Omega.{arith}
 use lib.ListN.{length}
 use Rattle.grammar.specs.Tree.{Element, Block, RuleOf}
@@ -22,14 +22,12 @@ use Rattle.collisions.proofs.Laws.Silent.{quiet_silent}
 use Rattle.steps.specs.Decide.{DeclinedBy, SmallSize, HandFits, RuleSized}
 use Rattle.steps.specs.Step.{splits, RuleNamed, RuleUnreferring, step_by, GoesTo, DecisionOf, PreparedFor, DecidedAt}
 use Rattle.std.specs.Prelude.{Result, Ok, Err}
+use Rattle.std.proofs.lemmas.Bool.{both_ways}
 use Rattle.steps.specs.declared.decide.Clause.{Clause}
 use Rattle.steps.specs.declared.decide.Clause.TheVariants.{DanglingReference}
 use Rattle.steps.specs.declared.step.Prepared.{Prepared}
 use Rattle.steps.specs.declared.step.Step.{Step}
 use Rattle.steps.specs.declared.step.Step.TheVariants.{Split, Splice}
-
-false_true : {b : Bool} → b ≡ true → b ≡ false → ⊥
-false_true e f = let z : ◌≡◌ {A = ℕ} 0 1 = let g : true ≡ false = sym e ∙ f in cc in omega arith
 
 module _ {ws : List ℕ} {end : ℕ} (d : ℕ) {es : List (Element (Block d))} {index name : ℕ} where
   pub prepared_quiet : {b : Bool} (bs : List ℕ) → b ≡ is_quiet d es → b ≡ true
@@ -38,9 +36,9 @@ module _ {ws : List ℕ} {end : ℕ} (d : ℕ) {es : List (Element (Block d))} {
       let s = quiet_silent d es index (sym e ∙ f) in
       record {
         list = same_refl bs;
-        searchable = record { ordered = λ z. absurd (false_true refl z) };
+        searchable = record { ordered = λ z. absurd (true≢false z) };
         dangling = sym (s.no_dangling name);
-        around = record { silent = λ z. s; marked = λ z. absurd (false_true refl z) };
+        around = record { silent = λ z. s; marked = λ z. absurd (true≢false z) };
       }
 
   pub prepared_marked : {before after : List ℕ} {r : Bool} → MarkedAround ws end d es index name before after r
@@ -50,7 +48,7 @@ module _ {ws : List ℕ} {end : ℕ} (d : ℕ) {es : List (Element (Block d))} {
         list = m.list;
         searchable = record { ordered = λ z. m.ordered };
         dangling = m.refers;
-        around = record { silent = λ z. absurd (false_true z refl); marked = λ z. m.marked };
+        around = record { silent = λ z. absurd (false≢true z); marked = λ z. m.marked };
       }
 
 pub ruleset preparing = (prepared_quiet, prepared_marked)
@@ -137,7 +135,7 @@ module _ {ws : List ℕ} {end d at : ℕ} {before after : List ℕ} {h : Listed}
           list = p.list;
           is = λ t q s. rw o (go k v t q s (dangles t q s ∙ e));
           small = v.small;
-          split = λ x. absurd (false_true x o);
+          split = λ x. absurd (both_ways _ o x);
         }
       where
         u : RuleUnreferring ws end d at

@@ -7,6 +7,7 @@ use native.Mathlib.Omega.{arith}
 use lib.ListN.{length, get_or, length-map}
 use lib.Dec.{leb}
 use borrow.Author.Tests.{leb-true}
+use Rattle.std.specs.Cmp.{first_so, second_so}
 use Rattle.grammar.specs.Numbers.{work_bytes}
 use Rattle.grammar.specs.Tree.{inner_depth}
 use Rattle.grammar.specs.Stands.{Spans}
@@ -14,7 +15,6 @@ use Rattle.grammar.specs.Encode.{encode_alternative, encode_block}
 use Rattle.grammar.specs.Valid.{ok_alternative, ok_block}
 use Rattle.grammar.specs.Lists.{each, all}
 use Rattle.grammar.specs.Found.{FoundRule}
-use Rattle.grammar.specs.Laws.Parse.{left_true, right_true}
 use Rattle.grammar.specs.Laws.Opened.{rule_words_lem}
 use Rattle.reference.specs.Plan.{as_it_is, as_they_are}
 use Rattle.analysis.specs.Facts.{Among}
@@ -58,10 +58,10 @@ module _ {ws : List ℕ} {end : ℕ} {names places : List ℕ} {c : Cycle} (b : 
           let f = hub_stands in
           let w = rule_words_lem inner_depth f.spans in
           let t = sym within ∙ yes in
-          let x = leb-true z.a limits.alternatives (left_true (leb z.a limits.alternatives) _ t) in
-          let u = right_true (leb z.a limits.alternatives) _ t in
-          let y = leb-true z.e limits.elements (left_true (leb z.e limits.elements) _ u) in
-          let v = leb-true z.o limits.options (right_true (leb z.e limits.elements) _ u) in
+          let x = leb-true z.a limits.alternatives (first_so (leb z.a limits.alternatives) _ t) in
+          let u = second_so (leb z.a limits.alternatives) _ t in
+          let y = leb-true z.e limits.elements (first_so (leb z.e limits.elements) _ u) in
+          let v = leb-true z.o limits.options (second_so (leb z.e limits.elements) _ u) in
           let fa = limits.fit.few_alternatives in
           let fe = limits.fit.few_elements in
           let fo = limits.fit.few_options in

@@ -7,46 +7,17 @@ use mathlib.Core.Option.{Option, none, some}
 use mathlib.Core.Bool.{Bool, true, false, not, and-false}
 use native.Mathlib.Omega.{arith}
 use lib.ListN.{length, length-append, take, drop}
-use lib.Dec.{eqb, leb}
+use lib.Dec.{leb}
 use borrow.Author.Tests.{lt-leb}
 use Rattle.grammar.specs.Tree.{OptionDecl, Block, AlternativeOf, RuleOf}
-use Rattle.grammar.specs.Lists.{first, total}
+use Rattle.grammar.specs.Lists.{total}
 use Rattle.reference.specs.Substitute.{Decided, decided, declined, overfull, ◌and_then◌, require, found, decide_each, Planned, in_slot_of}
-use Rattle.reference.specs.Substitute.{add_option, union_options, splice_alternative, splice_satellite, split_optional, labels_collide}
+use Rattle.reference.specs.Substitute.{union_options, splice_alternative, splice_satellite, split_optional, labels_collide}
 use Rattle.reference.specs.Substitute.{implicit_bindings_collide, remaining_actions_reference, without, label_collision, binding_collision, option_collision}
 use Rattle.reference.specs.Substitute.{dangling_reference, Limits, is_within}
 use Rattle.planned.specs.Laws.Counts.{options_all, options_all_lem}
 use Rattle.steps.specs.Step.{step_by}
-
--- A union has at least the first's options.
-add_grows : (os : List OptionDecl) (o : OptionDecl) {w : List OptionDecl} → add_option os o ≡ some w → length os ≤ length w
-unfolding add_option
-add_grows os o {w} = go (first (λ p. eqb p.name o.name) os)
-  where
-    same : (b : Bool) → (elim b as (λ z. Option (List OptionDecl)) [ true ↦ some os | false ↦ none ]) ≡ some w → length os ≤ length w
-    same true e = let f : os ≡ w = cc in let l = ap length f in omega arith
-    same false e = absurd (let z : ◌≡◌ {A = ℕ} 0 1 = cc in omega arith)
-
-    go : (x : Option OptionDecl)
-        → (elim x as (λ z. Option (List OptionDecl)) [
-          | none ↦ some (os ++ (o ∷ []))
-          | some p ↦ elim (eqb p.value o.value) as (λ z. Option (List OptionDecl)) [ true ↦ some os | false ↦ none ]
-        ])
-        ≡ some w
-        → length os ≤ length w
-    go none e = let f : os ++ (o ∷ []) ≡ w = cc in let l = ap length f in let m = length-append os (o ∷ []) in omega arith
-    go (some p) e = same (eqb p.value o.value) e
-
-union_grows : (os more : List OptionDecl) {all : List OptionDecl} → union_options os more ≡ some all → length os ≤ length all
-unfolding union_options
-union_grows os [] {all} e = let f : os ≡ all = cc in let l = ap length f in omega arith
-union_grows os (o ∷ more) {all} e = go (add_option os o) refl e (λ w f. union_grows w more f)
-  where
-    go : (x : Option (List OptionDecl)) → add_option os o ≡ x
-        → (elim x as (λ z. Option (List OptionDecl)) [ none ↦ none | some wider ↦ union_options wider more ]) ≡ some all
-        → ((w : List OptionDecl) → union_options w more ≡ some all → length w ≤ length all) → length os ≤ length all
-    go none f e h = absurd (let z : ◌≡◌ {A = ℕ} 0 1 = cc in omega arith)
-    go (some w) f e h = let l = add_grows os o f in let m = h w e in omega arith
+use Rattle.splices.proofs.Laws.OptionsUnion.{union_longer}
 
 module _ (d : ℕ) (p : Planned d) (i : ℕ) where
   splice_grows : (a : AlternativeOf (Block d)) {q : Planned d} → splice_alternative d p i a ≡ decided q → length p.options ≤ length q.options
@@ -65,7 +36,7 @@ module _ (d : ℕ) (p : Planned d) (i : ℕ) where
       go true true (some os) f e =
           let g : in_slot_of p os a.id (take i p.elements ++ (a.elements ++ drop (suc i) p.elements)) ≡ q = cc in
           let l = ap (λ r. length r.options) g in
-          let m = union_grows p.options a.options f in
+          let m = union_longer p.options a.options f in
           omega arith
       go true true none f e = absurd (let z : ◌≡◌ {A = ℕ} 0 1 = cc in omega arith)
       go true false o f e = absurd (let z : ◌≡◌ {A = ℕ} 0 1 = cc in omega arith)

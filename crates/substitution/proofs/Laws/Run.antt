@@ -1,11 +1,9 @@
 -- The substitution from its first turn to its last.
 use Prim.Native.Nat.{ℕ, ◌<◌}
 use mathlib.Core.Path.{◌≡◌, refl, ap₂, ◌∙◌}
-use mathlib.Core.List.{List, [], ◌∷◌, ◌++◌}
+use mathlib.Core.List.{List, [], ◌++◌}
 use mathlib.Core.Bool.{Bool, true, false}
-use native.Mathlib.Omega.{arith}
-use lib.ListN.{length}
-use Rattle.grammar.specs.Tree.{Alternative, inner_depth}
+use Rattle.grammar.specs.Tree.{inner_depth}
 use Rattle.reference.specs.Plan.{as_they_are}
 use Rattle.planned.specs.Layout.{stack}
 use Rattle.turns.specs.Midway.{Shut, shut, opened, Ready, HasNext, NextIs}
@@ -15,6 +13,7 @@ use Rattle.steps.specs.declared.corner.Cycle.{Cycle}
 use Rattle.turns.specs.declared.limits.Limits.{Limits}
 use Rattle.turns.specs.declared.state.State.{State}
 use Rattle.std.specs.Prelude.{Some, Result, Ok, Err}
+use Rattle.std.proofs.lemmas.List.{nil_from_length}
 use Rattle.turns.specs.declared.turn.Unplanned.{Unplanned}
 use Rattle.turns.proofs.Laws.Turns.{substituted}
 use Rattle.turns.proofs.Laws.Midway.{retold}
@@ -36,11 +35,7 @@ module _ {ws : List ℕ} {end : ℕ} {names places : List ℕ} {c : Cycle} {limi
         }
       where
         rest : (y : Ready ws end bs st 0 0 0) → y.remaining.trees ≡ []
-        rest y = go y.remaining.trees (y.remaining.count ∙ n.left e)
-          where
-            go : (ts : List Alternative) → length ts ≡ 0 → ts ≡ []
-            go [] f = refl
-            go (t ∷ ts) f = absurd (omega arith)
+        rest y = nil_from_length y.remaining.trees (y.remaining.count ∙ n.left e)
 
     module _ {after : List ℕ} {v : Result State Unplanned} (t : TurnedTo ws end names places c limits bs after st v) where
       pub run_ready : {next : State} → v ≡ Ok next → Shut (Ready ws end after next 0 0 0)

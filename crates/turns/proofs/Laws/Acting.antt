@@ -1,8 +1,8 @@
 -- What is done about the alternative that was taken: by its corner.
-use Prim.Native.Nat.{ℕ, suc, ◌+◌, ◌≤◌, ◌<◌}
+use Prim.Native.Nat.{ℕ, ◌≤◌, ◌<◌}
 use mathlib.Core.Path.{◌≡◌, refl, sym, ap, ◌∙◌}
 use mathlib.Core.Logic.{inl, inr}
-use mathlib.Core.List.{List, [], ◌∷◌}
+use mathlib.Core.List.{List}
 use mathlib.Core.Bool.{Bool, true, false}
 use native.Mathlib.Omega.{arith}
 use lib.ListN.{length, get_or}
@@ -10,13 +10,13 @@ use lib.Dec.{eqb}
 use borrow.Author.Tests.{eqb-true, eqb-false}
 use Rattle.grammar.specs.Laws.Parse.{either}
 use Rattle.grammar.specs.Numbers.{rule_limit}
-use Rattle.grammar.specs.Tree.{Rule, inner_depth, body_depth}
-use Rattle.grammar.specs.Encode.{encode_rule, encode_block}
+use Rattle.grammar.specs.Tree.{inner_depth}
 use Rattle.analysis.specs.Names.{Told}
 use Rattle.analysis.specs.Facts.{Among}
 use Rattle.hub.specs.Grounds.{rules_of}
 use Rattle.records.specs.Rules.{places_from}
 use Rattle.records.proofs.Laws.Rules.{row_long}
+use Rattle.records.specs.Laws.Places.{places_length}
 use Rattle.planned.specs.Layout.{meaning}
 use Rattle.planned.specs.List.{HasRoom}
 use Rattle.planned.specs.declared.list.Listed.{Listed}
@@ -55,11 +55,6 @@ module _ {ws : List ℕ} {end : ℕ} {bs : List ℕ} {st : State} {x : Listed} (
       let fe = r.few_elements in
       let fo = r.few_options in
       record { alternatives = omega arith; elements = omega arith; options = omega arith }
-
-places_length : (at : ℕ) (rs : List Rule) → length (places_from at rs) ≡ length rs
-unfolding places_from
-places_length at [] = refl
-places_length at (r ∷ rs) = ap suc (places_length (at + length (encode_rule (encode_block body_depth) r)) rs)
 
 module _ {ws : List ℕ} {end : ℕ} {names places : List ℕ} {c : Cycle} (b : Shut (Ground ws end names places c)) where
   pub ground_told : Told names c.n

@@ -16,7 +16,6 @@ use Rattle.grammar.specs.Lists.{each, all}
 use Rattle.grammar.specs.Found.{RuleSpans, FoundRule}
 use Rattle.grammar.specs.Parse.{got}
 use Rattle.grammar.specs.Read.{block_at}
-use Rattle.grammar.specs.Laws.Parse.{left_true, right_true}
 use Rattle.grammar.specs.Laws.Opened.{first_spans}
 use Rattle.grammar.specs.Laws.Complete.{alternative_complete, block_complete}
 use Rattle.reference.specs.Substitute.{Planned, decided, is_within}
@@ -38,6 +37,7 @@ use Rattle.turns.specs.Turn.{SteppedTo}
 use Rattle.turns.specs.declared.limits.Limits.{Limits}
 use Rattle.turns.specs.declared.state.State.{State}
 use Rattle.std.specs.Prelude.{Ok, Err}
+use Rattle.std.specs.Cmp.{first_so, second_so}
 use Rattle.turns.specs.declared.turn.Unplanned.TheVariants.{Overfull}
 use Rattle.turns.proofs.Laws.Turns.{substitute_over, substitute_more}
 use Rattle.turns.proofs.Laws.Midway.{retold, with_laid}
@@ -135,10 +135,10 @@ module _ {ws : List ℕ} {end : ℕ} {bs : List ℕ} (limits : Limits) (st : Sta
   room_for : {b : Bool} → b ≡ within_limits limits r → b ≡ true → HasRoom st.l z.a z.e z.o
   room_for e f =
       let t = sym e ∙ f in
-      let x = leb-true r.a limits.alternatives (left_true (leb r.a limits.alternatives) _ t) in
-      let u = right_true (leb r.a limits.alternatives) _ t in
-      let y = leb-true r.e limits.elements (left_true (leb r.e limits.elements) _ u) in
-      let v = leb-true r.o limits.options (right_true (leb r.e limits.elements) _ u) in
+      let x = leb-true r.a limits.alternatives (first_so (leb r.a limits.alternatives) _ t) in
+      let u = second_so (leb r.a limits.alternatives) _ t in
+      let y = leb-true r.e limits.elements (first_so (leb r.e limits.elements) _ u) in
+      let v = leb-true r.o limits.options (second_so (leb r.e limits.elements) _ u) in
       let aa = a.alternatives in
       let ae = a.elements in
       let ao = a.options in
@@ -191,10 +191,10 @@ module _ {ws : List ℕ} {end : ℕ} {before : List ℕ} (limits : Limits) (st :
     ready_next =
         let r = w.ready in
         let t = sym e ∙ f in
-        let x = leb-true more.a limits.alternatives (left_true (leb more.a limits.alternatives) _ t) in
-        let u = right_true (leb more.a limits.alternatives) _ t in
-        let y = leb-true more.e limits.elements (left_true (leb more.e limits.elements) _ u) in
-        let v = leb-true more.o limits.options (right_true (leb more.e limits.elements) _ u) in
+        let x = leb-true more.a limits.alternatives (first_so (leb more.a limits.alternatives) _ t) in
+        let u = second_so (leb more.a limits.alternatives) _ t in
+        let y = leb-true more.e limits.elements (first_so (leb more.e limits.elements) _ u) in
+        let v = leb-true more.o limits.options (second_so (leb more.e limits.elements) _ u) in
         let ga = p.grown.alternatives in
         let ge = p.grown.elements in
         let go = p.grown.options in

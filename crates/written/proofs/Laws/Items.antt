@@ -1,10 +1,10 @@
 -- The elements of a listed alternative drawn one after the other, behind the list in which they stand.
 use Prim.Native.Nat.{ℕ, ◌+◌, ◌≤◌}
 use mathlib.Core.Path.{◌≡◌, refl, sym, ap, ◌∙◌, subst}
-use mathlib.Core.List.{List, [], ◌∷◌}
+use mathlib.Core.List.{List, ◌∷◌}
 use mathlib.Core.Bool.{Bool, true, false}
 use native.Mathlib.Omega.{arith}
-use lib.ListN.{length, drop, drop_of_length-le}
+use lib.ListN.{length, drop}
 use Rattle.grammar.specs.Tree.{Element, Block}
 use Rattle.grammar.specs.Encode.{encode_element, encode_block}
 use Rattle.grammar.specs.Lists.{each}
@@ -12,7 +12,7 @@ use Rattle.reference.specs.Apply.{fresh_each, renumber_block}
 use Rattle.planned.specs.Layout.{made_if, meaning}
 use Rattle.planned.specs.List.{Located, ItemAt}
 use Rattle.planned.specs.Reading.{ItemIs}
-use Rattle.planned.specs.Laws.Parts.{elements_count}
+use Rattle.planned.specs.Laws.Parts.{no_steps_left}
 use Rattle.planned.specs.Laws.Items.{standing_is}
 use Rattle.planned.specs.declared.list.Listed.{Listed}
 use Rattle.writing.specs.Taken.{counters_of}
@@ -56,11 +56,6 @@ pub ruleset one = (item_copies, item_copied, item_stands, item_room, item_same)
 grows_drawn : (d : ℕ) (fresh : Bool) → Grows (drawn_element d fresh)
 grows_drawn d true = grows_element (renumber_block d) (grows_block d)
 grows_drawn d false = record { grows = λ e c. grown_same c }
-
-no_steps_left : (ws : List ℕ) (end d : ℕ) (bs : List ℕ) (x : Listed) (i : ℕ) → x.ne ≤ i → drop i (meaning ws end d bs x).elements ≡ []
-unfolding meaning
-no_steps_left ws end d bs x i l =
-    drop_of_length-le (meaning ws end d bs x).elements {i = i} (let c = elements_count ws end d bs x.e x.ne in omega arith)
 
 -- All elements: with those left all would be drawn.
 module _ (ws : List ℕ) (end d : ℕ) (x : Listed) (fresh : Bool) (b₀ t₀ : List ℕ) (p₀ : Pen) where

@@ -2,10 +2,11 @@
 use Rattle.std.specs.Prelude.{ℕ, refl}
 use Rattle.std.proofs.Math.Path.{◌≡◌, sym, ap, subst_refl, path_j}
 use Rattle.std.proofs.Common.{ap₂, ◌∙◌, subst, arith}
-use mathlib.Core.List.{List, [], ◌∷◌, ◌++◌, append_assoc, append-nil}
+use mathlib.Core.List.{List, [], ◌++◌, append_assoc, append-nil}
 use Rattle.std.proofs.Math.Option.{some-injective, none-ne-some}
 use mathlib.Core.HLevel.{Σ_prop_path}
 use Rattle.grammar.specs.Tree.{Block, RuleOf}
+use Rattle.grammar.specs.Laws.Lists.{rest_of}
 use Rattle.language.specs.Shape.{Word, Shape, Shapes, erase_rules}
 use Rattle.language.specs.Derive.{Der, RuleDerives}
 use Rattle.language.specs.Readings.{Tree, t_eps, t_symbol, t_call, t_unknown, t_seq, t_left, t_right, t_absent, t_present, t_none}
@@ -14,9 +15,6 @@ use Rattle.language.specs.Readings.{tree_of}
 use Rattle.language.specs.Laws.Trees.Carry.{call_path, call_moved, unknown_path}
 use Rattle.language.specs.Laws.Trees.Derivations.{Word-set, derivations}
 use Rattle.language.specs.Laws.Trees.Rules.{rule_path}
-
-behind : {a b : Choice} {r q : List Choice} → a ∷ r ≡ b ∷ q → r ≡ q
-behind e = cc
 
 two : (u v r : List Choice) {w : List Choice} → (u ++ v) ++ r ≡ w → u ++ (v ++ r) ≡ w
 two u v r e = sym (append_assoc u v r) ∙ e
@@ -41,20 +39,20 @@ module _ {G : Shapes} where
       let a = told x x' (choices y ++ r) (choices y' ++ q) (two (choices x) (choices y) r h ∙ append_assoc (choices x') (choices y') q) in
       let b = told y y' r q a.1 in
       (ap₂ t_seq a.0 b.0, b.1)
-  told (t_left x) (t_left y) r q h = let z = told x y r q (behind h) in (ap t_left z.0, z.1)
+  told (t_left x) (t_left y) r q h = let z = told x y r q (rest_of h) in (ap t_left z.0, z.1)
   told (t_left x) (t_right y) r q h = absurd (let z : ◌≡◌ {A = ℕ} 0 1 = cc in omega arith)
   told (t_right x) (t_left y) r q h = absurd (let z : ◌≡◌ {A = ℕ} 0 1 = cc in omega arith)
-  told (t_right x) (t_right y) r q h = let z = told x y r q (behind h) in (ap t_right z.0, z.1)
-  told t_absent t_absent r q h = (refl, behind h)
+  told (t_right x) (t_right y) r q h = let z = told x y r q (rest_of h) in (ap t_right z.0, z.1)
+  told t_absent t_absent r q h = (refl, rest_of h)
   told t_absent (t_present y) r q h = absurd (let z : ◌≡◌ {A = ℕ} 0 1 = cc in omega arith)
   told (t_present x) t_absent r q h = absurd (let z : ◌≡◌ {A = ℕ} 0 1 = cc in omega arith)
-  told (t_present x) (t_present y) r q h = let z = told x y r q (behind h) in (ap t_present z.0, z.1)
-  told t_none t_none r q h = (refl, behind h)
+  told (t_present x) (t_present y) r q h = let z = told x y r q (rest_of h) in (ap t_present z.0, z.1)
+  told t_none t_none r q h = (refl, rest_of h)
   told t_none (t_more x y) r q h = absurd (let z : ◌≡◌ {A = ℕ} 0 1 = cc in omega arith)
   told (t_more x y) t_none r q h = absurd (let z : ◌≡◌ {A = ℕ} 0 1 = cc in omega arith)
   told (t_more x y) (t_more x' y') r q h =
       let a = told x x' (choices y ++ r) (choices y' ++ q)
-      (two (choices x) (choices y) r (behind h) ∙ append_assoc (choices x') (choices y') q) in
+      (two (choices x) (choices y) r (rest_of h) ∙ append_assoc (choices x') (choices y') q) in
       let b = told y y' r q a.1 in
       (ap₂ t_more a.0 b.0, b.1)
   told (t_some x y) (t_some x' y') r q h =

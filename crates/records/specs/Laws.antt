@@ -1,0 +1,2 @@
+-- What is proved of the words of the contracts.
+pub mod Places
