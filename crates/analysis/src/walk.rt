@@ -24,7 +24,7 @@ pub fn element(s: &Sheet, v: &Known, depth: u32, at: usize, t: &mut Seen) -> usi
     match head.kind {
         Kind::Token => {
             see_symbol(v.past, skips_at(s.bytes, at), t);
-            leaf_end(s, depth, at, Kind::Token, head.payload)
+            leaf_end(s, depth, at, head)
         }
         _ => other_element(s, v, depth, at, t),
     }
@@ -52,7 +52,7 @@ fn other_element(s: &Sheet, v: &Known, depth: u32, at: usize, t: &mut Seen) -> u
         }
         _ => {
             see_leaf(s, v, head, skips, t);
-            leaf_end(s, depth, at, head.kind, head.payload)
+            leaf_end(s, depth, at, head)
         }
     }
 }

@@ -6,3 +6,4 @@ pub mod Leaves
 pub mod Rooms
 pub mod Elements
 pub mod Alternatives
+pub mod Taken

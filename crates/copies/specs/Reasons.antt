@@ -1,9 +1,6 @@
 -- The numbers of the reasons that entries of the trail tell (SPECIFICATION 12.1), and what taking an id of a sort gives.
-use Rattle.std.specs.Prelude.{ℕ, ◌+◌, ◌<◌, ◌^◌, ◌≡◌}
+use Rattle.std.specs.Prelude.{ℕ}
 use Rattle.reference.specs.Numbers.{rule_boundary, block_boundary}
-use Rattle.reference.specs.Apply.{past}
-use Rattle.words.specs.Kinds.{sort_number}
-use Rattle.writing.specs.Taken.{counters_of}
 use Rattle.writing.specs.declared.counters.Counters.{Counters}
 use Rattle.copies.specs.declared.pen.Reason.{Reason}
 use Rattle.copies.specs.declared.pen.Reason.TheVariants.{RuleBoundary, BlockBoundary}
@@ -21,8 +18,3 @@ counter_of Element c = c.element
 counter_of Label c = c.label
 counter_of Action c = c.action
 counter_of Predicate c = c.predicate
-
--- It was taken: its counter moves on where there is a next number.
-pub record Took (sort : Sort) (c : Counters) (id : ℕ) (r : Counters) : Type 0 where
-  pub is : id ≡ counter_of sort c
-  pub counters : counter_of sort c + 1 < 2 ^ 32 → counters_of r ≡ past (sort_number sort) (counters_of c)

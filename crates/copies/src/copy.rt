@@ -22,18 +22,16 @@ impl Drawing<'_> {
             self.old.trail.now self.new.trail.now self.old.pen result self.new.pen }
     {
         let head = element_head(s, depth, at);
-        let kind = head.kind;
-        let payload = head.payload;
-        self.copy_head(s, at, payload, plain);
-        match kind {
+        self.copy_head(s, at, head.payload, plain);
+        match head.kind {
             Kind::Block => {
-                let count = word(s.bytes, payload);
+                let count = word(s.bytes, head.payload);
                 self.copy_count(count);
-                self.copy_alternatives(s, depth - 1, count, payload + 1)
+                self.copy_alternatives(s, depth - 1, count, head.payload + 1)
             }
             _ => {
-                let there = leaf_end(s, depth, at, kind, payload);
-                self.copy_leaf(s, kind, payload, there);
+                let there = leaf_end(s, depth, at, head);
+                self.copy_leaf(s, head.kind, head.payload, there);
                 there
             }
         }

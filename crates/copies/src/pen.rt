@@ -2,12 +2,12 @@
 ghost use Rattle.std.specs.Prelude.{◌≡◌, [], ◌∷◌, ◌+◌, ◌*◌, ◌≤◌, length};
 ghost use Rattle.writing.specs.Wrote.{Wrote};
 ghost use Rattle.words.specs.Kinds.{sort_number};
-ghost use Rattle.copies.specs.Reasons.{reason_number, counter_of, Took};
+ghost use Rattle.copies.specs.Reasons.{reason_number, counter_of};
 ghost use Rattle.copies.specs.Pen.{EntryRoom, Gave};
 
 use words::numbers::Sort;
 use writing::copy::write;
-use writing::counters::{Counters, Taken};
+use writing::counters::Counters;
 
 // The next word of what is drawn and the next word of the trail, both counted in words, and the counters.
 #[derive(Clone, Copy, Debug, PartialEq, Eq)]
@@ -72,26 +72,13 @@ pub fn write_entry(trail: &mut [u8], at: usize, kind: u32, id: u32, reason: Reas
     write_words(trail, at, &[kind, id, u32::from(reason), owner]);
 }
 
-// An id of a sort just taken.
-fn take_id(counters: Counters, sort: Sort) -> Taken
-    ensures { Took sort counters result.id result.counters }
-{
-    match sort {
-        Sort::Alternative => counters.take_alternative(),
-        Sort::Element => counters.take_element(),
-        Sort::Label => counters.take_label(),
-        Sort::Action => counters.take_action(),
-        Sort::Predicate => counters.take_predicate(),
-    }
-}
-
 // A fresh id of a sort, with its entry.
 pub fn fresh(trail: &mut [u8], pen: Pen, sort: Sort, reason: Reason, owner: u32) -> Given
     requires { EntryRoom (counter_of sort pen.counters) trail.old pen }
     ensures { Gave (sort_number sort) (counter_of sort pen.counters) (reason_number reason) owner
         trail.old trail.new pen result.id result.pen }
 {
-    let taken = take_id(pen.counters, sort);
+    let taken = pen.counters.take(sort);
     write_entry(trail, pen.trail, u32::from(sort), taken.id, reason, owner);
     let counters = taken.counters;
     Given {

@@ -5,7 +5,7 @@ ghost use Rattle.heads.specs.Front.{compose_at};
 ghost use Rattle.drafts.specs.Draft.{compose_end, RowAdded};
 
 use copies::pen::Pen;
-use records::rules::Rules;
+use records::rules::{Rules, add};
 
 #[derive(Clone, Copy, Debug, PartialEq, Eq)]
 pub struct Draft {
@@ -18,18 +18,12 @@ impl Draft {
     pub const FIRST: usize = 8192;
 
     // A rule whose n words are drawn next.
-    // Stays: the row is written here as `Rules::add` writes one. `Rules` is handed to callers outside, so a public method of it may have
-    // no `requires`, and `add` needs one.
     pub fn add_row(&mut self, id: u32, name: u32, n: usize)
         requires { (self.old.rules.n < rule_limit) × (compose_at ≤ self.old.pen.to) × (self.old.pen.to + n ≤ compose_end) }
         ensures { RowAdded id name n self.old self.new }
     {
         let place = (self.pen.to - Draft::FIRST) as u32;
-        let k = self.rules.n as usize;
-        self.rules.ids[k] = id;
-        self.rules.names[k] = name;
-        self.rules.places[k] = place;
-        self.rules.n += 1;
+        add(&mut self.rules, id, name, place);
         self.pen.to += n;
     }
 }

@@ -46,13 +46,11 @@ fn settled_outside(s: &Sheet, depth: u32, names: &[u32], c: Cycle, n: u32, at: u
     let mut p = at;
     for _ in 0..n {
         let head = element_head(s, depth, p);
-        let kind = head.kind;
-        let payload = head.payload;
-        match kind {
+        match head.kind {
             Kind::Epsilon | Kind::Action | Kind::Predicate => {
-                p = leaf_end(s, depth, p, kind, payload);
+                p = leaf_end(s, depth, p, head);
             }
-            Kind::Call => return name_settles(names, c, word(s.bytes, payload)),
+            Kind::Call => return name_settles(names, c, word(s.bytes, head.payload)),
             Kind::Token | Kind::Terminal | Kind::Block | Kind::EndOfInput => return true,
         }
     }

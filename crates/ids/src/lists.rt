@@ -1,5 +1,5 @@
 // Tests of a run of words.
-ghost use Rattle.std.specs.Prelude.{◌≡◌, ◌+◌, ◌*◌, ◌/◌, ◌≤◌, ◌^◌, length, take, drop};
+ghost use Rattle.std.specs.Prelude.{◌≡◌, ◌+◌, ◌*◌, ◌/◌, ◌≤◌, ◌^◌, length, take};
 ghost use Rattle.grammar.specs.Words.{words};
 ghost use Rattle.grammar.specs.Lists.{rising, distinct};
 ghost use Rattle.ids.specs.Distinct.{InRange};
@@ -7,15 +7,13 @@ ghost use Rattle.ids.specs.Distinct.{InRange};
 use crate::distinct::apart;
 use words::words::{put_word, word};
 
-// Whether the n words from `at` on rise strictly.
-// Stays: a place and a number say which words are meant, since the definition is of a part in the middle of a sheet.
+// Whether the words rise strictly.
 #[tactic(auto, using(crate::proofs::Laws::Lists::risings))]
-pub fn is_rising(s: &[u8], at: usize, n: usize) -> bool
-    requires { 4 * (at + n) ≤ length s.now }
-    ensures { result ≡ rising (take n (drop at (words s.now))) }
+pub fn is_rising(s: &[u8]) -> bool
+    ensures { result ≡ rising (words s.now) }
 {
-    for i in 1..n {
-        if word(s, at + i - 1) >= word(s, at + i) {
+    for i in 1..s.len() / 4 {
+        if word(s, i - 1) >= word(s, i) {
             return false;
         }
     }
@@ -39,12 +37,11 @@ pub fn is_distinct(s: &mut [u8]) -> bool
     ensures value { result ≡ distinct (words s.old) }
     ensures length_stays { length s.new ≡ length s.old }
 {
-    let n = s.len() / 4;
-    if is_rising(s, 0, n) {
+    if is_rising(s) {
         return true;
     }
     let past = past_all(s);
-    apart(s, 0, n, 0, past)
+    apart(s, 0, s.len() / 4, 0, past)
 }
 
 // The first words become the numbers of a row.

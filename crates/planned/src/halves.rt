@@ -1,4 +1,6 @@
 // 16-bit halves in byte slices, low byte first.
+// Stays: `word` and `put_word` (words) do the same for 32 bits. One for both sizes would need a trait that both types have, with a size,
+// a way to bytes and back and their laws, in place of one line in each function.
 ghost use Rattle.std.specs.Prelude.{◌≡◌, ◌+◌, ◌*◌, ◌<◌, ◌≤◌, length};
 ghost use Rattle.planned.specs.Layout.{half};
 ghost use Rattle.planned.specs.Halves.{HalfPut, Apart, HalvesMoved};
@@ -16,9 +18,7 @@ pub fn put_half(s: &mut [u8], at: usize, v: u16)
     requires { 2 * at + 2 ≤ length s.old }
     ensures { HalfPut s.old s.new at v }
 {
-    let [low, high] = v.to_le_bytes();
-    s[2 * at] = low;
-    s[2 * at + 1] = high;
+    s[2 * at..2 * at + 2].copy_from_slice(&v.to_le_bytes());
 }
 
 // The n halves from `to` on become the n halves that stand from `from` on; no other changes.

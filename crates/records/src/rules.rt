@@ -37,18 +37,18 @@ impl Rules {
             n: 0,
         }
     }
+}
 
-    // One rule more.
-    fn add(&mut self, id: u32, name: u32, place: u32)
-        requires { self.old.n < rule_limit }
-        ensures { IsWith self.old id name place self.new }
-    {
-        let n = self.n as usize;
-        self.ids[n] = id;
-        self.names[n] = name;
-        self.places[n] = place;
-        self.n += 1;
-    }
+// One rule more. This is no method, since `Rules` is handed to callers outside, and a public method of it may ask nothing of them.
+pub fn add(rules: &mut Rules, id: u32, name: u32, place: u32)
+    requires { rules.old.n < rule_limit }
+    ensures { IsWith rules.old id name place rules.new }
+{
+    let n = rules.n as usize;
+    rules.ids[n] = id;
+    rules.names[n] = name;
+    rules.places[n] = place;
+    rules.n += 1;
 }
 
 // One rule between a place and the end of the rules.
@@ -86,7 +86,7 @@ pub fn read_rules(s: &[u8], end: usize) -> Option<Rules>
             return None;
         }
         let p = rule_at(&lent, at)?;
-        rules.add(word(s, at), word(s, at + 1), at as u32);
+        add(&mut rules, word(s, at), word(s, at + 1), at as u32);
         at = p;
     }
     Some(rules)

@@ -132,7 +132,7 @@ pub fn examine(s: &[u8], work: &mut [u8]) -> Result<Reading, Refusal>
     let Some(rules) = read_rules(s, end) else {
         return Err(Refusal::BadRecord);
     };
-    if !is_rising(s, end, t - end) {
+    if !is_rising(&s[4 * end..4 * t]) {
         return Err(Refusal::BadRecord);
     }
     let parts = judged(s, t, end, kind, &rules, work)?;

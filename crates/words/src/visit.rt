@@ -71,17 +71,15 @@ pub fn walk_element<V: Visitor>(v: &mut V, s: &Sheet, depth: u32, at: usize) -> 
         (V.state (text s.now) depth v.old) result (V.state (text s.now) depth v.new) }
 {
     let head = element_head(s, depth, at);
-    let kind = head.kind;
-    let payload = head.payload;
-    match kind {
+    match head.kind {
         Kind::Block => {
             v.enter_block(s, depth, at, head);
-            let count = word(s.bytes, payload);
-            walk_alternatives(v, s, depth - 1, count, payload + 1)
+            let count = word(s.bytes, head.payload);
+            walk_alternatives(v, s, depth - 1, count, head.payload + 1)
         }
         _ => {
             v.leaf(s, depth, at, head);
-            leaf_end(s, depth, at, kind, payload)
+            leaf_end(s, depth, at, head)
         }
     }
 }

@@ -56,12 +56,13 @@ pub fn alternative_head(s: &Sheet, depth: u32, at: usize) -> Elements
 }
 
 // Where an element that is no block ends.
-pub fn leaf_end(s: &Sheet, depth: u32, at: usize, kind: Kind, payload: usize) -> usize
-    requires head_at { (HeadAt (text s.now) s.now.end at (kind_number kind) payload) × (kind_number kind ≡ block_kind → ⊥) }
+pub fn leaf_end(s: &Sheet, depth: u32, at: usize, head: Head) -> usize
+    requires head_at { (HeadAt (text s.now) s.now.end at (kind_number head.kind) head.payload) × (kind_number head.kind ≡ block_kind → ⊥) }
     requires found_element { FoundElement (text s.now) s.now.end depth at }
-    ensures { LeafEnd (text s.now) s.now.end depth at payload result }
+    ensures { LeafEnd (text s.now) s.now.end depth at head.payload result }
 {
-    match kind {
+    let payload = head.payload;
+    match head.kind {
         Kind::Call => payload + 2,
         Kind::Token => payload + 1,
         Kind::Action | Kind::Predicate => past_options(payload + 2, word(s.bytes, payload + 1)),

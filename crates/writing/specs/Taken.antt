@@ -4,6 +4,8 @@ use Rattle.std.specs.Prelude.{ℕ, ◌+◌, ◌-◌, min, ◌≡◌}
 use Rattle.grammar.specs.Tree as tree
 use Rattle.grammar.specs.Numbers.{word_end}
 use Rattle.writing.specs.declared.counters.Counters.{Counters}
+use Rattle.words.specs.declared.numbers.Sort.{Sort}
+use Rattle.words.specs.declared.numbers.Sort.TheVariants.{Alternative, Element, Label, Action, Predicate}
 
 -- The definition's counters.
 abbrev pub counters_of : Counters → tree.Counters
@@ -53,3 +55,11 @@ pub record TookPredicate (c : Counters) (id : ℕ) (r : Counters) : Type 0 where
   pub label : r.label ≡ c.label
   pub action : r.action ≡ c.action
   pub predicate : r.predicate ≡ following c.predicate
+
+-- The same of any sort.
+abbrev pub Took : Sort → Counters → ℕ → Counters → Type 0
+Took Alternative = TookAlternative
+Took Element = TookElement
+Took Label = TookLabel
+Took Action = TookAction
+Took Predicate = TookPredicate

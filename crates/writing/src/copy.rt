@@ -3,7 +3,7 @@ ghost use Rattle.std.specs.Prelude.{[], ◌∷◌, ◌+◌, ◌*◌, ◌≤◌, 
 ghost use Rattle.grammar.specs.Words.{words};
 ghost use Rattle.writing.specs.Wrote.{Wrote};
 
-use words::words::{put_word, word};
+use words::words::put_word;
 
 // One word.
 pub fn write(out: &mut [u8], at: usize, w: u32)
@@ -18,8 +18,5 @@ pub fn copy_words(s: &[u8], from: usize, out: &mut [u8], to: usize, n: usize)
     requires { (4 * (from + n) ≤ length s.now) × (4 * (to + n) ≤ length out.old) }
     ensures { Wrote out.old out.new to (take n (drop from (words s.now))) }
 {
-    for i in 0..n {
-        let w = word(s, from + i);
-        put_word(out, to + i, w);
-    }
+    out[4 * to..4 * (to + n)].copy_from_slice(&s[4 * from..4 * (from + n)]);
 }

@@ -1,6 +1,8 @@
 // The next free id of each sort. A fresh id is its sort's counter, which moves on by one (SPECIFICATION 11.5).
 ghost use Rattle.std.specs.Prelude.{◌≡◌};
-ghost use Rattle.writing.specs.Taken.{following, TookAlternative, TookElement, TookLabel, TookAction, TookPredicate};
+ghost use Rattle.writing.specs.Taken.{following, Took};
+
+use words::numbers::Sort;
 
 #[derive(Clone, Copy, Debug, PartialEq, Eq)]
 pub struct Counters {
@@ -18,55 +20,28 @@ pub struct Taken {
     pub counters: Counters,
 }
 
-// The number behind a number. Behind the last there is none, and a counter stays there: who hands out ids sees to it that it is
-// not reached (SPECIFICATION 4.8).
-// Stays: what it gives is the definition's `following`, which the five methods below cite.
-fn next(id: u32) -> u32
-    ensures { result ≡ following id }
+// A fresh id: the counter, which becomes the number behind it. Behind the last there is none, and a counter stays there: who hands
+// out ids sees to it that it is not reached (SPECIFICATION 4.8).
+fn moved_on(counter: &mut u32) -> u32
+    ensures { (result ≡ counter.old) × (counter.new ≡ following counter.old) }
 {
-    id.saturating_add(1)
+    let id = *counter;
+    *counter = id.saturating_add(1);
+    id
 }
 
-// Stays: SPECIFICATION 17.3 fixes that the methods take the counters by value and give them moved on. There is one for each sort, since
-// one for all would choose the field by the sort twice, to read it and to move it on.
 impl Counters {
-    pub fn take_alternative(mut self) -> Taken
-        ensures { TookAlternative self result.id result.counters }
+    // An id of a sort: its counter moves on, and the others stay.
+    pub fn take(mut self, sort: Sort) -> Taken
+        ensures { Took sort self result.id result.counters }
     {
-        let id = self.alternative;
-        self.alternative = next(id);
-        Taken { id, counters: self }
-    }
-
-    pub fn take_element(mut self) -> Taken
-        ensures { TookElement self result.id result.counters }
-    {
-        let id = self.element;
-        self.element = next(id);
-        Taken { id, counters: self }
-    }
-
-    pub fn take_label(mut self) -> Taken
-        ensures { TookLabel self result.id result.counters }
-    {
-        let id = self.label;
-        self.label = next(id);
-        Taken { id, counters: self }
-    }
-
-    pub fn take_action(mut self) -> Taken
-        ensures { TookAction self result.id result.counters }
-    {
-        let id = self.action;
-        self.action = next(id);
-        Taken { id, counters: self }
-    }
-
-    pub fn take_predicate(mut self) -> Taken
-        ensures { TookPredicate self result.id result.counters }
-    {
-        let id = self.predicate;
-        self.predicate = next(id);
+        let id = match sort {
+            Sort::Alternative => moved_on(&mut self.alternative),
+            Sort::Element => moved_on(&mut self.element),
+            Sort::Label => moved_on(&mut self.label),
+            Sort::Action => moved_on(&mut self.action),
+            Sort::Predicate => moved_on(&mut self.predicate),
+        };
         Taken { id, counters: self }
     }
 }

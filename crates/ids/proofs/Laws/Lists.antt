@@ -5,8 +5,8 @@ use mathlib.Core.List.{List, [], ◌∷◌}
 use mathlib.Core.Bool.{Bool, true, false, ◌&&◌, ◌||◌, false≢true}
 use native.Mathlib.Omega.{arith}
 use native.Mathlib.Numerals.{add-one}
-use lib.ListN.{length, get_or, set, take, drop, length-take}
-use lib.Seq.{drop-cons, take-suc, take-suc-set, take-length, take_all}
+use lib.ListN.{length, get_or, set, take, drop, length-drop}
+use lib.Seq.{drop-cons, take-suc, take-suc-set, take-length}
 use lib.Dec.{ltb, eqb}
 use borrow.Author.Tests.{lt-ltb, le-ltb, ltb-true, eq-eqb, eqb-true}
 use Rattle.std.specs.Cmp.{first_so, second_so}
@@ -17,17 +17,10 @@ use Rattle.grammar.specs.Laws.Words.{length_words, four}
 use Rattle.ids.specs.Distinct.{Injective, Judged}
 
 -- strictly rising
-two_rise : (ws : List ℕ) (at m : ℕ) → at + m + 2 ≤ length ws
-    → rising (take (suc (suc m)) (drop at ws)) ≡ (ltb (get_or ws at 0) (get_or ws (suc at) 0) && rising (take (suc m) (drop (suc at) ws)))
+rising_open : (ws : List ℕ) (i : ℕ) → i + 2 ≤ length ws
+    → rising (drop i ws) ≡ (ltb (get_or ws i 0) (get_or ws (suc i) 0) && rising (drop (suc i) ws))
 unfolding rising
-two_rise ws at m g = rw (drop-cons ws at 0 (omega arith), drop-cons ws (suc at) 0 (omega arith))
-
-rising_open : (ws : List ℕ) (at n : ℕ) → 2 ≤ n → at + n ≤ length ws
-    → rising (take n (drop at ws)) ≡ (ltb (get_or ws at 0) (get_or ws (at + 1) 0) && rising (take (n - 1) (drop (at + 1) ws)))
-rising_open ws at n h g =
-    let m : n ≡ suc (suc (n - 2)) = omega arith in
-    let k : n - 1 ≡ suc (n - 2) = omega arith in
-    ap (λ j. rising (take j (drop at ws))) m ∙ two_rise ws at (n - 2) (omega arith) ∙ rw (k, add-one at)
+rising_open ws i h = rw (drop-cons ws i 0 (omega arith), drop-cons ws (suc i) 0 (omega arith))
 
 few_rise : (xs : List ℕ) → length xs ≤ 1 → rising xs ≡ true
 unfolding rising
@@ -36,36 +29,27 @@ few_rise (x ∷ []) h = refl
 few_rise (x ∷ y ∷ xs) h = absurd (omega arith)
 
 -- what is left behind the words in front of the one at i, the last of them with it
-abbrev pub RisingFrom : List ℕ → ℕ → ℕ → ℕ → Type 0
-RisingFrom bs at n i = rising (take n (drop at (words bs))) ≡ rising (take (n + 1 - i) (drop (at + i - 1) (words bs)))
+pub record RisingFrom (bs : List ℕ) (i : ℕ) : Type 0 where
+  pub is : rising (words bs) ≡ rising (drop (i - 1) (words bs))
 
-pub rising_start : (bs : List ℕ) (at n : ℕ) → RisingFrom bs at n 1
-rising_start bs at n =
-    let a : n + 1 - 1 ≡ n = omega arith in
-    let b : at + 1 - 1 ≡ at = omega arith in
-    rw (a, b)
+pub rising_start : (bs : List ℕ) → RisingFrom bs 1
+rising_start bs = record { is = refl }
 
-module _ (bs : List ℕ) (at n i : ℕ) (room : 4 * (at + n) ≤ length bs) (so : RisingFrom bs at n i) where
-  pub rising_done : n ≤ i → true ≡ rising (take n (drop at (words bs)))
-  rising_done h = sym (so ∙ few_rise _ (let l = length-take (n + 1 - i) (drop (at + i - 1) (words bs)) in omega arith))
+module _ (bs : List ℕ) (i : ℕ) (so : RisingFrom bs i) where
+  pub rising_done : length bs / 4 ≤ i → true ≡ rising (words bs)
+  rising_done h = sym (so.is ∙ few_rise _ (let l = length-drop (i - 1) (words bs) in let m = length_words bs in omega arith))
 
-  module _ (g : 1 ≤ i) (h : i < n) {x y : ℕ} (e : x ≡ get_or (words bs) (at + i - 1) 0) (f : y ≡ get_or (words bs) (at + i) 0) where
-    opened : rising (take n (drop at (words bs))) ≡ (ltb x y && rising (take (n - i) (drop (at + i) (words bs))))
+  module _ (g : 1 ≤ i) (h : i < length bs / 4) {x y : ℕ} (e : x ≡ get_or (words bs) (i - 1) 0) (f : y ≡ get_or (words bs) i 0) where
+    opened : rising (words bs) ≡ (ltb x y && rising (drop i (words bs)))
     opened =
-        let a : at + i - 1 + 1 ≡ at + i = omega arith in
-        let b : n + 1 - i - 1 ≡ n - i = omega arith in
-        so
-        ∙ rising_open (words bs) (at + i - 1) (n + 1 - i) (omega arith) (rw length_words (omega arith))
-        ∙ rw (a, b, ← e, ← f)
+        let a : suc (i - 1) ≡ i = omega arith in
+        so.is ∙ rising_open (words bs) (i - 1) (let m = length_words bs in omega arith) ∙ rw (a, ← e, ← f)
 
-    pub rising_stop : y ≤ x → false ≡ rising (take n (drop at (words bs)))
+    pub rising_stop : y ≤ x → false ≡ rising (words bs)
     rising_stop k = sym (opened ∙ rw (le-ltb x y k))
 
-    pub rising_more : x < y → RisingFrom bs at n (i + 1)
-    rising_more k =
-        let a : n + 1 - (i + 1) ≡ n - i = omega arith in
-        let b : at + (i + 1) - 1 ≡ at + i = omega arith in
-        rw (a, b) (opened ∙ rw (lt-ltb x y k))
+    pub rising_more : x < y → RisingFrom bs (i + 1)
+    rising_more k = let a : i + 1 - 1 ≡ i = omega arith in record { is = rw a (opened ∙ rw (lt-ltb x y k)) }
 
 pub ruleset risings = (rising_start, rising_done, rising_stop, rising_more)
 
@@ -211,12 +195,8 @@ unfolding distinct
 rising_apart [] e = refl
 rising_apart (x ∷ xs) e = let a = rising_above x xs e in rw (above_none x xs a) a.apart
 
-pub rising_distinct : (bs : List ℕ) {b : Bool} → b ≡ rising (take (length bs / 4) (drop 0 (words bs))) → b ≡ true
-    → true ≡ distinct (words bs)
-rising_distinct bs e f =
-    let l = length_words bs in
-    let z : take (length bs / 4) (words bs) ≡ words bs = take_all (length bs / 4) (words bs) (omega arith) in
-    sym (rising_apart (words bs) (sym (rw z at e) ∙ f))
+pub rising_distinct : (bs : List ℕ) {b : Bool} → b ≡ rising (words bs) → b ≡ true → true ≡ distinct (words bs)
+rising_distinct bs e f = sym (rising_apart (words bs) (sym e ∙ f))
 
 pub ruleset distincts = (judged_distinct, rising_distinct)
 
@@ -229,3 +209,19 @@ words_take (a ∷ []) (suc n) h = absurd (omega arith)
 words_take (a ∷ b ∷ []) (suc n) h = absurd (omega arith)
 words_take (a ∷ b ∷ c ∷ []) (suc n) h = absurd (omega arith)
 words_take (a ∷ b ∷ c ∷ d ∷ bs) (suc n) h = rw (four n) (ap {B = List ℕ} (λ l. word_of a b c d ∷ l) (words_take bs n (omega arith)))
+
+pub words_drop : (bs : List ℕ) (n : ℕ) → words (drop (4 * n) bs) ≡ drop n (words bs)
+unfolding words
+words_drop bs zero = refl
+words_drop [] (suc n) = rw (four n)
+words_drop (a ∷ []) (suc n) = rw (four n)
+words_drop (a ∷ b ∷ []) (suc n) = rw (four n)
+words_drop (a ∷ b ∷ c ∷ []) (suc n) = rw (four n)
+words_drop (a ∷ b ∷ c ∷ d ∷ bs) (suc n) = rw (four n) (words_drop bs n)
+
+-- the words of the bytes from one place up to another
+pub words_between : (bs : List ℕ) (a b : ℕ) → a ≤ b → 4 * b ≤ length bs
+    → words (take (4 * b - 4 * a) (drop (4 * a) bs)) ≡ take (b - a) (drop a (words bs))
+words_between bs a b h g =
+    let z : 4 * b - 4 * a ≡ 4 * (b - a) = omega arith in
+    rw (z, ← words_drop bs a) (words_take (drop (4 * a) bs) (b - a) (let l = length-drop (4 * a) bs in omega arith))

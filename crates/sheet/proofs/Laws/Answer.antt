@@ -42,6 +42,7 @@ use Rattle.sheet.specs.Answer as answer
 use Rattle.sheet.specs.Answer.{Numbers, numbers_in, CountersAt, ReadAs}
 use Rattle.sheet.specs.Verdict.{verdict}
 use Rattle.sheet.specs.Answer.{EndAt}
+use Rattle.ids.proofs.Laws.Lists.{words_between}
 use Rattle.sheet.proofs.Laws.Trailer.{here}
 
 -- refusals, and a sheet with its rules
@@ -246,16 +247,23 @@ module _ (bs : List ℕ) {b : Bool} (e : b ≡ is_trailer (words bs)) where
         unfolding judge
         rules_refused o = read_refused {n = bad_record} BadRecord (opened ∙ rw (rules_bad f o) refl) refl
 
-        module _ {rules : Rules} (g : r ≡ Some rules) {c : Bool} (i : c ≡ rising (take (t - end) (drop end (words bs)))) where
+        module _ {rules : Rules} (g : r ≡ Some rules) {c : Bool} (i : c ≡ rising (words (take (4 * t - 4 * end) (drop (4 * end) bs)))) where
+          told : c ≡ rising (take (t - end) (drop end (words bs)))
+          told =
+              let z = k.split in
+              let p = k.place in
+              let m = k.least in
+              i ∙ ap rising (words_between bs end t (omega arith) (omega arith))
+
           pub rising_refused : c ≡ false → ReadAs (read_words (words bs)) (Err BadRecord)
           unfolding judge
           rising_refused j =
-              read_refused BadRecord (opened ∙ rw ((rules_got f g).is, ids_are, sym i ∙ j) refl) refl
+              read_refused BadRecord (opened ∙ rw ((rules_got f g).is, ids_are, sym told ∙ j) refl) refl
 
           pub goes_on : {x : Result Reading Refusal} → c ≡ true
               → ((o : FoundRows (words bs) end rules) → ReadAs (judge (words bs) (got o.found.trees end)) x)
               → ReadAs (read_words (words bs)) x
           goes_on j p =
               let z : read_words (words bs) ≡ judge (words bs) (got (rules_got f g).rows.found.trees end) =
-              opened ∙ rw ((rules_got f g).is, ids_are, sym i ∙ j) refl in
+              opened ∙ rw ((rules_got f g).is, ids_are, sym told ∙ j) refl in
               rw z (p (rules_got f g).rows)
