@@ -12,7 +12,7 @@ use Rattle.reach.specs.Rows.{bit}
 use Rattle.analysis.specs.Names.{At, Nowhere}
 use Rattle.planned.specs.Layout.{made_if, meaning}
 use Rattle.planned.specs.declared.list.Listed.{Listed}
-use Rattle.steps.specs.declared.corner.Cycle.{Cycle}
+use Rattle.steps.specs.declared.cycle.Cycle.{Cycle}
 use Rattle.steps.specs.declared.corner.Met.{Met}
 use Rattle.steps.specs.declared.corner.Met.TheVariants.{Silent, Settled, Blocked, Optional, Satellite}
 use Rattle.steps.specs.declared.corner.Place.{Place}

@@ -1,32 +1,23 @@
 // The corner of a planned alternative (SPECIFICATION 8.2 to 8.5): the first element that is significant decides.
 ghost use Rattle.std.specs.Prelude.{◌≡◌, ◌+◌, ◌*◌, ◌<◌, ◌≤◌, length};
-ghost use Rattle.grammar.specs.Numbers.{rule_limit, call_kind};
+ghost use Rattle.grammar.specs.Numbers.{call_kind};
 ghost use Rattle.grammar.specs.Tree.{inner_depth};
 ghost use Rattle.grammar.specs.Words.{words};
 ghost use Rattle.grammar.specs.Found.{FoundElement, HeadAt};
-ghost use Rattle.analysis.specs.Names.{Told};
 ghost use Rattle.planned.specs.List.{Located, ListedIn};
 ghost use Rattle.steps.specs.Corner.{bare_at, quantifier_at, met_member, CallMet, ItemMet, CornerAt};
 ghost use Rattle.words.specs.Kinds.{quantifier_number};
 ghost use Rattle.words.specs.Sheet.{text};
 
+use crate::cycle::Cycle;
 use analysis::names::scan;
 use planned::list::{Item, Listed};
 use planned::read::item;
-use reach::rows::{Row, has};
+use reach::rows::has;
 use words::numbers::{Block, Kind, Quantifier};
 use words::sheet::Sheet;
 use words::walk::element_head;
 use words::words::word;
-
-// A cycle among n rules, and its hub: places of rules.
-// Stays: the names go along beside it. The value that has both (turns) lends the places too, which nothing here reads.
-#[derive(Clone, Copy, Debug, PartialEq, Eq)]
-pub struct Cycle {
-    pub n: usize,
-    pub members: [u64; Row::WORDS],
-    pub hub: usize,
-}
 
 // What is met at one element: nothing that counts; or what decides, of a member its place.
 // Stays: each of the five cases has a meaning of its own in SPECIFICATION 8.2 to 8.5, and an Option of a Result would name none.
@@ -77,12 +68,11 @@ fn meet_member(bare: bool, quantifier: Quantifier, t: usize, hub: usize) -> Met
 }
 
 // A call of a name; one of no rule, or of a rule outside the cycle, is settled.
-fn meet_call(names: &[u32], c: Cycle, name: u32, bare: bool, quantifier: Quantifier) -> Met
-    requires { (c.n ≤ rule_limit) × Told names.now c.n }
-    ensures { CallMet names.now c name bare (quantifier_number quantifier) result }
+fn meet_call(c: &Cycle, name: u32, bare: bool, quantifier: Quantifier) -> Met
+    ensures { CallMet c.now.names.now c.now name bare (quantifier_number quantifier) result }
 {
     let members = c.members;
-    match scan(names, c.n, name) {
+    match scan(c.names, c.n, name) {
         Some(t) if has(members, t) => meet_member(bare, quantifier, t, c.hub),
         _ => Met::Settled,
     }
@@ -102,10 +92,9 @@ fn quantifier_of(s: &Sheet, x: Item) -> Quantifier
 }
 
 // One element of the list.
-fn meet_item(s: &Sheet, names: &[u32], c: Cycle, x: Item) -> Met
-    requires bounds { (c.n ≤ rule_limit) × Told names.now c.n }
-    requires found_element { FoundElement (text s.now) s.now.end inner_depth x.at }
-    ensures { ItemMet names.now c (text s.now) s.now.end inner_depth x.at x.plain result }
+fn meet_item(s: &Sheet, c: &Cycle, x: Item) -> Met
+    requires { FoundElement (text s.now) s.now.end inner_depth x.at }
+    ensures { ItemMet c.now.names.now c.now (text s.now) s.now.end inner_depth x.at x.plain result }
 {
     let head = element_head(s, Block::DEPTH, x.at);
     let kind = head.kind;
@@ -115,21 +104,20 @@ fn meet_item(s: &Sheet, names: &[u32], c: Cycle, x: Item) -> Met
         Kind::Call => {
             let bare = is_bare(s.bytes, x.at, payload);
             let quantifier = quantifier_of(s, x);
-            meet_call(names, c, word(s.bytes, payload), bare, quantifier)
+            meet_call(c, word(s.bytes, payload), bare, quantifier)
         }
         Kind::Token | Kind::Terminal | Kind::Block | Kind::EndOfInput => Met::Settled,
     }
 }
 
 // The corner of an alternative that is listed.
-pub fn find_corner(s: &Sheet, names: &[u32], c: Cycle, work: &[u8], x: Listed) -> Corner
-    requires bounds { (c.n ≤ rule_limit) × Told names.now c.n }
-    requires located { Located work.now x × ListedIn (text s.now) s.now.end inner_depth work.now x }
-    ensures { CornerAt names.now c (text s.now) s.now.end inner_depth work.now x result }
+pub fn find_corner(s: &Sheet, c: &Cycle, work: &[u8], x: Listed) -> Corner
+    requires { Located work.now x × ListedIn (text s.now) s.now.end inner_depth work.now x }
+    ensures { CornerAt c.now.names.now c.now (text s.now) s.now.end inner_depth work.now x result }
 {
     let n = x.ne;
     for i in 0..n {
-        match meet_item(s, names, c, item(work, x, i)) {
+        match meet_item(s, c, item(work, x, i)) {
             Met::Silent => {}
             Met::Settled => return Corner::Settled,
             Met::Blocked => return Corner::Blocked,

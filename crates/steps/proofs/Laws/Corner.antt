@@ -34,7 +34,7 @@ use Rattle.words.specs.declared.numbers.Quantifier.{Quantifier}
 use Rattle.words.specs.declared.numbers.Unnamed.{Unnamed}
 use Rattle.planned.specs.Layout.{made_if}
 use Rattle.steps.specs.Corner.{CycleBy, bare_at, quantifier_at, met_corner, MetIn, met_by, met_member, CallMet, ItemMet}
-use Rattle.steps.specs.declared.corner.Cycle.{Cycle}
+use Rattle.steps.specs.declared.cycle.Cycle.{Cycle}
 use Rattle.steps.specs.declared.corner.Met.{Met}
 use Rattle.steps.specs.declared.corner.Met.TheVariants.{Silent, Settled}
 

@@ -16,7 +16,7 @@ use Rattle.planned.specs.List.{ListedIn}
 use Rattle.planned.specs.Reading.{ItemIs}
 use Rattle.planned.specs.declared.list.Listed.{Listed}
 use Rattle.steps.specs.Corner.{CycleBy, met_corner, ItemMet, CornerAt}
-use Rattle.steps.specs.declared.corner.Cycle.{Cycle}
+use Rattle.steps.specs.declared.cycle.Cycle.{Cycle}
 use Rattle.steps.specs.declared.corner.Met.{Met}
 use Rattle.steps.specs.declared.corner.Met.TheVariants.{Silent, Settled, Blocked, Optional, Satellite}
 use Rattle.steps.specs.declared.corner.Corner.TheVariants as C
