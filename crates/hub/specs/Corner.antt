@@ -12,7 +12,7 @@ use Rattle.reference.specs.Analysis.{Grammar, target}
 use Rattle.reference.specs.Plan.{corner_enters_cycle}
 use Rattle.reach.specs.Rows.{bit}
 use Rattle.analysis.specs.Names.{At, Nowhere}
-use Rattle.hub.specs.declared.corner.Cycle.{Cycle}
+use Rattle.hub.specs.declared.cycle.Cycle.{Cycle}
 
 -- The rule at a place is the one that a name calls, and the bits are about its id.
 pub record Callee (g : Grammar) (cycle : List ℕ) (c : Cycle) (m i : ℕ) : Type 0 where
@@ -22,35 +22,35 @@ pub record Callee (g : Grammar) (cycle : List ℕ) (c : Cycle) (m i : ℕ) : Typ
   pub empty : bit c.nullable i ≡ member id g.nullable
 
 -- What is known by places is what a grammar says by ids.
-pub record Tells (g : Grammar) (cycle names : List ℕ) (c : Cycle) : Type 0 where
-  pub unknown : (m : ℕ) → Nowhere names c.n m → target g m ≡ none
-  pub rule : (m i : ℕ) → At names c.n m i → Callee g cycle c m i
+pub record Tells (g : Grammar) (cycle : List ℕ) (c : Cycle) : Type 0 where
+  pub unknown : (m : ℕ) → Nowhere c.names.now c.n m → target g m ≡ none
+  pub rule : (m i : ℕ) → At c.names.now c.n m i → Callee g cycle c m i
 
 -- Whether a call of a name in front is settled outside the cycle.
-pub record NameSettles (names : List ℕ) (c : Cycle) (m : ℕ) (r : Bool) : Type 0 where
-  pub by : (g : Grammar) (cycle : List ℕ) → Tells g cycle names c
+pub record NameSettles (c : Cycle) (m : ℕ) (r : Bool) : Type 0 where
+  pub by : (g : Grammar) (cycle : List ℕ) → Tells g cycle c
       → r ≡ elim (target g m) [ none ↦ true | some t ↦ not (member t cycle) && not (member t g.nullable) ]
 
 -- Whether an alternative is, by the definition.
 abbrev pub is_settled : Grammar → List ℕ → {B : Type 0} → AlternativeOf B → Bool
 is_settled g cycle a = not (corner_enters_cycle g cycle a.elements)
 
-module _ (names : List ℕ) (c : Cycle) (ws : List ℕ) (end : ℕ) where
+module _ (c : Cycle) (ws : List ℕ) (end : ℕ) where
   -- Whether the elements that stand at a place are.
   pub record Settles (d n at : ℕ) (r : Bool) : Type 0 where
-    pub by : (g : Grammar) (cycle : List ℕ) → Tells g cycle names c → (es : List (Element (Block d))) (q : ℕ)
+    pub by : (g : Grammar) (cycle : List ℕ) → Tells g cycle c → (es : List (Element (Block d))) (q : ℕ)
         → Spans ws end (each (encode_element (encode_block d))) (all (ok_element (ok_block d))) at es q → length es ≡ n
         → r ≡ not (corner_enters_cycle g cycle es)
 
   -- Whether one of the alternatives that stand there is.
   pub record AnySettles (d n at : ℕ) (r : Bool) : Type 0 where
-    pub by : (g : Grammar) (cycle : List ℕ) → Tells g cycle names c → (as' : List (AlternativeOf (Block d))) (q : ℕ)
+    pub by : (g : Grammar) (cycle : List ℕ) → Tells g cycle c → (as' : List (AlternativeOf (Block d))) (q : ℕ)
         → Spans ws end (each (encode_alternative (encode_block d))) (all (ok_alternative (ok_block d))) at as' q → length as' ≡ n
         → r ≡ any (is_settled g cycle) as'
 
   -- Whether the rule at a place, which is rule i, is a candidate.
   pub record IsCandidate (i at : ℕ) (r : Bool) : Type 0 where
-    pub by : (g : Grammar) (cycle : List ℕ) → Tells g cycle names c → (t : Rule) (q : ℕ) → RuleSpans ws end body_depth at t q
+    pub by : (g : Grammar) (cycle : List ℕ) → Tells g cycle c → (t : Rule) (q : ℕ) → RuleSpans ws end body_depth at t q
         → r ≡ (bit c.members i && any (is_settled g cycle) t.body)
 
   -- The candidates among the first i rules.

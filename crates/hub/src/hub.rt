@@ -6,7 +6,8 @@ ghost use Rattle.hub.specs.Hub.{Chosen};
 ghost use Rattle.words.specs.Sheet.{text};
 
 use crate::calls::calls_from;
-use crate::corner::{Cycle, candidates};
+use crate::corner::candidates;
+use crate::cycle::Cycle;
 use reach::cycles::first;
 use reach::rows::{Row, meet};
 use records::rules::Rules;
@@ -28,12 +29,14 @@ pub fn choose_hub(
 {
     let n = rules.n as usize;
     let ids = rules.ids;
+    let names = rules.names;
     let c = Cycle {
+        names: &names,
         n,
         members,
         nullable,
     };
-    let can = candidates(s, rules, c);
+    let can = candidates(s, rules, &c);
     let wanted = meet(can, calls_from(calls, n, members, kept));
     first(ids, wanted, n).or_else(|| first(ids, can, n))
 }

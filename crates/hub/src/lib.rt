@@ -5,6 +5,7 @@
 pub mod budget;
 pub mod calls;
 pub mod corner;
+pub mod cycle;
 pub mod hub;
 pub mod inlinable;
 pub mod preserved;

@@ -1,5 +1,5 @@
 -- The corner of a planned alternative, by the places of rules: `planned_corner` of the definition, by their ids.
-use Rattle.std.specs.Prelude.{ℕ, ◌+◌, ◌/◌, ◌<◌, ◌≡◌, List, ◌∷◌, Bool, true, false, ◌&&◌, get_or, eqb}
+use Rattle.std.specs.Prelude.{ℕ, ◌+◌, ◌/◌, ◌<◌, ◌≡◌, List, ◌∷◌, Bool, true, false, ◌&&◌, get_or, eqb, Option, None, Some, IfSome}
 use Rattle.std.proofs.Math.Option.{none, some}
 use Rattle.grammar.specs.Numbers.{once, optional_greedy, kind_end}
 use Rattle.grammar.specs.Tree.{ElementHead, Call, Element, leaf, call, Block}
@@ -12,12 +12,10 @@ use Rattle.reach.specs.Rows.{bit}
 use Rattle.analysis.specs.Names.{At, Nowhere}
 use Rattle.planned.specs.Layout.{made_if, meaning}
 use Rattle.planned.specs.declared.list.Listed.{Listed}
-use Rattle.steps.specs.declared.corner.Cycle.{Cycle}
-use Rattle.steps.specs.declared.corner.Met.{Met}
-use Rattle.steps.specs.declared.corner.Met.TheVariants.{Silent, Settled, Blocked, Optional, Satellite}
+use Rattle.steps.specs.declared.cycle.Cycle.{Cycle}
 use Rattle.steps.specs.declared.corner.Place.{Place}
 use Rattle.steps.specs.declared.corner.Corner.{Corner}
-use Rattle.steps.specs.declared.corner.Corner.TheVariants as C
+use Rattle.steps.specs.declared.corner.Corner.TheVariants.{Settled, Blocked, Optional, Satellite}
 
 -- An index of n elements, and a member of the cycle.
 pub record MemberIn (c : Cycle) (n : ℕ) (p : Place) : Type 0 where
@@ -26,18 +24,18 @@ pub record MemberIn (c : Cycle) (n : ℕ) (p : Place) : Type 0 where
   pub member : bit c.members p.target ≡ true
 
 -- A corner by places as one by ids.
-abbrev pub corner_by : (ids : List ℕ) → Corner → PlannedCorner
-corner_by ids C.Settled = settled
-corner_by ids C.Blocked = blocked
-corner_by ids (C.Optional p) = optional p.index (get_or ids p.target 0)
-corner_by ids (C.Satellite p) = satellite p.index (get_or ids p.target 0)
+abbrev pub corner_by : (ids : List ℕ) → Corner Place → PlannedCorner
+corner_by ids Settled = settled
+corner_by ids Blocked = blocked
+corner_by ids (Optional p) = optional p.index (get_or ids p.target 0)
+corner_by ids (Satellite p) = satellite p.index (get_or ids p.target 0)
 
 -- Index and place are in range, and a member is met.
-abbrev pub CornerIn : Cycle → ℕ → Corner → Type 0
-CornerIn c n C.Settled = Unit {0}
-CornerIn c n C.Blocked = Unit {0}
-CornerIn c n (C.Optional p) = MemberIn c n p
-CornerIn c n (C.Satellite p) = MemberIn c n p × (p.target ≡ c.hub → ⊥)
+abbrev pub CornerIn : Cycle → ℕ → Corner Place → Type 0
+CornerIn c n Settled = Unit {0}
+CornerIn c n Blocked = Unit {0}
+CornerIn c n (Optional p) = MemberIn c n p
+CornerIn c n (Satellite p) = MemberIn c n p × (p.target ≡ c.hub → ⊥)
 
 -- What a grammar, a cycle and its hub are by ids, they are here by places.
 pub record CycleBy (g : Grammar) (cycle ids names : List ℕ) (c : Cycle) : Type 0 where
@@ -53,24 +51,27 @@ bare_at ws at payload = eqb (get_or ws (at + 4) 0) 0 && (eqb (get_or ws (payload
 abbrev pub quantifier_at : List ℕ → ℕ → Bool → ℕ
 quantifier_at ws at made = elim made [ true ↦ once | false ↦ get_or ws (at + 2) 0 / kind_end ]
 
--- What is met, in front of what comes behind it.
-abbrev pub met_corner : (ids : List ℕ) → Met → PlannedCorner → PlannedCorner
-met_corner ids Silent k = further k
-met_corner ids Settled k = settled
-met_corner ids Blocked k = blocked
-met_corner ids (Optional t) k = optional 0 (get_or ids t 0)
-met_corner ids (Satellite t) k = satellite 0 (get_or ids t 0)
+-- What is met at an element, with its index.
+abbrev pub corner_at : ℕ → Corner ℕ → Corner Place
+corner_at i Settled = Settled
+corner_at i Blocked = Blocked
+corner_at i (Optional t) = Optional (record { index = i; target = t })
+corner_at i (Satellite t) = Satellite (record { index = i; target = t })
+
+-- What is met, or nothing, in front of what comes behind it.
+abbrev pub met_corner : (ids : List ℕ) → Option (Corner ℕ) → PlannedCorner → PlannedCorner
+met_corner ids None k = further k
+met_corner ids (Some r) k = corner_by ids (corner_at 0 r)
 
 -- A member, where one is met.
-abbrev pub MetIn : Cycle → Met → Type 0
-MetIn c Silent = Unit {0}
+abbrev pub MetIn : Cycle → Corner ℕ → Type 0
 MetIn c Settled = Unit {0}
 MetIn c Blocked = Unit {0}
 MetIn c (Optional t) = (t < c.n) × (bit c.members t ≡ true)
 MetIn c (Satellite t) = (t < c.n) × (bit c.members t ≡ true) × (t ≡ c.hub → ⊥)
 
 -- At a call of the member t, by tests: whether it is optional, bare, once, and of the hub.
-abbrev pub met_by : (is_optional bare is_once of_hub : Bool) → ℕ → Met
+abbrev pub met_by : (is_optional bare is_once of_hub : Bool) → ℕ → Corner ℕ
 met_by true true _ _ t = Optional t
 met_by true false _ _ t = Blocked
 met_by false bare false hub t = Blocked
@@ -78,29 +79,29 @@ met_by false bare true true t = Settled
 met_by false true true false t = Satellite t
 met_by false false true false t = Blocked
 
-abbrev pub met_member : (bare : Bool) (quantifier t hub : ℕ) → Met
+abbrev pub met_member : (bare : Bool) (quantifier t hub : ℕ) → Corner ℕ
 met_member bare quantifier t hub = met_by (eqb quantifier optional_greedy) bare (eqb quantifier once) (eqb t hub) t
 
 module _ (names : List ℕ) (c : Cycle) where
   -- At a call of a name.
-  pub record CallMet (name : ℕ) (bare : Bool) (quantifier : ℕ) (r : Met) : Type 0 where
+  pub record CallMet (name : ℕ) (bare : Bool) (quantifier : ℕ) (r : Corner ℕ) : Type 0 where
     pub is : (g : Grammar) (cycle ids : List ℕ) → CycleBy g cycle ids names c → (d : ℕ) (h : ElementHead) (k : Call) → k.name ≡ name
         → h.quantifier ≡ quantifier → bare_reference h k ≡ bare → (es : List (Element (Block d)))
         → planned_corner g cycle (get_or ids c.hub 0) (leaf h (call k) ∷ es)
-        ≡ met_corner ids r (planned_corner g cycle (get_or ids c.hub 0) es)
+        ≡ corner_by ids (corner_at 0 r)
     pub member : MetIn c r
 
   module _ (ws : List ℕ) (end d : ℕ) where
     -- At an element of the list.
-    pub record ItemMet (at : ℕ) (made : Bool) (r : Met) : Type 0 where
+    pub record ItemMet (at : ℕ) (made : Bool) (r : Option (Corner ℕ)) : Type 0 where
       pub is : (g : Grammar) (cycle ids : List ℕ) → CycleBy g cycle ids names c → (e : Element (Block d)) (q : ℕ)
           → ElementSpans ws end d at e q → (es : List (Element (Block d)))
           → planned_corner g cycle (get_or ids c.hub 0) (made_if made e ∷ es)
           ≡ met_corner ids r (planned_corner g cycle (get_or ids c.hub 0) es)
-      pub member : MetIn c r
+      pub member : IfSome r (MetIn c)
 
     -- The corner of an alternative that is listed.
-    pub record CornerAt (bs : List ℕ) (x : Listed) (r : Corner) : Type 0 where
+    pub record CornerAt (bs : List ℕ) (x : Listed) (r : Corner Place) : Type 0 where
       pub is : (g : Grammar) (cycle ids : List ℕ) → CycleBy g cycle ids names c
           → planned_corner g cycle (get_or ids c.hub 0) (meaning ws end d bs x).elements ≡ corner_by ids r
       pub within : CornerIn c x.ne r

@@ -12,8 +12,8 @@ use Rattle.planned.specs.declared.list.Sizes.{Sizes}
 use Rattle.planned.specs.declared.list.Listed.{Listed}
 use Rattle.steps.specs.Decide.{DeclinedBy, Around, Searchable, Unreferring, SmallSize}
 use Rattle.steps.specs.declared.decide.Clause.{Clause}
+use Rattle.steps.specs.declared.decide.Clause.TheVariants.{DanglingReference}
 use Rattle.splices.specs.declared.splice.Size.{Size}
-use Rattle.steps.specs.declared.step.Prepared.{Prepared}
 use Rattle.steps.specs.declared.step.Step.{Step}
 use Rattle.steps.specs.declared.step.Step.TheVariants.{Split, Splice}
 
@@ -54,13 +54,23 @@ abbrev pub DecisionOf : (d : ℕ) → Decided (List (Planned d)) → Result Size
 DecisionOf d m (Err c) = DeclinedBy m c
 DecisionOf d m (Ok z) = GoesTo d m z
 
--- What stands around the element is known.
+-- What stands around the element is known: no reference there would dangle, and whether nothing there can collide.
+pub record SafeAround (ws : List ℕ) (end d : ℕ) (es : List (Element (Block d))) (index name : ℕ) (after : List ℕ) (quiet : Bool)
+    : Type 0 where
+  pub searchable : Searchable ws end after quiet
+  pub safe : remaining_actions_reference d es index name ≡ false
+  pub around : Around ws d es index after quiet
+
+-- Or a reference there would dangle.
+abbrev pub PreparedTo : (ws : List ℕ) (end d : ℕ) (es : List (Element (Block d))) (index name : ℕ) (after : List ℕ) → Result Bool Clause
+    → Type 0
+PreparedTo ws end d es index name after (Ok quiet) = SafeAround ws end d es index name after quiet
+PreparedTo ws end d es index name after (Err c) = (c ≡ DanglingReference) × (remaining_actions_reference d es index name ≡ true)
+
 pub record PreparedFor (ws : List ℕ) (end d : ℕ) (es : List (Element (Block d))) (index name : ℕ) (before after : List ℕ)
-    (r : Prepared) : Type 0 where
+    (r : Result Bool Clause) : Type 0 where
   pub list : SameList before after
-  pub searchable : Searchable ws end after r.quiet
-  pub dangling : r.dangling ≡ remaining_actions_reference d es index name
-  pub around : Around ws d es index after r.quiet
+  pub to : PreparedTo ws end d es index name after r
 
 -- What a split pushes.
 pub record SplitSize (h : Listed) (z : Size) : Type 0 where

@@ -1,43 +1,23 @@
 // The corner of a planned alternative (SPECIFICATION 8.2 to 8.5): the first element that is significant decides.
 ghost use Rattle.std.specs.Prelude.{◌≡◌, ◌+◌, ◌*◌, ◌<◌, ◌≤◌, length};
-ghost use Rattle.grammar.specs.Numbers.{rule_limit, call_kind};
+ghost use Rattle.grammar.specs.Numbers.{call_kind};
 ghost use Rattle.grammar.specs.Tree.{inner_depth};
 ghost use Rattle.grammar.specs.Words.{words};
 ghost use Rattle.grammar.specs.Found.{FoundElement, HeadAt};
-ghost use Rattle.analysis.specs.Names.{Told};
 ghost use Rattle.planned.specs.List.{Located, ListedIn};
-ghost use Rattle.steps.specs.Corner.{bare_at, quantifier_at, met_member, CallMet, ItemMet, CornerAt};
+ghost use Rattle.steps.specs.Corner.{bare_at, quantifier_at, corner_at, met_member, CallMet, ItemMet, CornerAt};
 ghost use Rattle.words.specs.Kinds.{quantifier_number};
 ghost use Rattle.words.specs.Sheet.{text};
 
+use crate::cycle::Cycle;
 use analysis::names::scan;
 use planned::list::{Item, Listed};
 use planned::read::item;
-use reach::rows::{Row, has};
+use reach::rows::has;
 use words::numbers::{Block, Kind, Quantifier};
 use words::sheet::Sheet;
 use words::walk::element_head;
 use words::words::word;
-
-// A cycle among n rules, and its hub: places of rules.
-// Stays: the names go along beside it. The value that has both (turns) lends the places too, which nothing here reads.
-#[derive(Clone, Copy, Debug, PartialEq, Eq)]
-pub struct Cycle {
-    pub n: usize,
-    pub members: [u64; Row::WORDS],
-    pub hub: usize,
-}
-
-// What is met at one element: nothing that counts; or what decides, of a member its place.
-// Stays: each of the five cases has a meaning of its own in SPECIFICATION 8.2 to 8.5, and an Option of a Result would name none.
-#[derive(Clone, Copy, Debug, PartialEq, Eq)]
-pub enum Met {
-    Silent,
-    Settled,
-    Blocked,
-    Optional(usize),
-    Satellite(usize),
-}
 
 // Where a member is met: the element's index, and the member's place.
 #[derive(Clone, Copy, Debug, PartialEq, Eq)]
@@ -46,14 +26,27 @@ pub struct Place {
     pub target: usize,
 }
 
-// What decides about a whole alternative.
+// What decides about an alternative, and of a member that is met its place: at one element the rule's, in the whole alternative that
+// of the element too.
 // Stays: each of the four cases has a meaning of its own in SPECIFICATION 8.2 to 8.5, and they are those of the definition.
 #[derive(Clone, Copy, Debug, PartialEq, Eq)]
-pub enum Corner {
+pub enum Corner<T> {
     Settled,
     Blocked,
-    Optional(Place),
-    Satellite(Place),
+    Optional(T),
+    Satellite(T),
+}
+
+// What is met at one element is that of the whole alternative, with the element's index.
+fn placed(index: usize, met: Corner<usize>) -> Corner<Place>
+    ensures { result ≡ corner_at index met }
+{
+    match met {
+        Corner::Settled => Corner::Settled,
+        Corner::Blocked => Corner::Blocked,
+        Corner::Optional(target) => Corner::Optional(Place { index, target }),
+        Corner::Satellite(target) => Corner::Satellite(Place { index, target }),
+    }
 }
 
 // Without label, arguments and options.
@@ -65,26 +58,25 @@ fn is_bare(s: &[u8], at: usize, payload: usize) -> bool
 }
 
 // A call of the member t: split, left as it is, spliced, or in the way.
-fn meet_member(bare: bool, quantifier: Quantifier, t: usize, hub: usize) -> Met
+fn meet_member(bare: bool, quantifier: Quantifier, t: usize, hub: usize) -> Corner<usize>
     ensures { result ≡ met_member bare (quantifier_number quantifier) t hub }
 {
     match quantifier {
-        Quantifier::OptionalGreedy if bare => Met::Optional(t),
-        Quantifier::Once if t == hub => Met::Settled,
-        Quantifier::Once if bare => Met::Satellite(t),
-        _ => Met::Blocked,
+        Quantifier::OptionalGreedy if bare => Corner::Optional(t),
+        Quantifier::Once if t == hub => Corner::Settled,
+        Quantifier::Once if bare => Corner::Satellite(t),
+        _ => Corner::Blocked,
     }
 }
 
 // A call of a name; one of no rule, or of a rule outside the cycle, is settled.
-fn meet_call(names: &[u32], c: Cycle, name: u32, bare: bool, quantifier: Quantifier) -> Met
-    requires { (c.n ≤ rule_limit) × Told names.now c.n }
-    ensures { CallMet names.now c name bare (quantifier_number quantifier) result }
+fn meet_call(c: &Cycle, name: u32, bare: bool, quantifier: Quantifier) -> Corner<usize>
+    ensures { CallMet c.now.names.now c.now name bare (quantifier_number quantifier) result }
 {
     let members = c.members;
-    match scan(names, c.n, name) {
+    match scan(c.names, c.n, name) {
         Some(t) if has(members, t) => meet_member(bare, quantifier, t, c.hub),
-        _ => Met::Settled,
+        _ => Corner::Settled,
     }
 }
 
@@ -101,46 +93,34 @@ fn quantifier_of(s: &Sheet, x: Item) -> Quantifier
     Quantifier::try_from(number).unwrap()
 }
 
-// One element of the list.
-fn meet_item(s: &Sheet, names: &[u32], c: Cycle, x: Item) -> Met
-    requires bounds { (c.n ≤ rule_limit) × Told names.now c.n }
-    requires found_element { FoundElement (text s.now) s.now.end inner_depth x.at }
-    ensures { ItemMet names.now c (text s.now) s.now.end inner_depth x.at x.plain result }
+// One element of the list: nothing, where it takes no input.
+fn meet_item(s: &Sheet, c: &Cycle, x: Item) -> Option<Corner<usize>>
+    requires { FoundElement (text s.now) s.now.end inner_depth x.at }
+    ensures { ItemMet c.now.names.now c.now (text s.now) s.now.end inner_depth x.at x.plain result }
 {
     let head = element_head(s, Block::DEPTH, x.at);
     let kind = head.kind;
     let payload = head.payload;
     match kind {
-        Kind::Epsilon | Kind::Action | Kind::Predicate => Met::Silent,
+        Kind::Epsilon | Kind::Action | Kind::Predicate => None,
         Kind::Call => {
             let bare = is_bare(s.bytes, x.at, payload);
             let quantifier = quantifier_of(s, x);
-            meet_call(names, c, word(s.bytes, payload), bare, quantifier)
+            Some(meet_call(c, word(s.bytes, payload), bare, quantifier))
         }
-        Kind::Token | Kind::Terminal | Kind::Block | Kind::EndOfInput => Met::Settled,
+        Kind::Token | Kind::Terminal | Kind::Block | Kind::EndOfInput => Some(Corner::Settled),
     }
 }
 
 // The corner of an alternative that is listed.
-pub fn find_corner(s: &Sheet, names: &[u32], c: Cycle, work: &[u8], x: Listed) -> Corner
-    requires bounds { (c.n ≤ rule_limit) × Told names.now c.n }
-    requires located { Located work.now x × ListedIn (text s.now) s.now.end inner_depth work.now x }
-    ensures { CornerAt names.now c (text s.now) s.now.end inner_depth work.now x result }
+pub fn find_corner(s: &Sheet, c: &Cycle, work: &[u8], x: Listed) -> Corner<Place>
+    requires { Located work.now x × ListedIn (text s.now) s.now.end inner_depth work.now x }
+    ensures { CornerAt c.now.names.now c.now (text s.now) s.now.end inner_depth work.now x result }
 {
     let n = x.ne;
     for i in 0..n {
-        match meet_item(s, names, c, item(work, x, i)) {
-            Met::Silent => {}
-            Met::Settled => return Corner::Settled,
-            Met::Blocked => return Corner::Blocked,
-            Met::Optional(t) => return Corner::Optional(Place {
-                index: i,
-                target: t,
-            }),
-            Met::Satellite(t) => return Corner::Satellite(Place {
-                index: i,
-                target: t,
-            }),
+        if let Some(met) = meet_item(s, c, item(work, x, i)) {
+            return placed(i, met);
         }
     }
     Corner::Settled

@@ -91,8 +91,8 @@ fn splice_one(s: &Sheet, work: &[u8], quiet: bool, h: Listed, at: usize) -> Resu
 }
 
 // One alternative more, with so many elements and options.
-// Stays: that a size is small is a clause, since a `Size` is also what a list may be at most, which no number bounds.
-fn counted(z: Size, ne: usize, no: usize) -> Size
+// Stays: that a size is small is a clause and no ghost field, since `is_within` (turns) compares any two sizes.
+pub fn counted(z: Size, ne: usize, no: usize) -> Size
     requires { SmallSize z × (ne < 2 ^ 62) × (no < 2 ^ 62) }
     ensures { IsCounted z ne no result }
 {

@@ -3,5 +3,6 @@
 #![tactic(auto)]
 
 pub mod corner;
+pub mod cycle;
 pub mod decide;
 pub mod step;

@@ -15,15 +15,9 @@ use planned::list::Listed;
 use splices::splice::Size;
 use words::sheet::Sheet;
 
-// What is known of the elements around one: that nothing in them can collide, or that a reference in them would dangle.
-#[derive(Clone, Copy, Debug, PartialEq, Eq)]
-pub struct Prepared {
-    pub quiet: bool,
-    pub dangling: bool,
-}
-
-// Sets of names are made only where anything is labelled or refers.
-fn prepare(s: &Sheet, work: &mut [u8], h: Listed, index: usize, name: u32) -> Prepared
+// Whether nothing around an element can collide; or the decline, since a reference there would dangle. Sets of names are made only
+// where anything is labelled or refers.
+fn prepare(s: &Sheet, work: &mut [u8], h: Listed, index: usize, name: u32) -> Result<bool, Clause>
     requires bounds { (s.now.end ≤ most_words) × Located work.old h × (index < h.ne) }
     requires listed_in { ListedIn (text s.now) s.now.end inner_depth work.old h }
     ensures { PreparedFor (text s.now) s.now.end inner_depth
@@ -31,16 +25,12 @@ fn prepare(s: &Sheet, work: &mut [u8], h: Listed, index: usize, name: u32) -> Pr
         work.old work.new result }
 {
     if is_quiet(s, work, h) {
-        return Prepared {
-            quiet: true,
-            dangling: false,
-        };
+        return Ok(true);
     }
-    let dangling = mark_around(s, work, h, index, name);
-    Prepared {
-        quiet: false,
-        dangling,
+    if mark_around(s, work, h, index, name) {
+        return Err(Clause::DanglingReference);
     }
+    Ok(false)
 }
 
 // What a step does: the alternative is split at an optional call, or the alternatives of a satellite come in place of its call.
@@ -68,16 +58,13 @@ pub fn decide(s: &Sheet, work: &mut [u8], h: Listed, k: Call) -> Result<Size, Cl
     requires rule_unreferring { splits k.step ≡ false → RuleUnreferring (text s.now) s.now.end inner_depth k.at }
     ensures { DecidedAt (text s.now) s.now.end inner_depth k.at work.old work.new h k.index (splits k.step) result }
 {
-    let p = prepare(s, work, h, k.index, k.name);
-    if p.dangling {
-        return Err(Clause::DanglingReference);
-    }
+    let quiet = prepare(s, work, h, k.index, k.name)?;
     match k.step {
         Step::Split => Ok(Size {
             a: 2,
             e: 2 * h.ne - 1,
             o: 2 * h.no,
         }),
-        Step::Splice => splice_size(s, work, p.quiet, h, k.at),
+        Step::Splice => splice_size(s, work, quiet, h, k.at),
     }
 }

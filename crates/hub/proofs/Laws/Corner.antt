@@ -25,11 +25,11 @@ use Rattle.analysis.specs.Names.{IsTarget}
 use Rattle.std.specs.Prelude as Rust
 use Rattle.std.specs.Prelude.{Some, None, MatchOption}
 use Rattle.hub.specs.Corner.{Tells, NameSettles, Settles}
-use Rattle.hub.specs.declared.corner.Cycle.{Cycle}
+use Rattle.hub.specs.declared.cycle.Cycle.{Cycle}
 
 -- A call of a name, by the rule that has it.
-pub name_settled : {names : List ℕ} {m : ℕ} (c : Cycle) (t : Rust.Option ℕ) → IsTarget names c.n m t → {r : Bool}
-    → MatchOption t (r ≡ true) (λ i. r ≡ (not (bit c.members i) && not (bit c.nullable i))) → NameSettles names c m r
+pub name_settled : {m : ℕ} (c : Cycle) (t : Rust.Option ℕ) → IsTarget c.names.now c.n m t → {r : Bool}
+    → MatchOption t (r ≡ true) (λ i. r ≡ (not (bit c.members i) && not (bit c.nullable i))) → NameSettles c m r
 name_settled {m = m} c None a h = record { by = λ g cycle f. rw (f.unknown m (a.unknown refl)) h }
 name_settled {m = m} c (Some i) a h =
     record {
@@ -61,15 +61,15 @@ call_corner g cycle h a es none e = rw (e, not, corner_enters_cycle, classify_co
 call_corner g cycle h a es (some t) e =
     rw (e, not, corner_enters_cycle, classify_corner) (decide (member t cycle) (member t g.nullable) (is_one h && bare_reference h a))
 
-module _ (names : List ℕ) (c : Cycle) (ws : List ℕ) (end d : ℕ) where
+module _ (c : Cycle) (ws : List ℕ) (end d : ℕ) where
   -- A loop over n elements, with i left: those decide.
   pub record Seeking (n at i p : ℕ) : Type 0 where
-    pub rest : (r : Bool) → Settles names c ws end d i p r → Settles names c ws end d n at r
+    pub rest : (r : Bool) → Settles c ws end d i p r → Settles c ws end d n at r
     pub found : FoundElements ws end d i p
     pub within : p ≤ end
 
-module _ {names : List ℕ} {c : Cycle} {ws : List ℕ} {end d : ℕ} where
-  none_settles : {n at : ℕ} → n ≡ 0 → Settles names c ws end d n at true
+module _ {c : Cycle} {ws : List ℕ} {end d : ℕ} where
+  none_settles : {n at : ℕ} → n ≡ 0 → Settles c ws end d n at true
   unfolding corner_enters_cycle classify_corner
   none_settles {n} {at} z = record { by = λ g cycle t es q s l. go g cycle es (l ∙ z) }
     where
@@ -79,19 +79,19 @@ module _ {names : List ℕ} {c : Cycle} {ws : List ℕ} {end d : ℕ} where
 
   -- The first element decides.
   first_settles : {n at : ℕ} {r : Bool} → (n ≡ 0 → ⊥)
-      → ((g : Grammar) (cycle : List ℕ) → Tells g cycle names c → (e : Element (Block d)) (es : List (Element (Block d))) (q : ℕ)
+      → ((g : Grammar) (cycle : List ℕ) → Tells g cycle c → (e : Element (Block d)) (es : List (Element (Block d))) (q : ℕ)
       → ElementSpans ws end d at e q → r ≡ not (corner_enters_cycle g cycle (e ∷ es)))
-      → Settles names c ws end d n at r
+      → Settles c ws end d n at r
   first_settles {n} {at} {r} z f = record { by = go }
     where
-      go : (g : Grammar) (cycle : List ℕ) → Tells g cycle names c → (es : List (Element (Block d))) (q : ℕ)
+      go : (g : Grammar) (cycle : List ℕ) → Tells g cycle c → (es : List (Element (Block d))) (q : ℕ)
           → Spans ws end (each (encode_element (encode_block d))) (all (ok_element (ok_block d))) at es q → length es ≡ n
           → r ≡ not (corner_enters_cycle g cycle es)
       go g cycle t [] q s l = absurd (z (sym l))
       go g cycle t (e ∷ es) q s l = let u = first_spans s in f g cycle t e es u.0 u.1
 
   module _ {at k p : ℕ} (head : HeadAt ws end at k p) where
-    past_settles : {n : ℕ} → (n ≡ 0 → ⊥) → call_kind < k → Settles names c ws end d n at true
+    past_settles : {n : ℕ} → (n ≡ 0 → ⊥) → call_kind < k → Settles c ws end d n at true
     unfolding corner_enters_cycle classify_corner sort_of leaf_kind
     past_settles z l = first_settles z λ g cycle t e es q s. go g cycle es (opened e s)
       where
@@ -111,12 +111,12 @@ module _ {names : List ℕ} {c : Cycle} {ws : List ℕ} {end d : ℕ} where
             symbol g cycle es h x (let y = leaf_kind_lem x in let a = w.packed in let b = head.kind_is in omega arith)
         go g cycle es (opened_block o w u) = refl
 
-    call_settles : {n w : ℕ} {r : Bool} → (n ≡ 0 → ⊥) → k ≡ call_kind → w ≡ get_or ws p 0 → NameSettles names c w r
-        → Settles names c ws end d n at r
+    call_settles : {n w : ℕ} {r : Bool} → (n ≡ 0 → ⊥) → k ≡ call_kind → w ≡ get_or ws p 0 → NameSettles c w r
+        → Settles c ws end d n at r
     unfolding leaf_kind encode_leaf
     call_settles {n} {w} {r} z l e v = first_settles z λ g cycle t x es q s. go g cycle t es (opened x s)
       where
-        named : (g : Grammar) (cycle : List ℕ) → Tells g cycle names c → (es : List (Element (Block d))) (h : ElementHead) (x : Leaf)
+        named : (g : Grammar) (cycle : List ℕ) → Tells g cycle c → (es : List (Element (Block d))) (h : ElementHead) (x : Leaf)
             {q : ℕ} → leaf_kind x ≡ call_kind → Spans ws end encode_leaf ok_leaf p x q → r ≡ not (corner_enters_cycle g cycle (leaf h x ∷ es))
         named g cycle t es h epsilon m u = absurd (omega arith)
         named g cycle t es h (action a) m u = absurd (omega arith)
@@ -128,7 +128,7 @@ module _ {names : List ℕ} {c : Cycle} {ws : List ℕ} {end d : ℕ} where
         named g cycle t es h terminal m u = absurd (omega arith)
         named g cycle t es h end_of_input m u = absurd (omega arith)
 
-        go : (g : Grammar) (cycle : List ℕ) → Tells g cycle names c → (es : List (Element (Block d))) {x : Element (Block d)} {q : ℕ}
+        go : (g : Grammar) (cycle : List ℕ) → Tells g cycle c → (es : List (Element (Block d))) {x : Element (Block d)} {q : ℕ}
             → Opened ws end d at q x → r ≡ not (corner_enters_cycle g cycle (x ∷ es))
         go g cycle t es (opened_leaf {h = h} {l = x} o y u) =
             let same : o ≡ p = let a = y.place in let b = head.payload_is in omega arith in
@@ -138,7 +138,7 @@ module _ {names : List ℕ} {c : Cycle} {ws : List ℕ} {end d : ℕ} where
 
     -- What takes no input leaves it to those behind.
     silent_settles : {n there : ℕ} {r : Bool} → (n ≡ 0 → ⊥) → k < call_kind → LeafEnd ws end d at p there
-        → Settles names c ws end d (n - 1) there r → Settles names c ws end d n at r
+        → Settles c ws end d (n - 1) there r → Settles c ws end d n at r
     unfolding corner_enters_cycle classify_corner sort_of leaf_kind
     silent_settles {n} {there} {r} z l e v = record { by = go }
       where
@@ -153,7 +153,7 @@ module _ {names : List ℕ} {c : Cycle} {ws : List ℕ} {end d : ℕ} where
         silently g cycle es (opened_leaf {h = h} {l = end_of_input} o w u) = absurd (let x = w.packed in let y = head.kind_is in omega arith)
         silently g cycle es (opened_block o w u) = absurd (let x = w.packed in let y = head.kind_is in omega arith)
 
-        go : (g : Grammar) (cycle : List ℕ) → Tells g cycle names c → (es : List (Element (Block d))) (q : ℕ)
+        go : (g : Grammar) (cycle : List ℕ) → Tells g cycle c → (es : List (Element (Block d))) (q : ℕ)
             → Spans ws end (each (encode_element (encode_block d))) (all (ok_element (ok_block d))) at es q → length es ≡ n
             → r ≡ not (corner_enters_cycle g cycle es)
         go g cycle t [] q s m = absurd (z (sym m))
@@ -161,12 +161,12 @@ module _ {names : List ℕ} {c : Cycle} {ws : List ℕ} {end d : ℕ} where
             let u = first_spans s in
             v.by g cycle t es q (rw (e.is x u.0 u.1) u.2) (omega arith) ∙ silently g cycle es (opened x u.1)
 
-  pub seek_all : {n at : ℕ} → FoundElements ws end d n at → at ≤ end → Seeking names c ws end d n at n at
+  pub seek_all : {n at : ℕ} → FoundElements ws end d n at → at ≤ end → Seeking c ws end d n at n at
   seek_all f l = record { rest = λ r s. s; found = f; within = l }
 
   -- k elements are done.
-  module _ {n at k p : ℕ} (g : Seeking names c ws end d n at (n - k) p) where
-    pub seek_done : n ≤ k → Settles names c ws end d n at true
+  module _ {n at k p : ℕ} (g : Seeking c ws end d n at (n - k) p) where
+    pub seek_done : n ≤ k → Settles c ws end d n at true
     seek_done l = g.rest true (none_settles (omega arith))
 
     module _ (l : k < n) where
@@ -180,14 +180,14 @@ module _ {names : List ℕ} {c : Cycle} {ws : List ℕ} {end d : ℕ} where
       seek_room = element_room d seek_found
 
       module _ {kind q : ℕ} (head : HeadAt ws end p kind q) where
-        pub seek_past : call_kind < kind → Settles names c ws end d n at true
+        pub seek_past : call_kind < kind → Settles c ws end d n at true
         seek_past l = g.rest true (past_settles head left l)
 
-        pub seek_call : {w : ℕ} {r : Bool} → kind ≡ call_kind → w ≡ get_or ws q 0 → NameSettles names c w r → Settles names c ws end d n at r
+        pub seek_call : {w : ℕ} {r : Bool} → kind ≡ call_kind → w ≡ get_or ws q 0 → NameSettles c w r → Settles c ws end d n at r
         seek_call {r = r} l e v = g.rest r (call_settles head left l e v)
 
         pub seek_more : {there : ℕ} → kind < call_kind → LeafEnd ws end d p q there
-            → Seeking names c ws end d n at (n - (k + 1)) there
+            → Seeking c ws end d n at (n - (k + 1)) there
         seek_more {there} m e =
             let less : n - k - 1 ≡ n - (k + 1) = omega arith in
             rw (← less)

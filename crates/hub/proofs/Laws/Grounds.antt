@@ -27,6 +27,7 @@ use Rattle.analysis.specs.declared.rounds.Marks.{Marks}
 use Rattle.analysis.proofs.Laws.Rounded.{is_among}
 use Rattle.hub.specs.Corner.{Tells}
 use Rattle.hub.specs.Grounds.{Known, rules_of, grammar_at}
+use Rattle.hub.specs.declared.cycle.Cycle.{Cycle}
 use Rattle.hub.proofs.Laws.Lists.{first_only}
 
 -- A bit of a row of ids.
@@ -119,16 +120,17 @@ module _ {ws : List ℕ} {end : ℕ} {rules : Rules} (s : Standing ws end rules)
     pub target_none : (m : ℕ) → Nowhere rules.names rules.n m → target grammar m ≡ none
     target_none m w = no_target m (target grammar m) refl w
 
-    pub tells : Tells grammar cycle rules.names (record { n = rules.n; members = members; nullable = nullable })
-    tells =
+    pub tells : (y : Cycle) → y.names.now ≡ rules.names → y.n ≡ rules.n → y.members ≡ members → y.nullable ≡ nullable → Tells grammar cycle y
+    tells y names count inside empty =
         record {
-          unknown = target_none;
+          unknown = λ m w. target_none m (rw (names, count) at w);
           rule = λ m i a.
+              let b : At rules.names rules.n m i = rw (names, count) at a in
               record {
                 id = get_or rules.ids i 0;
-                is = target_at m i a;
-                inside = row_bit c a.below;
-                empty = row_bit o a.below;
+                is = target_at m i b;
+                inside = ap (λ r. bit r i) inside ∙ row_bit c b.below;
+                empty = ap (λ r. bit r i) empty ∙ row_bit o b.below;
               };
         }
 

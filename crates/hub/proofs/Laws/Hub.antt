@@ -6,7 +6,7 @@ use mathlib.Core.Option.{none, some}
 use mathlib.Core.Bool.{Bool, true, ◌&&◌, ◌||◌, not, and-true, true≢false}
 use lib.ListN.{get_or}
 use Rattle.grammar.specs.Tree.{RuleOf, Block, body_depth, inner_depth}
-use Rattle.grammar.specs.Lists.{member, keep, first}
+use Rattle.grammar.specs.Lists.{member, keep, first, any}
 use Rattle.grammar.specs.Laws.Lists.{in_member, member_in, member_append}
 use Rattle.grammar.specs.Laws.Parse.{either}
 use Rattle.graph.specs.Members.{in_keep, keep_in, keep_is_part}
@@ -23,16 +23,25 @@ use Rattle.analysis.specs.Names.{any_below}
 use Rattle.analysis.specs.declared.rounds.Marks.{Marks}
 use Rattle.analysis.proofs.Laws.Standing.{all_rules, id_at, rule_spans}
 use Rattle.hub.specs.Grounds.{Known, rules_of, grammar_at, IsCycle}
-use Rattle.hub.specs.Corner.{Candidates}
+use Rattle.hub.specs.Corner.{Candidates, is_settled}
+use Rattle.hub.specs.declared.cycle.Cycle.{Cycle}
 use Rattle.hub.specs.Calls.{CallsFrom}
 use Rattle.hub.specs.Hub.{HubIs, Chosen}
 use Rattle.hub.proofs.Laws.Lists.{first_none, first_least, kept_any}
 use Rattle.hub.proofs.Laws.Grounds.{row_bit, at_place, place_low, with_id, id_place, tells, call_bit}
 
--- The candidates among the members, by the rules' arrays and a row of nullable rules.
-abbrev CandidatesBy : List ℕ → ℕ → Rules → List ℕ → List ℕ → ℕ → List ℕ → Type 0
-CandidatesBy ws end rules members can n nullable =
-    Candidates rules.names (record { n = n; members = members; nullable = nullable }) ws end rules.places rules.n can
+-- The candidates among the members, by a cycle of the rules' names, these members and a row of nullable rules.
+pub record CandidatesBy (ws : List ℕ) (end : ℕ) (rules : Rules) (members can nullable : List ℕ) : Type 0 where
+  pub cycle : Cycle
+  pub named : cycle.names.now ≡ rules.names
+  pub count : cycle.n ≡ rules.n
+  pub inside : cycle.members ≡ members
+  pub empty : cycle.nullable ≡ nullable
+  pub candidates : Candidates cycle ws end rules.places rules.n can
+
+pub candidates_by : {ws : List ℕ} {end : ℕ} {rules : Rules} {can : List ℕ} (y : Cycle) → y.names.now ≡ rules.names → y.n ≡ rules.n
+    → Candidates y ws end rules.places rules.n can → CandidatesBy ws end rules y.members can y.nullable
+candidates_by y a b f = record { cycle = y; named = a; count = b; inside = refl; empty = refl; candidates = f }
 
 module _ {ws : List ℕ} {end : ℕ} {rules : Rules} {past : Bool} {calls corners : List (List ℕ)} {m : Marks}
     (k : Known ws end rules past calls corners m) {cycle members : List ℕ} (cy : IsCycle ws end rules k.standing cycle members) where
@@ -63,7 +72,7 @@ module _ {ws : List ℕ} {end : ℕ} {rules : Rules} {past : Bool} {calls corner
 
   -- A rule is a candidate.
   can_bit : {can : List ℕ}
-      → CandidatesBy ws end rules members can rules.n m.nullable
+      → CandidatesBy ws end rules members can m.nullable
       → {j : ℕ} → j < rules.n → bit can j ≡ (member (id j) cycle && is_candidate g cycle inner_depth rs (id j))
   unfolding is_candidate grammar_of
   can_bit {can} f {j} l =
@@ -71,7 +80,8 @@ module _ {ws : List ℕ} {end : ℕ} {rules : Rules} {past : Bool} {calls corner
       let s = rule_spans k.standing.rows a in
       let o = subst (λ n. RowOf rules.ids n (nullable_rules body_depth rs) m.nullable) (sym (all_rules k.standing.rows))
       k.facts.nullable in
-      (f.each j l).by g cycle (tells k.standing cy.row o) a.rule s.0 s.1
+      (f.candidates.each j l).by g cycle (tells k.standing cy.row o f.cycle f.named f.count f.inside f.empty) a.rule s.0 s.1
+      ∙ ap (λ r. bit r j && any (is_settled g cycle) a.rule.body) f.inside
       ∙ ap₂ ◌&&◌ (row_bit cy.row l) (sym (rw (with_id k.standing a, is_candidate) refl))
 
   abbrev candidates : List ℕ
@@ -80,7 +90,7 @@ module _ {ws : List ℕ} {end : ℕ} {rules : Rules} {past : Bool} {calls corner
   rises : Rising candidates
   rises = part_rising (keep_is_part (is_candidate g cycle inner_depth rs) cycle) cy.rises
 
-  module _ {can : List ℕ} (f : CandidatesBy ws end rules members can rules.n m.nullable) where
+  module _ {can : List ℕ} (f : CandidatesBy ws end rules members can m.nullable) where
     in_candidates : {j : ℕ} → j < rules.n → bit can j ≡ true → Memᴰ (id j) candidates
     in_candidates {j} l t =
         let b = sym (can_bit f l) ∙ t in
@@ -154,13 +164,13 @@ module _ {ws : List ℕ} {end : ℕ} {rules : Rules} {past : Bool} {calls corner
       )
 
 module _ {ws : List ℕ} {end : ℕ} {rules : Rules} {n : ℕ} {members nullable can : List ℕ} (e : n ≡ rules.n)
-    (f : CandidatesBy ws end rules members can n nullable)
+    (f : CandidatesBy ws end rules members can nullable)
     {calls : List (List ℕ)} {kept w both : List ℕ} (c : CallsFrom calls members kept n w) (b : Meet can w both) where
   -- The answer that was found is the definition's.
   chosen : {r : Option ℕ}
       → ((past : Bool) (corners : List (List ℕ)) (m : Marks) (k : Known ws end rules past calls corners m) (cycle preserved : List ℕ)
       (cy : IsCycle ws end rules k.standing cycle members) (pr : RowOf rules.ids rules.n preserved kept)
-      → CandidatesBy ws end rules members can rules.n m.nullable
+      → CandidatesBy ws end rules members can m.nullable
       → CallsFrom calls members kept rules.n w
       → HubIs rules.ids rules.n members r
       (choose_hub (grammar_at ws end rules k.standing) cycle inner_depth (rules_of ws end rules k.standing) preserved))
@@ -169,8 +179,7 @@ module _ {ws : List ℕ} {end : ℕ} {rules : Rules} {n : ℕ} {members nullable
       record {
         is = λ past corners m k z cycle preserved cy pr.
             h past corners m k cycle preserved cy pr
-            (subst (λ x. CandidatesBy ws end rules members can x m.nullable) e
-            (subst (CandidatesBy ws end rules members can n) (sym z) f))
+            (subst (CandidatesBy ws end rules members can) (sym z) f)
             (subst (λ x. CallsFrom calls members kept x w) e c);
       }
 

@@ -34,10 +34,10 @@ use Rattle.words.specs.Laws.Kinds.{quantifier_named}
 use Rattle.words.specs.declared.numbers.Quantifier.{Quantifier}
 use Rattle.words.specs.declared.numbers.Unnamed.{Unnamed}
 use Rattle.planned.specs.Layout.{made_if}
-use Rattle.steps.specs.Corner.{CycleBy, bare_at, quantifier_at, met_corner, MetIn, met_by, met_member, CallMet, ItemMet}
-use Rattle.steps.specs.declared.corner.Cycle.{Cycle}
-use Rattle.steps.specs.declared.corner.Met.{Met}
-use Rattle.steps.specs.declared.corner.Met.TheVariants.{Silent, Settled}
+use Rattle.steps.specs.Corner.{CycleBy, bare_at, quantifier_at, corner_by, corner_at, met_corner, MetIn, met_by, met_member, CallMet, ItemMet}
+use Rattle.steps.specs.declared.cycle.Cycle.{Cycle}
+use Rattle.steps.specs.declared.corner.Corner.{Corner}
+use Rattle.steps.specs.declared.corner.Corner.TheVariants.{Settled}
 
 -- The definition by the same tests.
 abbrev corner_to : (is_optional bare is_once of_hub : Bool) → ℕ → PlannedCorner
@@ -56,17 +56,17 @@ member_tests : (i : ℕ) (h : ElementHead) (c : Call) (n : ℕ)
 unfolding member_corner
 member_tests i h c n = refl
 
-same_tests : (ids : List ℕ) (t : ℕ) (k : PlannedCorner) (a x b y : Bool) → (a ≡ true → b ≡ true → ⊥)
-    → corner_to a x b y (get_or ids t 0) ≡ met_corner ids (met_by a x b y t) k
-same_tests ids t k true x true y f = absurd (f refl refl)
-same_tests ids t k true true false y f = refl
-same_tests ids t k true false false true f = refl
-same_tests ids t k true false false false f = refl
-same_tests ids t k false x false true f = refl
-same_tests ids t k false x false false f = refl
-same_tests ids t k false x true true f = refl
-same_tests ids t k false true true false f = refl
-same_tests ids t k false false true false f = refl
+same_tests : (ids : List ℕ) (t : ℕ) (a x b y : Bool) → (a ≡ true → b ≡ true → ⊥)
+    → corner_to a x b y (get_or ids t 0) ≡ corner_by ids (corner_at 0 (met_by a x b y t))
+same_tests ids t true x true y f = absurd (f refl refl)
+same_tests ids t true true false y f = refl
+same_tests ids t true false false true f = refl
+same_tests ids t true false false false f = refl
+same_tests ids t false x false true f = refl
+same_tests ids t false x false false f = refl
+same_tests ids t false x true true f = refl
+same_tests ids t false true true false f = refl
+same_tests ids t false false true false f = refl
 
 module _ (c : Cycle) {t : ℕ} (l : t < c.n) (m : bit c.members t ≡ true) where
   met_by_lem : (a x b y : Bool) → eqb t c.hub ≡ y → MetIn c (met_by a x b y t)
@@ -111,7 +111,7 @@ module _ {names : List ℕ} {name : ℕ} {r : P.Option ℕ} (c : Cycle) (a : IsT
           member = tt;
         }
 
-    pub call_member : {x : Bool} {m : Met} → x ≡ bit c.members t → x ≡ true → m ≡ met_member bare q t c.hub → CallMet names c name bare q m
+    pub call_member : {x : Bool} {m : Corner ℕ} → x ≡ bit c.members t → x ≡ true → m ≡ met_member bare q t c.hub → CallMet names c name bare q m
     call_member {m = m} f x y =
         let w = a.rule t e in
         record {
@@ -124,14 +124,14 @@ module _ {names : List ℕ} {name : ℕ} {r : P.Option ℕ} (c : Cycle) (a : IsT
         meant : (g : Grammar) (cycle ids : List ℕ) → CycleBy g cycle ids names c → (d : ℕ) (h : ElementHead) (k : Call) → h.quantifier ≡ q
             → bare_reference h k ≡ bare → (es : List (Element (Block d))) → t < c.n
             → member_corner (get_or ids c.hub 0) h k (get_or ids t 0)
-            ≡ met_corner ids m (planned_corner g cycle (get_or ids c.hub 0) es)
+            ≡ corner_by ids (corner_at 0 m)
         meant g cycle ids b d h k u v es l =
             let same : met_member (bare_reference h k) h.quantifier t c.hub ≡ m = rw (v, u) (sym y) in
             member_tests (get_or ids c.hub 0) h k (get_or ids t 0)
             ∙ rw (b.hub t l)
-            (same_tests ids t (planned_corner g cycle (get_or ids c.hub 0) es) (eqb h.quantifier optional_greedy) (bare_reference h k)
+            (same_tests ids t (eqb h.quantifier optional_greedy) (bare_reference h k)
             (is_one h) (eqb t c.hub) (λ i j. let z = eqb-true h.quantifier 1 i in let w = eqb-true h.quantifier 0 j in absurd (omega arith)))
-            ∙ ap (λ z. met_corner ids z (planned_corner g cycle (get_or ids c.hub 0) es)) same
+            ∙ ap (λ z. corner_by ids (corner_at 0 z)) same
 
 pub target_low : {names : List ℕ} {n m : ℕ} {r : P.Option ℕ} → IsTarget names n m r → {i : ℕ} → r ≡ P.Some i → n ≤ rule_limit → i < rule_limit
 target_low a {i} e l = let b = (a.rule i e).below in omega arith
@@ -175,7 +175,7 @@ module _ {ws : List ℕ} {end at p q kind : ℕ} {h : ElementHead} (w : HeadWord
 
 -- One element of the list.
 module _ {names : List ℕ} {c : Cycle} {ws : List ℕ} {end at k p : ℕ} (d : ℕ) (made : Bool) (head : HeadAt ws end at k p) where
-  pub item_past : call_kind < k → ItemMet names c ws end d at made Settled
+  pub item_past : call_kind < k → ItemMet names c ws end d at made (P.Some Settled)
   unfolding planned_corner sort_of leaf_kind plain
   item_past l = record { is = λ g cycle ids b e q s es. go g cycle ids es made (opened e s); member = tt }
     where
@@ -197,7 +197,7 @@ module _ {names : List ℕ} {c : Cycle} {ws : List ℕ} {end at k p : ℕ} (d : 
       go g cycle ids es true (opened_block o w u) = refl
       go g cycle ids es false (opened_block o w u) = refl
 
-  pub item_silent : k < call_kind → ItemMet names c ws end d at made Silent
+  pub item_silent : k < call_kind → ItemMet names c ws end d at made P.None
   unfolding planned_corner sort_of leaf_kind plain
   item_silent l = record { is = λ g cycle ids b e q s es. go g cycle ids es made (opened e s); member = tt }
     where
@@ -218,8 +218,8 @@ module _ {names : List ℕ} {c : Cycle} {ws : List ℕ} {end at k p : ℕ} (d : 
           either b (λ t. rw t (silent g cycle ids es _ x m)) (λ t. rw t (silent g cycle ids es h x m))
       go g cycle ids es b (opened_block o w u) = absurd (let a = w.packed in let z = head.kind_is in omega arith)
 
-  pub item_call : {n m : ℕ} {bare : Bool} {r : Met} → k ≡ call_kind → n ≡ get_or ws p 0 → bare ≡ bare_at ws at p
-      → m ≡ quantifier_at ws at made → CallMet names c n bare m r → ItemMet names c ws end d at made r
+  pub item_call : {n m : ℕ} {bare : Bool} {r : Corner ℕ} → k ≡ call_kind → n ≡ get_or ws p 0 → bare ≡ bare_at ws at p
+      → m ≡ quantifier_at ws at made → CallMet names c n bare m r → ItemMet names c ws end d at made (P.Some r)
   unfolding leaf_kind encode_leaf plain bare_reference
   item_call {n} {r = r} x e eb em v = record { is = λ g cycle ids b t q s es. go g cycle ids b es (opened t s); member = v.member }
     where
@@ -227,7 +227,7 @@ module _ {names : List ℕ} {c : Cycle} {ws : List ℕ} {end at k p : ℕ} (d : 
           {q kind : ℕ} → HeadWords ws end at h kind p → kind ≡ call_kind → Spans ws end encode_leaf ok_leaf p (call a) q
           → (b : Bool) → made ≡ b
           → planned_corner g cycle (get_or ids c.hub 0) (made_if b (leaf h (call a)) ∷ es)
-          ≡ met_corner ids r (planned_corner g cycle (get_or ids c.hub 0) es)
+          ≡ met_corner ids (P.Some r) (planned_corner g cycle (get_or ids c.hub 0) es)
       named g cycle ids by es h a w z u true m =
           v.is g cycle ids by d (plain_head h) a (sym (stands_head u.stands) ∙ sym e) (sym (em ∙ rw m refl)) (bare_is w a u ∙ sym eb) es
       named g cycle ids by es h a w z u false m =
@@ -238,7 +238,7 @@ module _ {names : List ℕ} {c : Cycle} {ws : List ℕ} {end at k p : ℕ} (d : 
       leafy : (g : Grammar) (cycle ids : List ℕ) → CycleBy g cycle ids names c → (es : List (Element (Block d))) (h : ElementHead) (a : Leaf)
           {q kind : ℕ} → HeadWords ws end at h kind p → kind ≡ call_kind → leaf_kind a ≡ call_kind → Spans ws end encode_leaf ok_leaf p a q
           → planned_corner g cycle (get_or ids c.hub 0) (made_if made (leaf h a) ∷ es)
-          ≡ met_corner ids r (planned_corner g cycle (get_or ids c.hub 0) es)
+          ≡ met_corner ids (P.Some r) (planned_corner g cycle (get_or ids c.hub 0) es)
       leafy g cycle ids by es h epsilon w z m u = absurd (omega arith)
       leafy g cycle ids by es h (action a) w z m u = absurd (omega arith)
       leafy g cycle ids by es h (predicate a) w z m u = absurd (omega arith)
@@ -250,7 +250,7 @@ module _ {names : List ℕ} {c : Cycle} {ws : List ℕ} {end at k p : ℕ} (d : 
       go : (g : Grammar) (cycle ids : List ℕ) → CycleBy g cycle ids names c → (es : List (Element (Block d))) {t : Element (Block d)} {q : ℕ}
           → Opened ws end d at q t
           → planned_corner g cycle (get_or ids c.hub 0) (made_if made t ∷ es)
-          ≡ met_corner ids r (planned_corner g cycle (get_or ids c.hub 0) es)
+          ≡ met_corner ids (P.Some r) (planned_corner g cycle (get_or ids c.hub 0) es)
       go g cycle ids by es (opened_leaf {h = h} {l = a} o w u) =
           let same : o ≡ p = let f = w.place in let i = head.payload_is in omega arith in
           let f = leaf_kind_lem a in

@@ -15,11 +15,12 @@ use Rattle.planned.specs.Layout.{meaning, elements_from}
 use Rattle.planned.specs.List.{ListedIn}
 use Rattle.planned.specs.Reading.{ItemIs}
 use Rattle.planned.specs.declared.list.Listed.{Listed}
-use Rattle.steps.specs.Corner.{CycleBy, met_corner, ItemMet, CornerAt}
-use Rattle.steps.specs.declared.corner.Cycle.{Cycle}
-use Rattle.steps.specs.declared.corner.Met.{Met}
-use Rattle.steps.specs.declared.corner.Met.TheVariants.{Silent, Settled, Blocked, Optional, Satellite}
-use Rattle.steps.specs.declared.corner.Corner.TheVariants as C
+use Rattle.std.specs.Prelude.{Option, None, Some}
+use Rattle.steps.specs.Corner.{CycleBy, corner_by, CornerIn, corner_at, met_corner, MetIn, ItemMet, CornerAt}
+use Rattle.steps.specs.declared.cycle.Cycle.{Cycle}
+use Rattle.steps.specs.declared.corner.Place.{Place}
+use Rattle.steps.specs.declared.corner.Corner.{Corner}
+use Rattle.steps.specs.declared.corner.Corner.TheVariants.{Settled, Blocked, Optional, Satellite}
 
 -- A corner with i silent elements more in front.
 unfoldable pub shifted : ℕ → PlannedCorner → PlannedCorner
@@ -46,6 +47,20 @@ unfolding shifted further
 shift_satellite zero j t = ap (λ k. satellite k t) (omega arith)
 shift_satellite (suc i) j t = shift_satellite i (suc j) t ∙ ap (λ k. satellite k t) (omega arith)
 
+-- What is met at an element behind i silent ones.
+shift_met : (ids : List ℕ) (i : ℕ) (r : Corner ℕ) → shifted i (corner_by ids (corner_at 0 r)) ≡ corner_by ids (corner_at i r)
+shift_met ids i Settled = shift_settled i
+shift_met ids i Blocked = shift_blocked i
+shift_met ids i (Optional t) = shift_optional i 0 (get_or ids t 0) ∙ ap (λ k. optional k (get_or ids t 0)) (omega arith)
+shift_met ids i (Satellite t) = shift_satellite i 0 (get_or ids t 0) ∙ ap (λ k. satellite k (get_or ids t 0)) (omega arith)
+
+-- It is in range.
+met_within : (c : Cycle) {n i : ℕ} (r : Corner ℕ) → i < n → MetIn c r → CornerIn c n (corner_at i r)
+met_within c Settled l m = tt
+met_within c Blocked l m = tt
+met_within c (Optional t) l m = record { index = l; rule = m.0; member = m.1 }
+met_within c (Satellite t) l m = (record { index = l; rule = m.0; member = m.1 }, m.2)
+
 count_elements : (ws : List ℕ) (end d : ℕ) (bs : List ℕ) (at n : ℕ) → length (elements_from ws end d bs at n) ≡ n
 unfolding elements_from
 count_elements ws end d bs at zero = refl
@@ -67,7 +82,7 @@ module _ (names : List ℕ) (c : Cycle) (ws : List ℕ) (end d : ℕ) (bs : List
 
 module _ {names : List ℕ} {c : Cycle} {ws : List ℕ} {end d : ℕ} {bs : List ℕ} {x : Listed} {i : ℕ}
     (s : Seeking names c ws end d bs x i) where
-  pub seek_end : x.ne ≤ i → CornerAt names c ws end d bs x C.Settled
+  pub seek_end : x.ne ≤ i → CornerAt names c ws end d bs x Settled
   unfolding meaning planned_corner
   seek_end h =
       record {
@@ -81,7 +96,7 @@ module _ {names : List ℕ} {c : Cycle} {ws : List ℕ} {end d : ℕ} {bs : List
 
   module _ {at : ℕ} {made : Bool} (l : i < x.ne) (f : ListedIn ws end d bs x) (t : ItemIs bs x i at made) where
     -- What is met at the element decides.
-    met : {m : Met} → ItemMet names c ws end d at made m → (g : Grammar) (cycle ids : List ℕ) → CycleBy g cycle ids names c
+    met : {m : Option (Corner ℕ)} → ItemMet names c ws end d at made m → (g : Grammar) (cycle ids : List ℕ) → CycleBy g cycle ids names c
         → planned_corner g cycle (get_or ids c.hub 0) (es names c ws end d bs x)
         ≡ shifted i (met_corner ids m (planned_corner g cycle (get_or ids c.hub 0) (drop (i + 1) (es names c ws end d bs x))))
     met m g cycle ids b =
@@ -90,39 +105,22 @@ module _ {names : List ℕ} {c : Cycle} {ws : List ℕ} {end d : ℕ} {bs : List
         ∙ ap (λ zs. shifted i (planned_corner g cycle (get_or ids c.hub 0) zs)) (u.here u.found.tree u.found.next u.found.spans)
         ∙ ap (shifted i) (m.is g cycle ids b u.found.tree u.found.next u.found.spans _)
 
-    pub seek_silent : {k : Met} → ItemMet names c ws end d at made k → k ≡ Silent → Seeking names c ws end d bs x (i + 1)
+    pub seek_silent : {k : Option (Corner ℕ)} → ItemMet names c ws end d at made k → k ≡ None → Seeking names c ws end d bs x (i + 1)
     unfolding shifted
     seek_silent w e =
         let m = rw e at w in
         record { is = λ g cycle ids b. met m g cycle ids b ∙ rw (add-one i) refl; within = omega arith }
 
-    pub seek_settled : {k : Met} → ItemMet names c ws end d at made k → k ≡ Settled → CornerAt names c ws end d bs x C.Settled
-    seek_settled w e = let m = rw e at w in record { is = λ g cycle ids b. met m g cycle ids b ∙ shift_settled i; within = tt }
-
-    pub seek_blocked : {k : Met} → ItemMet names c ws end d at made k → k ≡ Blocked → CornerAt names c ws end d bs x C.Blocked
-    seek_blocked w e = let m = rw e at w in record { is = λ g cycle ids b. met m g cycle ids b ∙ shift_blocked i; within = tt }
-
-    pub seek_optional : {k : Met} {t : ℕ} → ItemMet names c ws end d at made k → k ≡ Optional t
-        → CornerAt names c ws end d bs x (C.Optional (record { index = i; target = t }))
-    seek_optional {t = t} w e =
-        let m = rw e at w in
-        record {
-          is = λ g cycle ids b. met m g cycle ids b ∙ shift_optional i 0 (get_or ids t 0) ∙ ap (λ k. optional k (get_or ids t 0)) (omega arith);
-          within = record { index = l; rule = m.member.0; member = m.member.1 };
-        }
-
-    pub seek_satellite : {k : Met} {t : ℕ} → ItemMet names c ws end d at made k → k ≡ Satellite t
-        → CornerAt names c ws end d bs x (C.Satellite (record { index = i; target = t }))
-    seek_satellite {t = t} w e =
-        let m = rw e at w in
-        record {
-          is = λ g cycle ids b. met m g cycle ids b ∙ shift_satellite i 0 (get_or ids t 0) ∙ ap (λ k. satellite k (get_or ids t 0)) (omega arith);
-          within = (record { index = l; rule = m.member.0; member = m.member.1 }, m.member.2);
-        }
+    pub seek_met : {k : Option (Corner ℕ)} {r : Corner ℕ} {q : Corner Place} → ItemMet names c ws end d at made k → k ≡ Some r
+        → q ≡ corner_at i r → CornerAt names c ws end d bs x q
+    seek_met {r = r} w e z =
+        let m : ItemMet names c ws end d at made (Some r) = rw e at w in
+        rw z
+        (record { is = λ g cycle ids b. met m g cycle ids b ∙ shift_met ids i r; within = met_within c r l m.member })
 
 -- The element stands in the sheet.
 pub item_found : {ws : List ℕ} {end d : ℕ} {bs : List ℕ} {x : Listed} {i at : ℕ} {made : Bool} → ListedIn ws end d bs x → ItemIs bs x i at made
     → FoundElement ws end d at
 item_found {ws} {end} {d} f t = (t.is ws end d f).found
 
-pub ruleset seeking = (item_found, seek_none, seek_end, seek_silent, seek_settled, seek_blocked, seek_optional, seek_satellite)
+pub ruleset seeking = (item_found, seek_none, seek_end, seek_silent, seek_met)

@@ -5,4 +5,4 @@ use Rattle.hub.proofs.Laws.Able.{Trying}
 use Rattle.hub.proofs.corner.any_settled.Given as goal
 
 abbrev pub invariant-loop : goal.invariant-loop
-invariant-loop l = Trying l.names l.c (text l.s) l.s.end inner_depth l.n l.at (l.n - l.counter) l.p
+invariant-loop l = Trying l.c (text l.s) l.s.end inner_depth l.n l.at (l.n - l.counter) l.p

@@ -1,0 +1,17 @@
+// A cycle whose corners are looked at.
+ghost use Rattle.std.specs.Prelude.{◌≤◌};
+ghost use Rattle.grammar.specs.Numbers.{rule_limit};
+ghost use Rattle.analysis.specs.Names.{Told};
+
+use reach::rows::Row;
+
+// A cycle among n rules: their names by place, which rules are its members, and which rules are nullable.
+#[derive(Clone, Copy, Debug, PartialEq, Eq)]
+pub struct Cycle<'a> {
+    pub names: &'a [u32],
+    pub n: usize,
+    pub members: [u64; Row::WORDS],
+    pub nullable: [u64; Row::WORDS],
+    ghost few: { n ≤ rule_limit },
+    ghost told: { Told names.now n },
+}
