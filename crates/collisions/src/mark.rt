@@ -82,10 +82,8 @@ impl Marker<'_> {
             (text s.now) s.now.end n at (marks_of (text s.now) self.old.work.now self.old.dangling)
             (marks_of (text s.now) self.new.work.now self.new.dangling) }
     {
-        let mut p: usize = at;
-        for _ in 0..n {
-            self.mark_reference(s, p);
-            p += 2;
+        for i in 0..n {
+            self.mark_reference(s, at + 2 * (i as usize));
         }
     }
 
