@@ -4,7 +4,7 @@ ghost use Rattle.grammar.specs.Numbers.{most_words};
 ghost use Rattle.grammar.specs.Tree.{inner_depth};
 ghost use Rattle.grammar.specs.Found.{FoundRule};
 ghost use Rattle.words.specs.Room.{Room};
-ghost use Rattle.planned.specs.List.{Laid, Located, Movable, InHand, InList, HasRoom};
+ghost use Rattle.planned.specs.List.{Laid, Located, Movable, InHand, HasRoom};
 ghost use Rattle.splices.specs.Splice.{HandIn};
 ghost use Rattle.steps.specs.Decide.{SmallSize};
 ghost use Rattle.turns.specs.Ground.{Grounded};
@@ -14,7 +14,8 @@ ghost use Rattle.turns.specs.Midway.{Shut, Ready, HasNext, With, within, Held, C
 ghost use Rattle.words.specs.Sheet.{text};
 
 use crate::limits::Limits;
-use crate::state::{State, Taken, put_settled, take};
+use crate::state::{State, put_settled, take};
+use crate::taken::Taken;
 use crate::task::Task;
 use planned::hand::{into_hand, push_split};
 use planned::list::{Listed, Sizes};
@@ -27,7 +28,6 @@ use words::sheet::Sheet;
 // The alternative that was taken comes into the hand.
 fn hold(work: &mut [u8], t: Taken) -> Listed
     requires laid { Laid work.old t.st.l × Located work.old t.x × Movable t.st.l t.x }
-    requires in_hand { (t.hand ≡ true → InHand t.x) × (t.hand ≡ false → InList t.x) }
     ensures { Held work.old work.new t.st t.x result }
 {
     let x = t.x;
@@ -145,7 +145,6 @@ fn step_in_hand(
 fn step(s: &Sheet, limits: Limits, work: &mut [u8], t: Taken, k: Call) -> Result<State, Unplanned>
     requires bounds { (s.now.end ≤ most_words) × (k.index < t.x.ne) }
     requires shut { Shut (With (text s.now) s.now.end work.old t.st t.x) }
-    requires in_hand { (t.hand ≡ true → InHand t.x) × (t.hand ≡ false → InList t.x) }
     requires called { Called (text s.now) s.now.end work.old t.x k.index k.name k.at (splits k.step) }
     ensures { SteppedTo (text s.now) s.now.end work.old work.new t.st t.x k.index k.at (splits k.step) limits result }
 {
@@ -168,7 +167,6 @@ fn step_at(
 ) -> Result<State, Unplanned>
     requires bounds { task.now.s.now.end ≤ most_words }
     requires shut { Shut (With (text task.now.s.now) task.now.s.now.end work.old t.st t.x) }
-    requires in_hand { (t.hand ≡ true → InHand t.x) × (t.hand ≡ false → InList t.x) }
     requires called_at { CalledAt (text task.now.s.now) task.now.s.now.end work.old task.now.names.now task.now.places.now
         t.x p (splits by) }
     ensures { SteppedTo (text task.now.s.now) task.now.s.now.end work.old work.new t.st t.x p.index
@@ -192,7 +190,6 @@ pub fn stuck(budget: usize) -> Clause
 fn act(task: &Task, limits: Limits, work: &mut [u8], t: Taken) -> Result<State, Unplanned>
     requires bounds { task.now.s.now.end ≤ most_words }
     requires shut { Shut (With (text task.now.s.now) task.now.s.now.end work.old t.st t.x) }
-    requires in_hand { (t.hand ≡ true → InHand t.x) × (t.hand ≡ false → InList t.x) }
     requires grounded { Shut (Grounded task.now) }
     ensures { ActedOn (text task.now.s.now) task.now.s.now.end task.now.names.now task.now.places.now task.now.c limits
         work.old work.new t.st t.x result }
