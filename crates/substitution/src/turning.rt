@@ -57,7 +57,6 @@ fn stored(
     first: State,
     work: &mut [u8],
 ) -> Result<Option<Done>, Unplanned>
-    requires bounds { task.now.s.now.end ≤ most_words }
     requires shut { Shut (Ready (text task.now.s.now) task.now.s.now.end work.old first 0 0 0) }
     requires grounded { Shut (Grounded task.now) }
     requires going { Shut (Going (text task.now.s.now) task.now.s.now.end task.now.names.now task.now.places.now task.now.c limits
@@ -81,7 +80,7 @@ fn run(
     budget: usize,
     work: &mut [u8],
 ) -> Result<Option<Done>, Unplanned>
-    requires bounds { (task.now.s.now.end ≤ most_words) × (work_bytes ≤ length work.old) }
+    requires bounds { work_bytes ≤ length work.old }
     requires grounded { Shut (Grounded task.now) }
     ensures { MadeOf (text task.now.s.now) task.now.s.now.end task.now.names.now task.now.places.now task.now.c limits
         budget work.new result }

@@ -1,5 +1,6 @@
 // What a substitution is made on, but for its limits.
-ghost use Rattle.std.specs.Prelude.{◌≡◌, ◌<◌, length};
+ghost use Rattle.std.specs.Prelude.{◌≡◌, ◌<◌, ◌≤◌, length};
+ghost use Rattle.grammar.specs.Numbers.{most_words};
 ghost use Rattle.turns.specs.Called.{call_of};
 
 use analysis::names::index;
@@ -15,6 +16,7 @@ pub struct Task<'a> {
     pub names: &'a [u32],
     pub places: &'a [u32],
     pub c: Cycle,
+    ghost few: { s.now.end ≤ most_words },
 }
 
 impl Task<'_> {

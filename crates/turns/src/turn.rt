@@ -165,7 +165,6 @@ fn step_at(
     p: Place,
     by: Step,
 ) -> Result<State, Unplanned>
-    requires bounds { task.now.s.now.end ≤ most_words }
     requires shut { Shut (With (text task.now.s.now) task.now.s.now.end work.old t.st t.x) }
     requires called_at { CalledAt (text task.now.s.now) task.now.s.now.end work.old task.now.names.now task.now.places.now
         t.x p (splits by) }
@@ -188,7 +187,6 @@ pub fn stuck(budget: usize) -> Clause
 
 // What was taken is settled, or a step is made on it.
 fn act(task: &Task, limits: Limits, work: &mut [u8], t: Taken) -> Result<State, Unplanned>
-    requires bounds { task.now.s.now.end ≤ most_words }
     requires shut { Shut (With (text task.now.s.now) task.now.s.now.end work.old t.st t.x) }
     requires grounded { Shut (Grounded task.now) }
     ensures { ActedOn (text task.now.s.now) task.now.s.now.end task.now.names.now task.now.places.now task.now.c limits
@@ -211,7 +209,7 @@ pub fn take_turn(
     work: &mut [u8],
     st: State,
 ) -> Result<State, Unplanned>
-    requires bounds { (task.now.s.now.end ≤ most_words) × HasNext st }
+    requires bounds { HasNext st }
     requires shut { Shut (Ready (text task.now.s.now) task.now.s.now.end work.old st 0 0 0) }
     requires grounded { Shut (Grounded task.now) }
     ensures { TurnedTo (text task.now.s.now) task.now.s.now.end task.now.names.now task.now.places.now task.now.c limits
