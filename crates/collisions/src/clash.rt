@@ -12,7 +12,7 @@ ghost use Rattle.collisions.specs.Clash.{clash_label, clash_leaf, comparing, Nam
 ghost use Rattle.words.specs.Kinds.{kind_number};
 ghost use Rattle.words.specs.Sheet.{text};
 
-use crate::names::{Set, has};
+use crate::names::{Names, Set};
 use words::numbers::{Block, Kind};
 use words::sheet::Sheet;
 use words::visit::{Visitor, walk_alternative};
@@ -47,8 +47,9 @@ impl Comparer<'_> {
         if name == 0 {
             return;
         }
-        self.found.label |= has(s, self.work, Set::Labels, name);
-        self.found.binding |= has(s, self.work, Set::References, name);
+        let names = Names { s, work: self.work };
+        self.found.label |= names.has(Set::Labels, name);
+        self.found.binding |= names.has(Set::References, name);
     }
 
     // A name that a call or a token binds.
@@ -57,7 +58,8 @@ impl Comparer<'_> {
         ensures same_names { self.old.work.now ≡ self.new.work.now }
         ensures bound { NameBound (text s.now) self.old.work.now name self.old.found self.new.found }
     {
-        self.found.binding |= has(s, self.work, Set::References, name);
+        let names = Names { s, work: self.work };
+        self.found.binding |= names.has(Set::References, name);
     }
 
     // An element that is no block.
