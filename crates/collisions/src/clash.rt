@@ -12,7 +12,7 @@ ghost use Rattle.collisions.specs.Clash.{clash_label, clash_leaf, comparing, Nam
 ghost use Rattle.words.specs.Kinds.{kind_number};
 ghost use Rattle.words.specs.Sheet.{text};
 
-use crate::names::{Set, has};
+use crate::names::{Names, Set};
 use words::numbers::{Block, Kind};
 use words::sheet::Sheet;
 use words::visit::{Visitor, walk_alternative};
@@ -47,8 +47,9 @@ impl Comparer<'_> {
         if name == 0 {
             return;
         }
-        self.found.label |= has(s, self.work, Set::Labels, name);
-        self.found.binding |= has(s, self.work, Set::References, name);
+        let names = Names { s, work: self.work };
+        self.found.label |= names.has(Set::Labels, name);
+        self.found.binding |= names.has(Set::References, name);
     }
 
     // A name that a call or a token binds.
@@ -57,20 +58,21 @@ impl Comparer<'_> {
         ensures same_names { self.old.work.now ≡ self.new.work.now }
         ensures bound { NameBound (text s.now) self.old.work.now name self.old.found self.new.found }
     {
-        self.found.binding |= has(s, self.work, Set::References, name);
+        let names = Names { s, work: self.work };
+        self.found.binding |= names.has(Set::References, name);
     }
 
-    // An element that is no block; its payload stands at `payload`.
-    fn see_leaf(&mut self, s: &Sheet, depth: u32, at: usize, kind: Kind, payload: usize)
+    // An element that is no block.
+    fn see_leaf(&mut self, s: &Sheet, depth: u32, at: usize, head: Head)
         requires bounds { Ordered (text s.now) s.now.end self.old.work.now }
-        requires head_at { HeadAt (text s.now) s.now.end at (kind_number kind) payload × (kind_number kind ≡ block_kind → ⊥)
+        requires head_at { HeadAt (text s.now) s.now.end at (kind_number head.kind) head.payload × (kind_number head.kind ≡ block_kind → ⊥)
             × FoundElement (text s.now) s.now.end depth at }
         ensures same_names { self.old.work.now ≡ self.new.work.now }
-        ensures seen { LeafSeen (text s.now) s.now.end (kind_number kind) payload
+        ensures seen { LeafSeen (text s.now) s.now.end (kind_number head.kind) head.payload
             (clash_leaf (has_name (text s.now) self.old.work.now references_bit)) self.old.found self.new.found }
     {
-        match kind {
-            Kind::Call | Kind::Token => self.bind(s, word(s.bytes, payload)),
+        match head.kind {
+            Kind::Call | Kind::Token => self.bind(s, word(s.bytes, head.payload)),
             _ => {}
         }
     }
@@ -89,7 +91,7 @@ impl Visitor for Comparer<'_> {
 
     fn leaf(&mut self, s: &Sheet, depth: u32, at: usize, head: Head) {
         self.see_label(s, depth, at);
-        self.see_leaf(s, depth, at, head.kind, head.payload);
+        self.see_leaf(s, depth, at, head);
     }
 
     fn enter_block(&mut self, s: &Sheet, depth: u32, at: usize, _head: Head) {

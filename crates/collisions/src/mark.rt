@@ -18,7 +18,7 @@ use crate::names::{Set, clear_both, put};
 use crate::references::reference_count;
 use planned::list::Listed;
 use planned::read::item;
-use words::numbers::{Block, Kind, ReferenceKind};
+use words::numbers::{Block, ReferenceKind};
 use words::sheet::Sheet;
 use words::visit::{Visitor, walk_element};
 use words::walk::Head;
@@ -82,27 +82,25 @@ impl Marker<'_> {
             (text s.now) s.now.end n at (marks_of (text s.now) self.old.work.now self.old.dangling)
             (marks_of (text s.now) self.new.work.now self.new.dangling) }
     {
-        let mut p: usize = at;
-        for _ in 0..n {
-            self.mark_reference(s, p);
-            p += 2;
+        for i in 0..n {
+            self.mark_reference(s, at + 2 * (i as usize));
         }
     }
 
-    // An element that is no block; its payload stands at `payload`.
-    fn mark_leaf(&mut self, s: &Sheet, depth: u32, at: usize, kind: Kind, payload: usize)
+    // An element that is no block.
+    fn mark_leaf(&mut self, s: &Sheet, depth: u32, at: usize, head: Head)
         requires bounds { Ordered (text s.now) s.now.end self.old.work.now }
-        requires head_at { HeadAt (text s.now) s.now.end at (kind_number kind) payload × (kind_number kind ≡ block_kind → ⊥)
+        requires head_at { HeadAt (text s.now) s.now.end at (kind_number head.kind) head.payload × (kind_number head.kind ≡ block_kind → ⊥)
             × FoundElement (text s.now) s.now.end depth at }
         ensures same_buffer { self.old.work.ghost_name ≡ self.new.work.ghost_name }
         ensures same_name { self.old.name ≡ self.new.name }
         ensures marked { Kept (text s.now) s.now.end self.old.work.now self.new.work.now × LeafSeen
-            (text s.now) s.now.end (kind_number kind) payload (mark_leaf self.old.name)
+            (text s.now) s.now.end (kind_number head.kind) head.payload (mark_leaf self.old.name)
             (marks_of (text s.now) self.old.work.now self.old.dangling) (marks_of (text s.now) self.new.work.now self.new.dangling) }
     {
-        let n = reference_count(s, depth, at, kind, payload);
+        let n = reference_count(s, depth, at, head);
         if n != 0 {
-            self.mark_references(s, n, payload + 2);
+            self.mark_references(s, n, head.payload + 2);
         }
     }
 
@@ -139,7 +137,7 @@ impl Visitor for Marker<'_> {
 
     fn leaf(&mut self, s: &Sheet, depth: u32, at: usize, head: Head) {
         self.mark_label(s, depth, at);
-        self.mark_leaf(s, depth, at, head.kind, head.payload);
+        self.mark_leaf(s, depth, at, head);
     }
 
     fn enter_block(&mut self, s: &Sheet, depth: u32, at: usize, _head: Head) {

@@ -11,12 +11,17 @@ use planned::halves::{half, move_halves, put_half};
 use words::sheet::Sheet;
 use words::words::word;
 
-// Stays: that the names rise is a clause of each function. A value that knew it would hold the sheet and the whole lent work area; but a
-// walk hands its visitor the sheet at each step, and the planned list, which is read between two names, stands in the same area.
-#[derive(Drop)]
-pub struct Names;
+// A sheet, and a work area that has places of it in the order of their names.
+// Stays: who puts names or walks asks for that order in a clause. A walk hands its visitor the sheet at each step, and the planned
+// list, which is read between two names, stands in the same area; so this value is made for one look.
+#[derive(Clone, Copy, Debug, PartialEq, Eq)]
+pub struct Names<'a> {
+    pub s: &'a Sheet<'a>,
+    pub work: &'a [u8],
+    ghost ordered: { Ordered (text s.now) s.now.end work.now },
+}
 
-impl Names {
+impl Names<'_> {
     // The halves that say where the entries begin and where they end.
     pub const LOW: usize = 24576;
 
@@ -29,6 +34,61 @@ impl Names {
     pub const MIDDLE: u16 = 28672;
     // Places are below this.
     pub const PLACES: u16 = 8192;
+
+    // The i-th name.
+    fn name_at(&self, i: usize) -> u32
+        requires { i < count_in self.now.work.now }
+        ensures { result ≡ name_at (text self.now.s.now) self.now.work.now i }
+    {
+        word(self.s.bytes, place(entry_at(self.work, i)))
+    }
+
+    // How many entries have names below a name: by halving.
+    // Stays: std's search by halving asks for a key of any two bytes, and not all are a place in the sheet; a test of that at each
+    // step is no plainer than the loop.
+    fn find(&self, name: u32) -> usize
+        ensures { Parted (text self.now.s.now) self.now.work.now name result }
+    {
+        let mut low: usize = 0;
+        let mut high = count(self.work);
+        while low < high {
+            let middle = low + (high - low) / 2;
+            let w = self.name_at(middle);
+            if w < name {
+                low = middle + 1;
+            } else {
+                high = middle;
+            }
+        }
+        low
+    }
+
+    // Whether the entry behind those below a name has it.
+    fn is_at(&self, name: u32, k: usize) -> bool
+        requires { Parted (text self.now.s.now) self.now.work.now name k }
+        ensures { IsAt (text self.now.s.now) self.now.work.now name k result }
+    {
+        k < count(self.work) && self.name_at(k) == name
+    }
+
+    // Where a name stands among the entries; or where it would stand.
+    fn look(&self, name: u32) -> Result<usize, usize>
+        ensures { MatchResult result (λ k. IsAt (text self.now.s.now) self.now.work.now name k true)
+            (λ k. IsAt (text self.now.s.now) self.now.work.now name k false) }
+    {
+        let k = self.find(name);
+        if self.is_at(name, k) { Ok(k) } else { Err(k) }
+    }
+
+    // Whether a set has a name.
+    pub fn has(&self, set: Set, name: u32) -> bool
+        ensures { result ≡ has_name (text self.now.s.now) self.now.work.now (set_bit set) name }
+    {
+        match self.look(name) {
+            Ok(k) => has_bit(entry_at(self.work, k), set),
+            Err(_) => false,
+        }
+    }
 }
 
 // The two sets: the names of labels, and the names by which something is referred to.
@@ -90,72 +150,12 @@ fn count(work: &[u8]) -> usize
     usize::from(half(work, Names::HIGH)) - lowest(work)
 }
 
-// The i-th entry, and its name.
+// The i-th entry.
 fn entry_at(work: &[u8], i: usize) -> u16
     requires { (work_bytes ≤ length work.now) × (low_in work.now + i < entries_end) }
     ensures { result ≡ entry work.now i }
 {
     half(work, lowest(work) + i)
-}
-
-fn name_at(s: &Sheet, work: &[u8], i: usize) -> u32
-    requires { Ordered (text s.now) s.now.end work.now × (i < count_in work.now) }
-    ensures { result ≡ name_at (text s.now) work.now i }
-{
-    word(s.bytes, place(entry_at(work, i)))
-}
-
-// How many entries have names below a name: by halving.
-// Stays: std's search by halving goes over the elements of a slice, and these names are words that two bytes of the work area lead to.
-fn find(s: &Sheet, work: &[u8], name: u32) -> usize
-    requires { Ordered (text s.now) s.now.end work.now }
-    ensures { Parted (text s.now) work.now name result }
-{
-    let mut low: usize = 0;
-    let mut high = count(work);
-    while low < high {
-        let middle = low + (high - low) / 2;
-        let w = name_at(s, work, middle);
-        if w < name {
-            low = middle + 1;
-        } else {
-            high = middle;
-        }
-    }
-    low
-}
-
-// Whether the entry behind those below a name has it.
-fn is_at(s: &Sheet, work: &[u8], name: u32, k: usize) -> bool
-    requires bounds { Ordered (text s.now) s.now.end work.now }
-    requires parted { Parted (text s.now) work.now name k }
-    ensures { IsAt (text s.now) work.now name k result }
-{
-    k < count(work) && name_at(s, work, k) == name
-}
-
-// Where a name stands among the entries; or where it would stand.
-fn look(s: &Sheet, work: &[u8], name: u32) -> Result<usize, usize>
-    requires { Ordered (text s.now) s.now.end work.now }
-    ensures { MatchResult result (λ k. IsAt (text s.now) work.now name k true) (λ k. IsAt (text s.now) work.now name k false) }
-{
-    let k = find(s, work, name);
-    if is_at(s, work, name, k) {
-        Ok(k)
-    } else {
-        Err(k)
-    }
-}
-
-// Whether a set has a name.
-pub fn has(s: &Sheet, work: &[u8], set: Set, name: u32) -> bool
-    requires { Ordered (text s.now) s.now.end work.now }
-    ensures { result ≡ has_name (text s.now) work.now (set_bit set) name }
-{
-    match look(s, work, name) {
-        Ok(k) => has_bit(entry_at(work, k), set),
-        Err(_) => false,
-    }
 }
 
 // The halves from one place up to another stand one further behind.
@@ -222,7 +222,8 @@ pub fn put(s: &Sheet, work: &mut [u8], set: Set, at: usize)
     ensures { NamePut (text s.now) s.now.end work.old work.new (set_bit set)
         (get_or (text s.now) at 0) }
 {
-    match look(s, work, word(s.bytes, at)) {
+    let names = Names { s, work: &*work };
+    match names.look(word(s.bytes, at)) {
         Ok(k) => join(work, k, set),
         Err(k) => insert(work, k, at as u16 + u16::from(set)),
     }

@@ -15,7 +15,7 @@ ghost use Rattle.words.specs.Sheet.{text};
 use crate::references::reference_count;
 use planned::list::Listed;
 use planned::read::item;
-use words::numbers::{Block, Kind};
+use words::numbers::Block;
 use words::sheet::Sheet;
 use words::visit::{Visitor, walk_element};
 use words::walk::Head;
@@ -36,13 +36,13 @@ impl Listener {
         self.noisy |= word(s, at + 4) != 0;
     }
 
-    // An element that is no block; its payload stands at `payload`.
-    fn see_leaf(&mut self, s: &Sheet, depth: u32, at: usize, kind: Kind, payload: usize)
-        requires head_at { HeadAt (text s.now) s.now.end at (kind_number kind) payload × (kind_number kind ≡ block_kind → ⊥)
+    // An element that is no block.
+    fn see_leaf(&mut self, s: &Sheet, depth: u32, at: usize, head: Head)
+        requires head_at { HeadAt (text s.now) s.now.end at (kind_number head.kind) head.payload × (kind_number head.kind ≡ block_kind → ⊥)
             × FoundElement (text s.now) s.now.end depth at }
-        ensures { LeafSeen (text s.now) s.now.end (kind_number kind) payload noisy_leaf self.old.noisy self.new.noisy }
+        ensures { LeafSeen (text s.now) s.now.end (kind_number head.kind) head.payload noisy_leaf self.old.noisy self.new.noisy }
     {
-        self.noisy |= reference_count(s, depth, at, kind, payload) != 0;
+        self.noisy |= reference_count(s, depth, at, head) != 0;
     }
 }
 
@@ -59,7 +59,7 @@ impl Visitor for Listener {
 
     fn leaf(&mut self, s: &Sheet, depth: u32, at: usize, head: Head) {
         self.see_label(s.bytes, at);
-        self.see_leaf(s, depth, at, head.kind, head.payload);
+        self.see_leaf(s, depth, at, head);
     }
 
     fn enter_block(&mut self, s: &Sheet, _depth: u32, at: usize, _head: Head) {

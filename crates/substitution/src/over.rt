@@ -33,7 +33,7 @@ fn look_step(
     p: Place,
     step: Step,
 ) -> Unplanned
-    requires bounds { (task.now.s.now.end ≤ most_words) × Located work.old h × InHand h × Reached task.now.c h.ne p (splits step) }
+    requires bounds { Located work.old h × InHand h × Reached task.now.c h.ne p (splits step) }
     requires listed_in { ListedIn (text task.now.s.now) task.now.s.now.end inner_depth work.old h }
     requires grounded { Grounded task.now }
     ensures { StepLooked (text task.now.s.now) task.now.s.now.end task.now.names.now task.now.places.now task.now.c budget
@@ -51,7 +51,7 @@ fn look_step(
 
 // The alternative in hand.
 fn look_hand(task: &Task, budget: usize, work: &mut [u8], h: Listed) -> Result<(), Unplanned>
-    requires bounds { (task.now.s.now.end ≤ most_words) × Located work.old h × InHand h }
+    requires bounds { Located work.old h × InHand h }
     requires listed_in { ListedIn (text task.now.s.now) task.now.s.now.end inner_depth work.old h }
     requires grounded { Grounded task.now }
     ensures { HandLooked (text task.now.s.now) task.now.s.now.end task.now.names.now task.now.places.now task.now.c budget
@@ -67,7 +67,7 @@ fn look_hand(task: &Task, budget: usize, work: &mut [u8], h: Listed) -> Result<(
 
 // The hub's alternative at `at`.
 fn look_at(task: &Task, budget: usize, work: &mut [u8], at: usize) -> Result<(), Unplanned>
-    requires bounds { (task.now.s.now.end ≤ most_words) × (work_bytes ≤ length work.old) }
+    requires bounds { work_bytes ≤ length work.old }
     requires found_alternative { FoundAlternative (text task.now.s.now) task.now.s.now.end inner_depth at }
     requires grounded { Grounded task.now }
     ensures { LookedAt (text task.now.s.now) task.now.s.now.end task.now.names.now task.now.places.now task.now.c budget at
@@ -84,7 +84,7 @@ fn look_all(
     work: &mut [u8],
     at: usize,
 ) -> Result<Option<Done>, Unplanned>
-    requires bounds { (task.now.s.now.end ≤ most_words) × (work_bytes ≤ length work.old) }
+    requires bounds { work_bytes ≤ length work.old }
     requires at_value { (at ≡ get_or task.now.places.now task.now.c.hub 0) × (at + 4 ≤ task.now.s.now.end) }
     requires grounded { Grounded task.now }
     ensures { Unstored (text task.now.s.now) task.now.s.now.end task.now.names.now task.now.places.now task.now.c budget
@@ -102,7 +102,7 @@ fn look_all(
 
 // The hub of a cycle.
 pub fn unstored(task: &Task, budget: usize, work: &mut [u8]) -> Result<Option<Done>, Unplanned>
-    requires bounds { (task.now.s.now.end ≤ most_words) × (work_bytes ≤ length work.old) }
+    requires bounds { work_bytes ≤ length work.old }
     requires grounded { Grounded task.now }
     ensures { Unstored (text task.now.s.now) task.now.s.now.end task.now.names.now task.now.places.now task.now.c budget
         work.new result }

@@ -52,22 +52,20 @@ fn begin(s: &Sheet, at: usize, all: Size, budget: usize) -> State
 // The list is within the limits from the first, and stored: turns until nothing is left to look at, or one ends it.
 fn stored(
     task: &Task,
-    limits: Limits,
     budget: usize,
     first: State,
     work: &mut [u8],
 ) -> Result<Option<Done>, Unplanned>
-    requires bounds { task.now.s.now.end ≤ most_words }
     requires shut { Shut (Ready (text task.now.s.now) task.now.s.now.end work.old first 0 0 0) }
     requires grounded { Shut (Grounded task.now) }
-    requires going { Shut (Going (text task.now.s.now) task.now.s.now.end task.now.names.now task.now.places.now task.now.c limits
+    requires going { Shut (Going (text task.now.s.now) task.now.s.now.end task.now.names.now task.now.places.now task.now.c task.now.limits
         budget work.old first) }
-    ensures { MadeOf (text task.now.s.now) task.now.s.now.end task.now.names.now task.now.places.now task.now.c limits
+    ensures { MadeOf (text task.now.s.now) task.now.s.now.end task.now.names.now task.now.places.now task.now.c task.now.limits
         budget work.new result }
 {
     let mut st = first;
     while has_next(st) {
-        st = take_turn(task, limits, work, st)?;
+        st = take_turn(task, work, st)?;
     }
     let l = st.l;
     let steps = st.steps;
@@ -75,23 +73,18 @@ fn stored(
 }
 
 // The hub's own list is stored if it is within the limits.
-fn run(
-    task: &Task,
-    limits: Limits,
-    budget: usize,
-    work: &mut [u8],
-) -> Result<Option<Done>, Unplanned>
-    requires bounds { (task.now.s.now.end ≤ most_words) × (work_bytes ≤ length work.old) }
+fn run(task: &Task, budget: usize, work: &mut [u8]) -> Result<Option<Done>, Unplanned>
+    requires bounds { work_bytes ≤ length work.old }
     requires grounded { Shut (Grounded task.now) }
-    ensures { MadeOf (text task.now.s.now) task.now.s.now.end task.now.names.now task.now.places.now task.now.c limits
+    ensures { MadeOf (text task.now.s.now) task.now.s.now.end task.now.names.now task.now.places.now task.now.c task.now.limits
         budget work.new result }
 {
     let c = task.c;
     let at = index(task.places[c.hub]);
     let z = hub_size(task.s, at);
-    if is_within(limits.most(), z) {
+    if is_within(task.limits.most(), z) {
         let st = begin(task.s, at, z, budget);
-        return stored(task, limits, budget, st, work);
+        return stored(task, budget, st, work);
     }
     unstored(task, budget, work)
 }
@@ -117,6 +110,7 @@ pub fn substitute(
         names: &names,
         places: &places,
         c,
+        limits,
     };
-    run(&task, limits, budget, work)
+    run(&task, budget, work)
 }

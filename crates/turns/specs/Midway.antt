@@ -7,7 +7,7 @@ use Rattle.reference.specs.Substitute.{Planned}
 use Rattle.reference.specs.Substitute as R
 use Rattle.reference.specs.Plan.{as_they_are}
 use Rattle.planned.specs.Layout.{meaning, settled, stack}
-use Rattle.planned.specs.List.{alternatives_in, elements_in, options_in, Laid, HasTop, Located, Movable, InHand, InList, ListedIn, AllIn}
+use Rattle.planned.specs.List.{alternatives_in, elements_in, options_in, Laid, HasTop, Located, Movable, InHand, ListedIn, AllIn}
 use Rattle.planned.specs.Moves.{IsDrained, IsEmpty}
 use Rattle.planned.specs.Laws.Counts.{elements_all, options_all}
 use Rattle.planned.specs.declared.list.Listed.{Listed}
@@ -16,7 +16,7 @@ use Rattle.turns.specs.Turns.{Task, IsSettled, Substituting}
 use Rattle.steps.specs.Decide.{SmallSize}
 use Rattle.turns.specs.declared.limits.Limits.{Limits}
 use Rattle.turns.specs.declared.state.State.{State}
-use Rattle.turns.specs.declared.state.Taken.{Taken}
+use Rattle.turns.specs.declared.taken.Taken.{Taken}
 
 -- The limits as the definition has them.
 abbrev pub limits_of : Limits → R.Limits
@@ -91,8 +91,6 @@ pending_count ws end bs st = length (stack ws end inner_depth bs st.l) + st.left
 -- The next alternative is taken.
 pub record TakenFrom (ws : List ℕ) (end : ℕ) (before after : List ℕ) (st : State) (r : Taken) : Type 0 where
   pub with : Ready ws end before st 0 0 0 → With ws end after r.st r.x
-  pub in_hand : r.hand ≡ true → InHand r.x
-  pub in_list : r.hand ≡ false → InList r.x
   pub holds : (t : Task inner_depth) (budget : ℕ) (start : List (Planned inner_depth)) (y : Ready ws end before st 0 0 0)
       → Midway ws end before st t budget start y → Holding ws end after r.st t budget start r.x (with y)
   pub fewer : Ready ws end before st 0 0 0 → pending_count ws end after r.st + 1 ≡ pending_count ws end before st

@@ -3,5 +3,6 @@
 
 pub mod limits;
 pub mod state;
+pub mod taken;
 pub mod task;
 pub mod turn;

@@ -1,5 +1,9 @@
 // The limits of a substitution.
+ghost use Rattle.std.specs.Prelude.{◌≡◌};
 ghost use Rattle.turns.specs.Limits.{LimitsFit};
+
+use planned::list::Sizes;
+use splices::splice::Size;
 
 // The least budget, and how large a planned list may be after a step.
 #[derive(Clone, Copy, Debug, PartialEq, Eq)]
@@ -9,4 +13,34 @@ pub struct Limits {
     pub elements: usize,
     pub options: usize,
     ghost fit: { LimitsFit alternatives elements options },
+}
+
+impl Limits {
+    ghost use Rattle.turns.specs.Midway.{IsStandard, most_of};
+
+    // The least number of steps that a substitution may take (SPECIFICATION 8.10).
+    pub const LEAST_BUDGET: usize = 64;
+
+    // The limits of the pass.
+    pub fn standard() -> Limits
+        ensures { IsStandard result }
+    {
+        Limits {
+            floor: Limits::LEAST_BUDGET,
+            alternatives: Sizes::ALTERNATIVES,
+            elements: Sizes::ELEMENTS,
+            options: Sizes::OPTIONS,
+        }
+    }
+
+    // How large a list may be.
+    pub fn most(self) -> Size
+        ensures { result ≡ most_of self }
+    {
+        Size {
+            a: self.alternatives,
+            e: self.elements,
+            o: self.options,
+        }
+    }
 }

@@ -4,46 +4,16 @@ ghost use Rattle.grammar.specs.Numbers.{most_words};
 ghost use Rattle.words.specs.Room.{Room};
 ghost use Rattle.planned.specs.List.{Laid, HasTop, HasRoom, Located, Movable};
 ghost use Rattle.planned.specs.Moves.{IsDrained};
-ghost use Rattle.turns.specs.Midway.{IsStandard, most_of, Shut, Ready, HasNext, StackTaken, TakenFrom, PutSettled};
+ghost use Rattle.turns.specs.Midway.{Shut, Ready, HasNext, StackTaken, TakenFrom, PutSettled};
 ghost use Rattle.words.specs.Sheet.{text};
 
-use crate::limits::Limits;
+use crate::taken::Taken;
 use ends::ends::alternative_end;
 use planned::list::{Listed, Sizes, is_drained, settle, take_top};
 use splices::bring::hub_in_hand;
 use splices::splice::Size;
 use words::numbers::Block;
 use words::sheet::Sheet;
-
-// The methods stand here and not beside the struct. What `standard` promises names the struct, and the file of a struct with a ghost
-// field may use nothing that does.
-impl Limits {
-    // The least number of steps that a substitution may take (SPECIFICATION 8.10).
-    pub const LEAST_BUDGET: usize = 64;
-
-    // The limits of the pass.
-    pub fn standard() -> Limits
-        ensures { IsStandard result }
-    {
-        Limits {
-            floor: Limits::LEAST_BUDGET,
-            alternatives: Sizes::ALTERNATIVES,
-            elements: Sizes::ELEMENTS,
-            options: Sizes::OPTIONS,
-        }
-    }
-
-    // How large a list may be.
-    pub fn most(self) -> Size
-        ensures { result ≡ most_of self }
-    {
-        Size {
-            a: self.alternatives,
-            e: self.elements,
-            o: self.options,
-        }
-    }
-}
 
 // The list, how many of the hub's alternatives are still in the sheet and where the first stands, how large all of it is, and
 // the steps that are left and made.
@@ -55,14 +25,6 @@ pub struct State {
     pub all: Size,
     pub budget: usize,
     pub steps: usize,
-}
-
-// An alternative that was taken, whether it is in hand, and what is left.
-#[derive(Clone, Copy, Debug, PartialEq, Eq)]
-pub struct Taken {
-    pub x: Listed,
-    pub hand: bool,
-    pub st: State,
 }
 
 // The top of the stack.

@@ -1,13 +1,15 @@
-// What a substitution is made on, but for its limits.
-ghost use Rattle.std.specs.Prelude.{◌≡◌, ◌<◌, length};
+// What a substitution is made on.
+ghost use Rattle.std.specs.Prelude.{◌≡◌, ◌<◌, ◌≤◌, length};
+ghost use Rattle.grammar.specs.Numbers.{most_words};
 ghost use Rattle.turns.specs.Called.{call_of};
 
+use crate::limits::Limits;
 use analysis::names::index;
 use steps::corner::{Cycle, Place};
 use steps::step::{Call, Step};
 use words::sheet::Sheet;
 
-// The sheet, the names and the places of its rules, and a cycle among them with its hub.
+// The sheet, the names and the places of its rules, a cycle among them with its hub, and the limits.
 // Stays: that they belong together is a clause and no ghost field: it holds data, such as the rules, and a ghost field takes facts alone.
 #[derive(Clone, Copy, Debug, PartialEq, Eq)]
 pub struct Task<'a> {
@@ -15,6 +17,8 @@ pub struct Task<'a> {
     pub names: &'a [u32],
     pub places: &'a [u32],
     pub c: Cycle,
+    pub limits: Limits,
+    ghost few: { s.now.end ≤ most_words },
 }
 
 impl Task<'_> {

@@ -4,7 +4,7 @@ ghost use Rattle.grammar.specs.Numbers.{most_words};
 ghost use Rattle.grammar.specs.Tree.{inner_depth};
 ghost use Rattle.grammar.specs.Found.{FoundRule};
 ghost use Rattle.words.specs.Room.{Room};
-ghost use Rattle.planned.specs.List.{Laid, Located, Movable, InHand, InList, HasRoom};
+ghost use Rattle.planned.specs.List.{Laid, Located, Movable, InHand, HasRoom};
 ghost use Rattle.splices.specs.Splice.{HandIn};
 ghost use Rattle.steps.specs.Decide.{SmallSize};
 ghost use Rattle.turns.specs.Ground.{Grounded};
@@ -14,7 +14,8 @@ ghost use Rattle.turns.specs.Midway.{Shut, Ready, HasNext, With, within, Held, C
 ghost use Rattle.words.specs.Sheet.{text};
 
 use crate::limits::Limits;
-use crate::state::{State, Taken, put_settled, take};
+use crate::state::{State, put_settled, take};
+use crate::taken::Taken;
 use crate::task::Task;
 use planned::hand::{into_hand, push_split};
 use planned::list::{Listed, Sizes};
@@ -27,7 +28,6 @@ use words::sheet::Sheet;
 // The alternative that was taken comes into the hand.
 fn hold(work: &mut [u8], t: Taken) -> Listed
     requires laid { Laid work.old t.st.l × Located work.old t.x × Movable t.st.l t.x }
-    requires in_hand { (t.hand ≡ true → InHand t.x) × (t.hand ≡ false → InList t.x) }
     ensures { Held work.old work.new t.st t.x result }
 {
     let x = t.x;
@@ -59,15 +59,16 @@ fn size_after(all: Size, h: Listed, z: Size) -> Size
 }
 
 // What was decided is put on the stack.
-fn push(s: &Sheet, work: &mut [u8], l: Sizes, h: Listed, k: Call, z: Size) -> Sizes
-    requires bounds { (s.now.end ≤ most_words) × (k.at + 4 ≤ s.now.end) × FoundRule (text s.now) s.now.end k.at }
-    requires laid { Laid work.old l × HasRoom l z.a z.e z.o × HandIn (text s.now) s.now.end inner_depth h k.index work.old }
-    requires goable { Goable (text s.now) s.now.end inner_depth k.at work.old h k.index (splits k.step) z }
-    ensures { PushedBy (text s.now) s.now.end inner_depth k.at work.old work.new l result h k.index (splits k.step) z }
+fn push(task: &Task, work: &mut [u8], l: Sizes, h: Listed, k: Call, z: Size) -> Sizes
+    requires bounds { (k.at + 4 ≤ task.now.s.now.end) × FoundRule (text task.now.s.now) task.now.s.now.end k.at }
+    requires laid { Laid work.old l × HasRoom l z.a z.e z.o
+        × HandIn (text task.now.s.now) task.now.s.now.end inner_depth h k.index work.old }
+    requires goable { Goable (text task.now.s.now) task.now.s.now.end inner_depth k.at work.old h k.index (splits k.step) z }
+    ensures { PushedBy (text task.now.s.now) task.now.s.now.end inner_depth k.at work.old work.new l result h k.index (splits k.step) z }
 {
     match k.step {
         Step::Split => push_split(work, l, h, k.index),
-        Step::Splice => push_splice(s, work, l, h, k.index, k.at, z),
+        Step::Splice => push_splice(task.s, work, l, h, k.index, k.at, z),
     }
 }
 
@@ -90,28 +91,28 @@ impl From<Clause> for Unplanned {
 
 // What was decided is done, if the list is within the limits then.
 fn advance(
-    s: &Sheet,
-    limits: Limits,
+    task: &Task,
     work: &mut [u8],
     st: State,
     h: Listed,
     k: Call,
     z: Size,
 ) -> Result<State, Unplanned>
-    requires bounds { (s.now.end ≤ most_words) × SmallSize z }
+    requires bounds { SmallSize z }
     requires fact { (st.budget ≡ 0 → ⊥) × (st.steps + st.budget < 2 ^ 64) }
-    requires shut { Shut (With (text s.now) s.now.end work.old st h) × InHand h × (k.index < h.ne) }
-    requires at_bound { (k.at + 4 ≤ s.now.end) × FoundRule (text s.now) s.now.end k.at }
-    requires goable { Goable (text s.now) s.now.end inner_depth k.at work.old h k.index (splits k.step) z }
-    ensures { SteppedTo (text s.now) s.now.end work.old work.new st h k.index k.at (splits k.step) limits result }
+    requires shut { Shut (With (text task.now.s.now) task.now.s.now.end work.old st h) × InHand h × (k.index < h.ne) }
+    requires at_bound { (k.at + 4 ≤ task.now.s.now.end) × FoundRule (text task.now.s.now) task.now.s.now.end k.at }
+    requires goable { Goable (text task.now.s.now) task.now.s.now.end inner_depth k.at work.old h k.index (splits k.step) z }
+    ensures { SteppedTo (text task.now.s.now) task.now.s.now.end work.old work.new st h k.index k.at
+        (splits k.step) task.now.limits result }
 {
     let budget = st.budget - 1;
     let steps = st.steps + 1;
     let all = st.all;
     let l = st.l;
     let more = size_after(all, h, z);
-    if is_within(limits.most(), more) {
-        let l = push(s, work, l, h, k, z);
+    if is_within(task.limits.most(), more) {
+        let l = push(task, work, l, h, k, z);
         return Ok(State {
             l,
             all: more,
@@ -125,57 +126,48 @@ fn advance(
 
 // The step on the alternative in hand is decided, then done.
 fn step_in_hand(
-    s: &Sheet,
-    limits: Limits,
+    task: &Task,
     work: &mut [u8],
     st: State,
     h: Listed,
     k: Call,
 ) -> Result<State, Unplanned>
-    requires bounds { (s.now.end ≤ most_words) × (st.budget ≡ 0 → ⊥) × (k.index < h.ne) }
-    requires shut { Shut (With (text s.now) s.now.end work.old st h) × InHand h × Located work.old h }
-    requires called { Called (text s.now) s.now.end work.old h k.index k.name k.at (splits k.step) }
-    ensures { SteppedTo (text s.now) s.now.end work.old work.new st h k.index k.at (splits k.step) limits result }
+    requires bounds { (st.budget ≡ 0 → ⊥) × (k.index < h.ne) }
+    requires shut { Shut (With (text task.now.s.now) task.now.s.now.end work.old st h) × InHand h × Located work.old h }
+    requires called { Called (text task.now.s.now) task.now.s.now.end work.old h k.index k.name k.at (splits k.step) }
+    ensures { SteppedTo (text task.now.s.now) task.now.s.now.end work.old work.new st h k.index k.at
+        (splits k.step) task.now.limits result }
 {
-    let z = decide(s, work, h, k)?;
-    advance(s, limits, work, st, h, k, z)
+    let z = decide(task.s, work, h, k)?;
+    advance(task, work, st, h, k, z)
 }
 
 // A step on the alternative that was taken; the one beyond the budget is not looked at.
-fn step(s: &Sheet, limits: Limits, work: &mut [u8], t: Taken, k: Call) -> Result<State, Unplanned>
-    requires bounds { (s.now.end ≤ most_words) × (k.index < t.x.ne) }
-    requires shut { Shut (With (text s.now) s.now.end work.old t.st t.x) }
-    requires in_hand { (t.hand ≡ true → InHand t.x) × (t.hand ≡ false → InList t.x) }
-    requires called { Called (text s.now) s.now.end work.old t.x k.index k.name k.at (splits k.step) }
-    ensures { SteppedTo (text s.now) s.now.end work.old work.new t.st t.x k.index k.at (splits k.step) limits result }
+fn step(task: &Task, work: &mut [u8], t: Taken, k: Call) -> Result<State, Unplanned>
+    requires bounds { k.index < t.x.ne }
+    requires shut { Shut (With (text task.now.s.now) task.now.s.now.end work.old t.st t.x) }
+    requires called { Called (text task.now.s.now) task.now.s.now.end work.old t.x k.index k.name k.at (splits k.step) }
+    ensures { SteppedTo (text task.now.s.now) task.now.s.now.end work.old work.new t.st t.x k.index k.at
+        (splits k.step) task.now.limits result }
 {
     let st = t.st;
     if st.budget == 0 {
         return Err(Unplanned::Declined(Clause::Budget));
     }
     let h = hold(work, t);
-    step_in_hand(s, limits, work, st, h, k)
+    step_in_hand(task, work, st, h, k)
 }
 
 // A step at a member of the cycle that is called.
-fn step_at(
-    task: &Task,
-    limits: Limits,
-    work: &mut [u8],
-    t: Taken,
-    p: Place,
-    by: Step,
-) -> Result<State, Unplanned>
-    requires bounds { task.now.s.now.end ≤ most_words }
+fn step_at(task: &Task, work: &mut [u8], t: Taken, p: Place, by: Step) -> Result<State, Unplanned>
     requires shut { Shut (With (text task.now.s.now) task.now.s.now.end work.old t.st t.x) }
-    requires in_hand { (t.hand ≡ true → InHand t.x) × (t.hand ≡ false → InList t.x) }
     requires called_at { CalledAt (text task.now.s.now) task.now.s.now.end work.old task.now.names.now task.now.places.now
         t.x p (splits by) }
     ensures { SteppedTo (text task.now.s.now) task.now.s.now.end work.old work.new t.st t.x p.index
-        (get_or task.now.places.now p.target 0) (splits by) limits result }
+        (get_or task.now.places.now p.target 0) (splits by) task.now.limits result }
 {
     let k = task.call(p, by);
-    step(task.s, limits, work, t, k)
+    step(task, work, t, k)
 }
 
 // The clause by which a corner that is in the way declines: the budget is asked first.
@@ -189,12 +181,10 @@ pub fn stuck(budget: usize) -> Clause
 }
 
 // What was taken is settled, or a step is made on it.
-fn act(task: &Task, limits: Limits, work: &mut [u8], t: Taken) -> Result<State, Unplanned>
-    requires bounds { task.now.s.now.end ≤ most_words }
+fn act(task: &Task, work: &mut [u8], t: Taken) -> Result<State, Unplanned>
     requires shut { Shut (With (text task.now.s.now) task.now.s.now.end work.old t.st t.x) }
-    requires in_hand { (t.hand ≡ true → InHand t.x) × (t.hand ≡ false → InList t.x) }
     requires grounded { Shut (Grounded task.now) }
-    ensures { ActedOn (text task.now.s.now) task.now.s.now.end task.now.names.now task.now.places.now task.now.c limits
+    ensures { ActedOn (text task.now.s.now) task.now.s.now.end task.now.names.now task.now.places.now task.now.c task.now.limits
         work.old work.new t.st t.x result }
 {
     let x = t.x;
@@ -202,24 +192,19 @@ fn act(task: &Task, limits: Limits, work: &mut [u8], t: Taken) -> Result<State, 
     match find_corner(task.s, task.names, task.c, work, x) {
         Corner::Settled => Ok(put_settled(work, st, x)),
         Corner::Blocked => Err(Unplanned::Declined(stuck(st.budget))),
-        Corner::Optional(p) => step_at(task, limits, work, t, p, Step::Split),
-        Corner::Satellite(p) => step_at(task, limits, work, t, p, Step::Splice),
+        Corner::Optional(p) => step_at(task, work, t, p, Step::Split),
+        Corner::Satellite(p) => step_at(task, work, t, p, Step::Splice),
     }
 }
 
 // The next alternative is taken, and settled, or a step is made on it.
-pub fn take_turn(
-    task: &Task,
-    limits: Limits,
-    work: &mut [u8],
-    st: State,
-) -> Result<State, Unplanned>
-    requires bounds { (task.now.s.now.end ≤ most_words) × HasNext st }
+pub fn take_turn(task: &Task, work: &mut [u8], st: State) -> Result<State, Unplanned>
+    requires bounds { HasNext st }
     requires shut { Shut (Ready (text task.now.s.now) task.now.s.now.end work.old st 0 0 0) }
     requires grounded { Shut (Grounded task.now) }
-    ensures { TurnedTo (text task.now.s.now) task.now.s.now.end task.now.names.now task.now.places.now task.now.c limits
+    ensures { TurnedTo (text task.now.s.now) task.now.s.now.end task.now.names.now task.now.places.now task.now.c task.now.limits
         work.old work.new st result }
 {
     let t = take(task.s, work, st);
-    act(task, limits, work, t)
+    act(task, work, t)
 }

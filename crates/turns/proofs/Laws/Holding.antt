@@ -1,13 +1,12 @@
 -- What was taken comes into the hand.
 use Prim.Native.Nat.{ℕ}
-use mathlib.Core.Path.{◌≡◌, refl, sym, ap, ap₂}
+use mathlib.Core.Path.{refl, sym, ap, ap₂}
 use mathlib.Core.List.{List, ◌∷◌, ◌++◌}
-use mathlib.Core.Bool.{Bool, true, false}
 use native.Mathlib.Omega.{arith}
 use lib.ListN.{length}
 use Rattle.grammar.specs.Tree.{inner_depth}
 use Rattle.reference.specs.Plan.{as_they_are}
-use Rattle.planned.specs.List.{Laid, InHand, InList}
+use Rattle.planned.specs.List.{Laid, InHand}
 use Rattle.planned.specs.Moves.{Handed}
 use Rattle.planned.specs.Laws.Room.{hand_movable}
 use Rattle.planned.specs.declared.list.Listed.{Listed}
@@ -83,11 +82,3 @@ module _ {before after : List ℕ} (st : State) {x h : Listed} (laid : Laid befo
         options = k.options;
         long = k.long;
       }
-
-pub hand_now : {b : Bool} {x : Listed} → (b ≡ true → InHand x) → b ≡ true → InHand x
-hand_now f e = f e
-
-pub list_now : {b : Bool} {x : Listed} → (b ≡ false → InList x) → b ≡ false → InList x
-list_now f e = f e
-
-pub ruleset holding = (held_already, held_now, hand_now, list_now)

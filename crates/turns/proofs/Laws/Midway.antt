@@ -18,7 +18,7 @@ use Rattle.reference.specs.Substitute.{Planned}
 use Rattle.reference.specs.Plan.{as_it_is, as_they_are}
 use Rattle.ends.specs.Ends.{skipping}
 use Rattle.planned.specs.Layout.{meaning}
-use Rattle.planned.specs.List.{Laid, HasTop, Located, Movable, ListedIn}
+use Rattle.planned.specs.List.{Laid, HasTop, Located, Movable, InHand, InList, ListedIn}
 use Rattle.planned.specs.Moves.{Took, Settled, IsDrained}
 use Rattle.splices.specs.Moves.{Brought}
 use Rattle.planned.specs.Laws.Room.{hand_movable}
@@ -29,7 +29,7 @@ use Rattle.turns.specs.Turns.{Task, Substituting}
 use Rattle.turns.specs.Midway.{Ready, With, HasNext, TakenFrom}
 use Rattle.turns.specs.Midway.{StackTaken, PutSettled, Shut, opened}
 use Rattle.turns.specs.declared.state.State.{State}
-use Rattle.turns.specs.declared.state.Taken.{Taken}
+use Rattle.turns.specs.declared.taken.Taken.{Taken}
 use Rattle.turns.proofs.Laws.Turns.{settle_one}
 
 -- The same list in other words.
@@ -85,15 +85,14 @@ module _ {bs : List ℕ} (st : State) {x : Listed} {rest : Sizes} (k : Took bs s
           movable = k.movable;
         }
 
-  pub stack_taken : StackTaken bs st (record { x = x; hand = false; st = with_list st rest })
+  pub stack_taken : {i : false ≡ true → InHand x} {j : false ≡ false → InList x}
+      → StackTaken bs st (record { x = x; hand = false; st = with_list st rest; in_hand = i; in_list = j })
   unfolding stack_with
   stack_taken =
       record {
         is = λ ws end.
             record {
               with = stack_with ws end;
-              in_hand = λ z. absurd (let y : ◌≡◌ {A = ℕ} 0 1 = cc in omega arith);
-              in_list = λ z. k.in_list;
               holds = λ t budget start y m.
                   record {
                     run = retold (sym (k.settled_same ws end inner_depth))
@@ -192,13 +191,12 @@ module _ {ws : List ℕ} {end : ℕ} {before after : List ℕ} (st : State) {x :
             (record { alternatives = omega arith; elements = omega arith; options = omega arith });
       }
 
-  pub hub_taken : IsDrained st.l true → TakenFrom ws end before after st (record { x = x; hand = true; st = past })
+  pub hub_taken : IsDrained st.l true → {i : true ≡ true → InHand x} {j : true ≡ false → InList x}
+      → TakenFrom ws end before after st (record { x = x; hand = true; st = past; in_hand = i; in_list = j })
   unfolding hub_with as_they_are
   hub_taken k =
       record {
         with = hub_with;
-        in_hand = λ z. b.in_hand;
-        in_list = λ z. absurd (let y : ◌≡◌ {A = ℕ} 0 1 = cc in omega arith);
         holds = λ t budget start y n.
             let e = b.same st.l y.laid in
             let none = k.done refl ws end inner_depth before y.laid in

@@ -13,7 +13,7 @@ use Rattle.turns.specs.Turn.{ActedOn, TurnedTo, turns_left}
 use Rattle.steps.specs.declared.corner.Cycle.{Cycle}
 use Rattle.turns.specs.declared.limits.Limits.{Limits}
 use Rattle.turns.specs.declared.state.State.{State}
-use Rattle.turns.specs.declared.state.Taken.{Taken}
+use Rattle.turns.specs.declared.taken.Taken.{Taken}
 use Rattle.std.specs.Prelude.{Result}
 use Rattle.turns.specs.declared.turn.Unplanned.{Unplanned}
 

@@ -3,8 +3,8 @@ use Rattle.substitution.proofs.turning.stored.Goals as goal
 use Rattle.substitution.proofs.Laws.Run.{running}
 use Rattle.steps.proofs.Laws.Raised.{raised}
 
-pub loop-limits-preserved : goal.loop-limits-preserved
-loop-limits-preserved c = let w = c.in_ok-st.was in search (rules, running)
+pub loop-work-preserved : goal.loop-work-preserved
+loop-work-preserved c = let w = c.in_ok-st.was in search (rules, running)
 
 pub returns-in_err-st : goal.returns-in_err-st
 returns-in_err-st c =

@@ -1,11 +1,9 @@
 use Rattle.std.proofs.Common.{rules}
 use Rattle.turns.proofs.turn.hold.Goals as goal
-use Rattle.turns.proofs.Laws.Holding.{holding}
+use Rattle.turns.proofs.Laws.Holding.{held_already, held_now}
 
--- src/turn.rt:33:9
 pub returns-then-t : goal.returns-then-t
-returns-then-t c = search (rules, holding)
+returns-then-t c = held_already c.args.t.st (c.args.t.in_hand c.if-t.true)
 
--- src/turn.rt:26:1
 pub returns : goal.returns
-returns c = search (rules, holding)
+returns c = search (rules, held_now)
