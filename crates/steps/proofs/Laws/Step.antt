@@ -52,7 +52,7 @@ module _ {ws : List ℕ} {end : ℕ} (d : ℕ) {es : List (Element (Block d))} {
           to = record {
             searchable = record { ordered = λ z. m.ordered };
             safe = sym m.refers ∙ e;
-            around = record { silent = λ z. absurd (false_true z refl); marked = λ z. m.marked };
+            around = record { silent = λ z. absurd (false≢true z); marked = λ z. m.marked };
           };
         }
 
