@@ -56,8 +56,7 @@ pub fn write_head(s: &Sheet, depth: u32, work: &mut [u8], x: Listed, id: u32, to
     ensures { Wrote work.old work.new to
         (head_words depth (meaning (text s.now) s.now.end depth work.old x) id) }
 {
-    // Stays: with `usize::from` the search finds no proof of two goals of this function.
-    let slot = place(x.slot) as usize;
+    let slot = usize::from(place(x.slot));
     let no = x.no as u32;
     let ne = x.ne as u32;
     write_fixed(s, slot, id, no, ne, work, to);

@@ -53,8 +53,7 @@ fn write_same(d: &mut Drawing<'_>, s: &Sheet, depth: u32, x: Listed)
     ensures drawn { AlternativeDrawn (text s.now) s.now.end depth d.old.out.now x d.new.out.now
         d.old.trail.now d.new.trail.now d.old.pen d.new.pen }
 {
-    // Stays: with `usize::from` the search finds no proof of two goals, here and in `write_new`.
-    let id = id_at(s, x.origin as usize);
+    let id = id_at(s, usize::from(x.origin));
     begin(d, s, depth, x, id);
     write_items(d, s, depth, x, false);
 }
@@ -69,7 +68,7 @@ fn write_new(d: &mut Drawing<'_>, s: &Sheet, depth: u32, x: Listed)
     ensures drawn { AlternativeDrawn (text s.now) s.now.end depth d.old.out.now x d.new.out.now
         d.old.trail.now d.new.trail.now d.old.pen d.new.pen }
 {
-    let owner = id_at(s, x.origin as usize);
+    let owner = id_at(s, usize::from(x.origin));
     let given = fresh(
         d.trail,
         d.pen,

@@ -10,9 +10,12 @@ begin-requires-clause-bounds c = search (rules, sames)
 
 pub write_items-requires-clause-readable : goal.write_items-requires-clause-readable
 write_items-requires-clause-readable c =
-    let fits = rw c.begin.ensures.same_entries at c.requires.readable.1 in search (rules, sames)
+    let fits = rw c.begin.ensures.same_entries at c.requires.readable.1 in
+    let id = rw c.from.ensures at c.id_at-id.ensures in
+    search (rules, sames)
 
 pub returns-clause-drawn : goal.returns-clause-drawn
 returns-clause-drawn c =
     let fits = rw c.begin.ensures.same_entries at c.requires.readable.1 in
+    let id = rw c.from.ensures at c.id_at-id.ensures in
     rw c.begin.ensures.same_entries (search (rules, sames))
