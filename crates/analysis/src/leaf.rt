@@ -96,13 +96,13 @@ pub fn skips_at(s: &[u8], at: usize) -> bool
     requires { 4 * (at + 6) ≤ length s.now }
     ensures { result ≡ skipping (get_or (words s.now) (at + 2) 0) }
 {
-    match Quantifier::try_from(word(s, at + 2) / Kind::END) {
+    matches!(
+        Quantifier::try_from(word(s, at + 2) / Kind::END),
         Ok(
             Quantifier::OptionalGreedy
-            | Quantifier::OptionalNongreedy
-            | Quantifier::ZeroOrMoreGreedy
-            | Quantifier::ZeroOrMoreNongreedy,
-        ) => true,
-        _ => false,
-    }
+                | Quantifier::OptionalNongreedy
+                | Quantifier::ZeroOrMoreGreedy
+                | Quantifier::ZeroOrMoreNongreedy
+        )
+    )
 }

@@ -18,7 +18,7 @@ use records::rules::Rules;
 use words::sheet::Sheet;
 
 // Rules that are nullable, and rules that cannot be inlined as satellites.
-#[derive(Clone, Copy, Debug, PartialEq, Eq)]
+#[derive(Clone, Copy, Debug, Default, PartialEq, Eq)]
 pub struct Marks {
     pub nullable: [u64; Row::WORDS],
     pub stops: [u64; Row::WORDS],
@@ -46,7 +46,7 @@ impl Rows {
 }
 
 // What a round finds beside the rows, and how many rules are nullable by it.
-#[derive(Clone, Copy, Debug, PartialEq, Eq)]
+#[derive(Clone, Copy, Debug, Default, PartialEq, Eq)]
 struct Round {
     marks: Marks,
     count: u32,
@@ -75,14 +75,7 @@ fn survey_all(s: &Sheet, rules: Rules, v: &Known, rows: &mut Rows) -> Round
         rows.old.calls rows.old.corners rules.n rows.new.calls rows.new.corners result }
 {
     let places = rules.places;
-    let none = Marks {
-        nullable: [0; Row::WORDS],
-        stops: [0; Row::WORDS],
-    };
-    let mut r = Round {
-        marks: none,
-        count: 0,
-    };
+    let mut r = Round::default();
     for i in 0..v.n {
         let t = survey_rule(s, v, places[i] as usize);
         let c = t.calls;

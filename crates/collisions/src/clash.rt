@@ -20,7 +20,7 @@ use words::walk::Head;
 use words::words::word;
 
 // Whether a label's name is in the set of labels, and whether a bound name is in the set of references.
-#[derive(Clone, Copy, Debug, PartialEq, Eq)]
+#[derive(Clone, Copy, Debug, Default, PartialEq, Eq)]
 pub struct Clash {
     pub label: bool,
     pub binding: bool,
@@ -109,13 +109,9 @@ pub fn clash_at(s: &Sheet, work: &[u8], at: usize) -> Clash
     requires found_alternative { FoundAlternative (text s.now) s.now.end inner_depth at }
     ensures { ClashesAt (text s.now) s.now.end inner_depth at work.now result }
 {
-    let nothing = Clash {
-        label: false,
-        binding: false,
-    };
     let mut comparer = Comparer {
         work,
-        found: nothing,
+        found: Clash::default(),
     };
     walk_alternative(&mut comparer, s, Block::DEPTH, at);
     comparer.found

@@ -33,10 +33,7 @@ fn named_at(s: &Records, n: usize, at: usize) -> Option<usize>
     if s.end.saturating_sub(at) < n {
         return None;
     }
-    if is_name(word(s.bytes, at)) {
-        return Some(at + n);
-    }
-    None
+    is_name(word(s.bytes, at)).then_some(at + n)
 }
 
 // n records, one after the other.

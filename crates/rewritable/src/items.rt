@@ -24,10 +24,10 @@ fn is_one(s: &Sheet, e: Item) -> bool
     if e.plain {
         return true;
     }
-    match Quantifier::try_from(word(s.bytes, e.at + 2) / Kind::END) {
-        Ok(Quantifier::Once) => true,
-        _ => false,
-    }
+    matches!(
+        Quantifier::try_from(word(s.bytes, e.at + 2) / Kind::END),
+        Ok(Quantifier::Once)
+    )
 }
 
 // Whether an element is a call of a name, with quantifier 0.
@@ -55,10 +55,10 @@ fn is_silent(s: &Sheet, depth: u32, e: Item) -> bool
     requires { FoundElement (text s.now) s.now.end depth e.at }
     ensures { ItemTested (text s.now) s.now.end depth e.at e.plain is_epsilon_only result }
 {
-    match element_head(s, depth, e.at).kind {
-        Kind::Epsilon | Kind::Action | Kind::Predicate => true,
-        _ => false,
-    }
+    matches!(
+        element_head(s, depth, e.at).kind,
+        Kind::Epsilon | Kind::Action | Kind::Predicate
+    )
 }
 
 // Whether an alternative begins with a call of a name.

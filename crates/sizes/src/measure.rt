@@ -21,15 +21,9 @@ fn measure_element(s: &Sheet, depth: u32, at: usize) -> Measure
     requires found_element { FoundElement (text s.now) s.now.end depth at }
     ensures { ElementSized (text s.now) s.now.end depth at result }
 {
-    let none = Tally {
-        alternatives: 0,
-        elements: 0,
-        labels: 0,
-        actions: 0,
-        predicates: 0,
-    };
-    let r = element(s, depth, at, none);
+    let r = element(s, depth, at, Tally::default());
     let t = r.tally;
+    // Stays: a `From<Tally>` would write the same fields, for this one caller, and a number of words that is 0 until it is put in here.
     Measure {
         alternatives: t.alternatives,
         elements: t.elements,

@@ -16,7 +16,7 @@ use words::walk::Head;
 use words::words::word;
 
 // How many ids of each sort.
-#[derive(Clone, Copy, Debug, PartialEq, Eq)]
+#[derive(Clone, Copy, Debug, Default, PartialEq, Eq)]
 pub struct Tally {
     pub alternatives: usize,
     pub elements: usize,
@@ -41,11 +41,11 @@ fn with_own(s: &[u8], at: usize, kind: Kind, t: Tally) -> Tally
     let action = usize::from(kind == Kind::Action);
     let predicate = usize::from(kind == Kind::Predicate);
     Tally {
-        alternatives: t.alternatives,
         elements: t.elements + 1,
         labels: t.labels + label,
         actions: t.actions + action,
         predicates: t.predicates + predicate,
+        ..t
     }
 }
 

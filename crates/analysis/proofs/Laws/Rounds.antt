@@ -18,6 +18,9 @@ use Rattle.analysis.specs.Rounds.{one_if, count_below, Marked, Recorded, Recordi
 use Rattle.analysis.specs.declared.survey.Survey.{Survey}
 use Rattle.analysis.specs.declared.rounds.Round.{Round}
 use Rattle.reach.proofs.Laws.Rows.{no_bits}
+use Rattle.std.specs.Array.{AllOfLen}
+use Rattle.std.proofs.lemmas.List.{get_or-replicate}
+use Rattle.std.proofs.lemmas.Grind.{same_number_lists}
 
 count_low : (f : ℕ → Bool) (i : ℕ) → count_below f i ≤ i
 unfolding count_below
@@ -42,10 +45,18 @@ module _ {row row' : List ℕ} {i : ℕ} {on : Bool} (a : AddIf row i on row') w
   added_other : (k : ℕ) → (k ≡ i → ⊥) → bit row' k ≡ bit row k
   added_other k n = a.at k ∙ rw (ne_eqb k i n, and-false on) (or-false (bit row k))
 
+-- Two words that are 0.
+no_words : {xs : List ℕ} → AllOfLen (λ x. x ≡ 0) xs 2 → xs ≡ replicate 2 0
+no_words {xs} a =
+    let l = a.long in
+    same_number_lists xs (replicate 2 0) a.long λ k h. a.at k 0 (omega arith) ∙ sym (get_or-replicate 2 k 0 0 (omega arith))
+
 module _ {v : View} {ws : List ℕ} {end : ℕ} {places : List ℕ} where
-  pub record_none : {cs ks : List (List ℕ)} → length cs ≡ rule_limit → length ks ≡ rule_limit → Recording v ws end places cs ks 0 cs ks (record { marks = record { nullable = replicate 2 0; stops = replicate 2 0 }; count = 0 })
+  pub record_none : {cs ks : List (List ℕ)} {m : Round} → AllOfLen (λ x. x ≡ 0) m.marks.nullable 2 → AllOfLen (λ x. x ≡ 0) m.marks.stops 2
+      → m.count ≡ 0 → length cs ≡ rule_limit → length ks ≡ rule_limit → Recording v ws end places cs ks 0 cs ks m
   unfolding count_below
-  record_none x y =
+  record_none n s e x y =
+      rw (no_words n, no_words s, e)
       record {
         each = λ k l. absurd (omega arith);
         nullable_none = λ k l. no_bits k;

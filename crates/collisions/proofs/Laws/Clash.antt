@@ -156,11 +156,13 @@ module _ (labels references : ℕ → Bool) (d : ℕ) (s : Clash) (es : List (El
       elements_tell (clash_label labels references) (clash_leaf references) (λ c. c.binding) (any references) label_names leaf_names refl
       (any_append references) (λ c b. refl) (λ c l. refl) d s es
 
-pub clash_done : (d : ℕ) {ws : List ℕ} {end at : ℕ} (bs : List ℕ) {q : ℕ} {r : Clash}
-    → AlternativeWalked (comparing ws bs) ws end d at (record { label = false; binding = false }) q r
+pub clash_done : (d : ℕ) {ws : List ℕ} {end at : ℕ} (bs : List ℕ) {q : ℕ} {first r : Clash}
+    → first.label ≡ false → first.binding ≡ false → AlternativeWalked (comparing ws bs) ws end d at first q r
     → ClashesAt ws end d at bs r
 unfolding alternative_fold noting collect_labels bindable_names
-clash_done d {ws} {end} {at} bs {r = r} w =
+clash_done d {ws} {end} {at} bs {first = first} {r} x y walked =
+    let z : first ≡ none = λ i. record { label = x i; binding = y i } in
+    let w = rw z at walked in
     record {
       label_is = λ labels references m a z s.
           ap (λ c. c.label) (w.value a z s)

@@ -25,8 +25,12 @@ use Rattle.sizes.proofs.Laws.Renumber.{takes_copy}
 use Rattle.sizes.proofs.Laws.Lengths.{copy_length, made_length, made_fold}
 use Rattle.sizes.proofs.Laws.Sums.{none_is, Summing, summing_all, summing_done, summing_more, under_sum, under_more, under_none}
 
-pub element_sized : {ws : List ℕ} {end : ℕ} (d : ℕ) {at p : ℕ} {t : Tally} → ElementWalked counting ws end d at no_ids p t → ids_in t ≤ p
-    → end ≤ most_words
+-- A tally that is 0 in each sort has no ids.
+pub no_ids_is : {t : Tally} → t.alternatives ≡ 0 → t.elements ≡ 0 → t.labels ≡ 0 → t.actions ≡ 0 → t.predicates ≡ 0 → t ≡ no_ids
+no_ids_is p q r s t i = record { alternatives = p i; elements = q i; labels = r i; actions = s i; predicates = t i }
+
+pub element_sized : {ws : List ℕ} {end : ℕ} (d : ℕ) {at p : ℕ} {none t : Tally} → none ≡ no_ids
+    → ElementWalked counting ws end d at none p t → ids_in t ≤ p → end ≤ most_words
     → ElementSized ws end d at
     (record {
       alternatives = t.alternatives;
@@ -36,7 +40,8 @@ pub element_sized : {ws : List ℕ} {end : ℕ} (d : ℕ) {at p : ℕ} {t : Tall
       predicates = t.predicates;
       words = p - at;
     })
-element_sized {ws} {end} d {at} {p} {t} w few low =
+element_sized {ws} {end} d {at} {p} {none} {t} z walked few low =
+    let w = rw z at walked in
     record {
       is = λ e q u made.
           let same = made_fold (block_fold counting d) made no_ids e ∙ sym (w.value e q u) in
@@ -58,7 +63,7 @@ pub element_past : {ws : List ℕ} {end : ℕ} (d : ℕ) {at p : ℕ} {s t : Tal
     → ElementWalked counting ws end d at s p t → at ≤ p
 element_past d f w = let z = stands_length f.spans.stands in let v = w.passed f.tree f.next f.spans in omega arith
 
-pub ruleset sized = (element_sized, element_past)
+pub ruleset sized = (no_ids_is, element_sized, element_past)
 
 -- Sums of elements and of alternatives stay far below the end of numbers.
 pub element_under : {ws : List ℕ} {end d at : ℕ} {n : Measure} → ElementSized ws end d at n → Under n (2 ^ 32)
