@@ -3,7 +3,7 @@ use Prim.Native.Nat.{ℕ, ◌+◌, ◌-◌, ◌*◌, ◌<◌, ◌≤◌}
 use Rattle.std.specs.Prelude.{Ok, Err}
 use Rattle.std.specs.Cmp.{first_so, second_so}
 use mathlib.Core.Path.{◌≡◌, refl, sym, ap, ap₂, ◌∙◌, subst}
-use mathlib.Core.List.{List, [], ◌∷◌}
+use mathlib.Core.List.{List}
 use mathlib.Core.Bool.{Bool, true, false}
 use native.Mathlib.Omega.{arith}
 use lib.ListN.{length, take, drop}
@@ -14,12 +14,11 @@ use mir.Val.{Fits}
 use Rattle.grammar.specs.Numbers.{most_words, trailer_words, counter_past_end, result_too_long, result_bytes, trail_bytes, work_bytes, rule_limit}
 use Rattle.grammar.specs.Tree.{Rule, Sheet, inner_depth}
 use Rattle.grammar.specs.Words.{words}
-use Rattle.grammar.specs.Lists.{each}
 use Rattle.grammar.specs.Stands.{Stands}
 use Rattle.grammar.specs.Encode.{encode, encode_rules}
 use Rattle.reference.specs.Numbers.{most_entries, entry_words}
-use Rattle.reference.specs.Apply.{Fresh, Entry}
-use Rattle.reference.specs.Run.{sheet_with, are_words, is_short, refusal_of, encode_entry}
+use Rattle.reference.specs.Apply.{Fresh}
+use Rattle.reference.specs.Run.{sheet_with, are_words, is_short, refusal_of}
 use Rattle.writing.specs.Wrote.{Wrote}
 use Rattle.writing.specs.Taken.{counters_of}
 use Rattle.writing.specs.Laws.Wrote.{wrote_stands, wrote_slice}
@@ -41,11 +40,7 @@ use Rattle.apply.specs.Laws.Held.{encode_long, held_kind, held_preserved, held_s
 use Rattle.apply.specs.Applied.{Applicable, after_of, Done, AppliedOf, WordsAfter, EntriesAfter, RefusedBy}
 use Rattle.words.specs.declared.numbers.Refusal.{Refusal}
 use Rattle.apply.proofs.Laws.Sizes.{refused_by}
-
-pub entries_long : (es : List Entry) → length (each encode_entry es) ≡ entry_words * length es
-unfolding encode_entry
-entries_long [] = refl
-entries_long (e ∷ es) = let h = entries_long es in omega arith
+use Rattle.apply.specs.Laws.Entries.{entries_long}
 
 -- What refusal 0 says.
 record Good (kind : ℕ) (preserved : List ℕ) (f : Fresh (List Rule)) (recorded : ℕ) : Type 0 where

@@ -43,7 +43,7 @@ use Rattle.words.specs.declared.numbers.Refusal.{Refusal}
 use Rattle.pass.specs.declared.answer.Totals.{Totals}
 use Rattle.pass.specs.Handed.{outcome_of, Handed}
 use Rattle.listing.specs.Told.{refusal_in, Answers, Lent}
-use Rattle.apply.proofs.Laws.Done.{entries_long}
+use Rattle.apply.specs.Laws.Entries.{entries_long}
 
 -- The listing of bytes, by their answer.
 module _ (bs : List ℕ) where

@@ -17,6 +17,7 @@ use Rattle.reach.specs.Listed.{CycleRows, CyclesIn}
 use Rattle.analysis.specs.Survey.{reading}
 use Rattle.analysis.specs.Facts.{Standing, FactsFound}
 use Rattle.analysis.specs.declared.rounds.Marks.{Marks}
+use Rattle.analysis.proofs.Laws.Edges.{are_ids, are_edges}
 use Rattle.hub.specs.Preserved.{between}
 use Rattle.turns.specs.Midway.{IsStandard}
 use Rattle.turns.specs.declared.limits.Limits.{Limits}
@@ -26,7 +27,6 @@ use Rattle.plan.specs.declared.plan.Plan.{Plan}
 use Rattle.plan.specs.Known.{CycleKnown}
 use Rattle.plan.specs.Decision.{DecidedAs, PlanOf}
 use Rattle.hub.proofs.Laws.Cycle.{listed_cycle}
-use Rattle.facts.proofs.Laws.Told.{are_ids, are_edges}
 use Rattle.plan.specs.Ground.{KeptOf}
 use Rattle.plans.specs.Nth.{capped, cycles_of, NthOf}
 

@@ -35,7 +35,7 @@ use Rattle.apply.specs.Applied.{AppliedAs, AppliedOf, Done}
 use Rattle.apply.specs.Laws.Held.{held_long, held_room, held_standing}
 use Rattle.apply.specs.declared.apply.Applied.{Applied}
 use Rattle.apply.specs.Judged.{number_in}
-use Rattle.apply.proofs.Laws.Done.{entries_long}
+use Rattle.apply.specs.Laws.Entries.{entries_long}
 use Rattle.words.specs.Refusal.{refusal_number}
 use Rattle.words.specs.declared.numbers.Refusal.{Refusal}
 use Rattle.words.specs.declared.numbers.Refusal.TheVariants.{BadLength, ShortBuffer, BadTrailer, BadRecord, SharedNumber}
