@@ -5,3 +5,4 @@ pub mod Walk
 pub mod Rules
 pub mod Entries
 pub mod Whole
+pub mod Front

@@ -1,5 +1,5 @@
 // The lines of the entries of a trail.
-ghost use Rattle.std.specs.Prelude.{[], ◌∷◌, ◌≡◌, ◌+◌, ◌*◌, ◌<◌, ◌≤◌, ◌^◌, length, get_or};
+ghost use Rattle.std.specs.Prelude.{[], ◌∷◌, ◌≡◌, ◌+◌, ◌*◌, ◌/◌, ◌<◌, ◌≤◌, ◌^◌, length, get_or};
 ghost use Rattle.grammar.specs.Words.{words};
 ghost use Rattle.listed.specs.Text.{line};
 ghost use Rattle.listed.specs.Listed.{entry_word};
@@ -23,13 +23,13 @@ fn entry(trail: &[u8], at: usize, out: &mut Text<'_>)
     out.line(b"t", &[kind, id, reason, owner]);
 }
 
-// So many entries.
-pub fn list_entries(trail: &[u8], count: usize, out: &mut Text<'_>)
-    requires { Recorded trail.now count × (out.old.n < 2 ^ 30) }
+// All entries.
+pub fn list_entries(trail: &[u8], out: &mut Text<'_>)
+    requires { Recorded trail.now (length trail.now / 16) × (out.old.n < 2 ^ 30) }
     ensures same_buffer { out.new.bytes.ghost_name ≡ out.old.bytes.ghost_name }
-    ensures put { EntriesPut trail.now count out.old.bytes.now out.new.bytes.now out.old.n out.new.n }
+    ensures put { EntriesPut trail.now (length trail.now / 16) out.old.bytes.now out.new.bytes.now out.old.n out.new.n }
 {
-    for i in 0..count {
+    for i in 0..trail.len() / 16 {
         entry(trail, 4 * i, out);
     }
 }

@@ -1,5 +1,5 @@
 // The whole text of an answer.
-ghost use Rattle.std.specs.Prelude.{◌≤◌, length};
+ghost use Rattle.std.specs.Prelude.{◌/◌, ◌≤◌, length};
 ghost use Rattle.listed.specs.Listed.{listed_refusal};
 ghost use Rattle.listed.specs.Put.{Filled};
 ghost use Rattle.listed.specs.Ready.{Held, Recorded, JoinedPut, most_text};
@@ -20,27 +20,16 @@ pub fn list_refused(number: u32, text: &mut [u8]) -> usize
     out.n
 }
 
-// The sheet and the trail that the pass hands back, with its plans and steps. The sheet has so many words, the trail so many
-// entries.
-// Stays: the buffers come as the pass leaves them, with what it tells of them, since the definition is of both.
-pub fn list_joined(
-    res: &[u8],
-    n: usize,
-    trail: &[u8],
-    entries: usize,
-    plans: u32,
-    steps: u32,
-    text: &mut [u8],
-) -> usize
-    requires { Held res.now n × Recorded trail.now entries }
-    ensures { JoinedPut res.now trail.now n entries plans steps
-        text.old text.new result }
+// The sheet and the trail that the pass hands back, cut to their lengths, with its plans and steps.
+pub fn list_joined(res: &[u8], trail: &[u8], plans: u32, steps: u32, text: &mut [u8]) -> usize
+    requires { Held res.now (length res.now / 4) × Recorded trail.now (length trail.now / 16) }
+    ensures { JoinedPut res.now trail.now (length res.now / 4) (length trail.now / 16) plans steps text.old text.new result }
 {
-    let end = rules_end(res, n - Sheet::TRAILER_WORDS);
+    let end = rules_end(res, res.len() / 4 - Sheet::TRAILER_WORDS);
     let mut out = Text { bytes: text, n: 0 };
     out.line(b"ok", &[plans, steps]);
     let s = Sheet { bytes: res, end };
     list_rules(&s, &mut out);
-    list_entries(trail, entries, &mut out);
+    list_entries(trail, &mut out);
     out.n
 }

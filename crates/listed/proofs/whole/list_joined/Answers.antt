@@ -2,8 +2,8 @@ use Rattle.std.proofs.Common.{arith, rules}
 use Rattle.listed.proofs.whole.list_joined.Goals as goal
 use Rattle.listed.proofs.Laws.Whole.{held_trailer, held_word, held_preserved, rules_end, listings, joined_put}
 
-pub overflow_sub-n : goal.overflow_sub-n
-overflow_sub-n c = held_trailer c.requires.0
+pub overflow_sub-res : goal.overflow_sub-res
+overflow_sub-res c = held_trailer c.requires.0
 
 pub rules_end-end-requires : goal.rules_end-end-requires
 rules_end-end-requires c = (held_word c.requires.0, held_preserved c.requires.0)
