@@ -169,7 +169,7 @@ fn step_at(
     requires bounds { task.now.s.now.end ≤ most_words }
     requires shut { Shut (With (text task.now.s.now) task.now.s.now.end work.old t.st t.x) }
     requires in_hand { (t.hand ≡ true → InHand t.x) × (t.hand ≡ false → InList t.x) }
-    requires called_at { CalledAt (text task.now.s.now) task.now.s.now.end work.old task.now.names.now task.now.places.now
+    requires called_at { CalledAt (text task.now.s.now) task.now.s.now.end work.old task.now.c.names.now task.now.places.now
         t.x p (splits by) }
     ensures { SteppedTo (text task.now.s.now) task.now.s.now.end work.old work.new t.st t.x p.index
         (get_or task.now.places.now p.target 0) (splits by) limits result }
@@ -194,12 +194,12 @@ fn act(task: &Task, limits: Limits, work: &mut [u8], t: Taken) -> Result<State, 
     requires shut { Shut (With (text task.now.s.now) task.now.s.now.end work.old t.st t.x) }
     requires in_hand { (t.hand ≡ true → InHand t.x) × (t.hand ≡ false → InList t.x) }
     requires grounded { Shut (Grounded task.now) }
-    ensures { ActedOn (text task.now.s.now) task.now.s.now.end task.now.names.now task.now.places.now task.now.c limits
+    ensures { ActedOn (text task.now.s.now) task.now.s.now.end task.now.c.names.now task.now.places.now task.now.c limits
         work.old work.new t.st t.x result }
 {
     let x = t.x;
     let st = t.st;
-    match find_corner(task.s, task.names, task.c, work, x) {
+    match find_corner(task.s, &task.c, work, x) {
         Corner::Settled => Ok(put_settled(work, st, x)),
         Corner::Blocked => Err(Unplanned::Declined(stuck(st.budget))),
         Corner::Optional(p) => step_at(task, limits, work, t, p, Step::Split),
@@ -217,7 +217,7 @@ pub fn take_turn(
     requires bounds { (task.now.s.now.end ≤ most_words) × HasNext st }
     requires shut { Shut (Ready (text task.now.s.now) task.now.s.now.end work.old st 0 0 0) }
     requires grounded { Shut (Grounded task.now) }
-    ensures { TurnedTo (text task.now.s.now) task.now.s.now.end task.now.names.now task.now.places.now task.now.c limits
+    ensures { TurnedTo (text task.now.s.now) task.now.s.now.end task.now.c.names.now task.now.places.now task.now.c limits
         work.old work.new st result }
 {
     let t = take(task.s, work, st);
