@@ -11,14 +11,6 @@ impl Table {
     const SLOTS: u32 = 65536;
 }
 
-// A name as an index.
-// Stays: callers in other crates read places by it, and its equation is what their laws cite.
-pub fn index(name: u32) -> usize
-    ensures { result ≡ name }
-{
-    name as usize
-}
-
 // The byte of the table for a name.
 fn slot(name: u32) -> usize
     ensures { (result ≡ name % slots) × (result < slots) }
@@ -27,8 +19,8 @@ fn slot(name: u32) -> usize
 }
 
 // Puts the places of the first n names into the table.
-// Stays: names and their number are two parameters, here and below, since the definitions are of the array of a sheet's rules and of
-// how many there are.
+// Stays: names and their number are two parameters, here and below. Of a slice of the first n the promises would tell of that slice,
+// and each caller, whose own are of the array of a sheet's rules (`Rules`) and of its n, would have to turn them back.
 pub fn put_names(names: &[u32], n: usize, table: &mut [u8])
     requires few_rules { (n ≤ rule_limit) × (slots ≤ length table.old) }
     requires told { Told names.now n }

@@ -5,7 +5,6 @@ ghost use Rattle.grammar.specs.Words.{words};
 ghost use Rattle.analysis.specs.Facts.{Standing};
 ghost use Rattle.apply.specs.Left.{LeftTake};
 
-use analysis::names::index;
 use drafts::kept::rule_end;
 use reach::rows::{Row, has};
 use records::rules::Rules;
@@ -27,7 +26,7 @@ pub fn words_left(
     let mut total: usize = 0;
     for i in from..until {
         if !has(row, i) {
-            total += rule_end(&places, rules.n as usize, i, end) - index(places[i]);
+            total += rule_end(&places, rules.n as usize, i, end) - places[i] as usize;
         }
     }
     total

@@ -8,7 +8,6 @@ ghost use Rattle.compose.specs.Hub.{NewHubFits, NewHubAdded, NewRulesFit, NewRul
 ghost use Rattle.words.specs.Sheet.{text};
 
 use crate::body::write_hub;
-use analysis::names::index;
 use copies::pen::Drawing;
 use drafts::draft::Draft;
 use drafts::kept::copy_rules;
@@ -26,7 +25,7 @@ fn add_hub(s: &Sheet, rules: Rules, p: Plan, work: &mut [u8], trail: &mut [u8], 
         work.new trail.new d.new }
 {
     let hub = p.hub;
-    let at = index(rules.places[hub]);
+    let at = rules.places[hub] as usize;
     let pen = d.pen;
     let mut drawing = Drawing {
         out: work,

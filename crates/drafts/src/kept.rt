@@ -7,7 +7,6 @@ ghost use Rattle.drafts.specs.Kept.{PlaceEnds, RulesFit, RulesAdded};
 ghost use Rattle.words.specs.Sheet.{text};
 
 use crate::draft::Draft;
-use analysis::names::index;
 use reach::rows::{Row, has};
 use records::rules::Rules;
 use words::sheet::Sheet;
@@ -19,7 +18,7 @@ pub fn rule_end(places: &[u32; Row::RULES], n: usize, i: usize, end: usize) -> u
     ensures { PlaceEnds end places.now n i result }
 {
     if i + 1 < n {
-        return index(places[i + 1]);
+        return places[i + 1] as usize;
     }
     end
 }
@@ -41,7 +40,7 @@ pub fn copy_rules(
     let n = rules.n as usize;
     for i in from..until {
         if !has(row, i) {
-            let at = index(rules.places[i]);
+            let at = rules.places[i] as usize;
             let long = rule_end(&rules.places, n, i, s.end) - at;
             copy_words(s.bytes, at, work, d.pen.to, long);
             d.add_row(rules.ids[i], rules.names[i], long);

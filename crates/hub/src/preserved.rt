@@ -8,30 +8,16 @@ ghost use Rattle.hub.specs.Preserved.{between};
 
 use reach::rows::{Row, collect};
 use records::rules::Rules;
-use words::words::word;
 
-// Whether an id is among the words from `from` up to `to`, which rise: by halving.
-// Stays: the words are read out of the bytes of the sheet, so there is no slice of them for std's search to go over.
+// Whether an id is among the words from `from` up to `to`, which rise.
 pub fn is_preserved(s: &[u8], from: usize, to: usize, id: u32) -> bool
     requires from_le_to { (from ≤ to) × (4 * to ≤ length s.now) }
     requires to_value { rising (between (words s.now) from to) ≡ true }
     ensures { result ≡ member id (between (words s.now) from to) }
 {
-    let mut low = from;
-    let mut high = to;
-    while low < high {
-        let middle = low + (high - low) / 2;
-        let w = word(s, middle);
-        if w == id {
-            return true;
-        }
-        if w < id {
-            low = middle + 1;
-        } else {
-            high = middle;
-        }
-    }
-    false
+    let (run, _) = s[4 * from..4 * to].as_chunks::<4>();
+    run.binary_search_by_key(&id, |w| u32::from_le_bytes(*w))
+        .is_ok()
 }
 
 // The row of the rules that are.

@@ -11,7 +11,6 @@ ghost use Rattle.plan.specs.Decision.{TakesArguments, PlanOf, PlanWith, PlanMade
 ghost use Rattle.words.specs.Sheet.{text};
 
 use crate::facts::Facts;
-use analysis::names::index;
 use hub::budget::budget;
 use hub::hub::choose_hub;
 use hub::inlinable::all_inlinable;
@@ -19,7 +18,7 @@ use hub::removal::removable;
 use planned::list::Sizes;
 use reach::rows::Row;
 use rewritable::judge::judge;
-use steps::corner::Cycle;
+use steps::cycle::Cycle;
 use steps::decide::Clause;
 use substitution::turning::{Done, substitute};
 use turns::limits::Limits;
@@ -90,8 +89,14 @@ fn make(
     let rules = f.rules;
     let n = rules.n as usize;
     let most = budget(s, rules, members, limits.floor);
-    let c = Cycle { n, members, hub };
-    let Some(done) = substitute(s, rules, c, limits, most, work)? else {
+    let names = rules.names;
+    let c = Cycle {
+        names: &names,
+        n,
+        members,
+        hub,
+    };
+    let Some(done) = substitute(s, rules, &c, limits, most, work)? else {
         return Err(Unplanned::Declined(Clause::NoSteps));
     };
     finish(s, f, members, hub, work, done)
@@ -124,7 +129,7 @@ fn with_hub(
 {
     let rules = f.rules;
     let places = rules.places;
-    if takes_arguments(s, index(places[hub])) {
+    if takes_arguments(s, places[hub] as usize) {
         return Err(Unplanned::Declined(Clause::HubWithArguments));
     }
     let marks = f.marks;

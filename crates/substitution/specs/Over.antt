@@ -18,7 +18,7 @@ use Rattle.substitution.specs.Size.{RuleCounted}
 use Rattle.turns.specs.Ground.{Ground, task_of}
 use Rattle.turns.specs.Turns.{Task, Replaced, IsSettled}
 use Rattle.substitution.specs.Run.{MadeOf}
-use Rattle.steps.specs.declared.corner.Cycle.{Cycle}
+use Rattle.steps.specs.declared.cycle.Cycle.{Cycle}
 use Rattle.steps.specs.declared.corner.Place.{Place}
 use Rattle.turns.specs.declared.limits.Limits.{Limits}
 use Rattle.steps.specs.declared.decide.Clause.{Clause}

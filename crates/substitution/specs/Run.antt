@@ -11,7 +11,7 @@ use Rattle.turns.specs.Turns.{substitution}
 use Rattle.turns.specs.Turn.{UnplannedBy}
 use Rattle.turns.specs.Ground.{Ground, task_of}
 use Rattle.turns.specs.Midway.{limits_of, Ready, Midway}
-use Rattle.steps.specs.declared.corner.Cycle.{Cycle}
+use Rattle.steps.specs.declared.cycle.Cycle.{Cycle}
 use Rattle.turns.specs.declared.limits.Limits.{Limits}
 use Rattle.turns.specs.declared.state.State.{State}
 use Rattle.substitution.specs.declared.turning.Done.{Done}

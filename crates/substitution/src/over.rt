@@ -11,7 +11,6 @@ ghost use Rattle.substitution.specs.Over.{Reached, StepLooked, HandLooked, Looke
 ghost use Rattle.words.specs.Sheet.{text};
 
 use crate::turning::Done;
-use analysis::names::index;
 use ends::ends::alternative_end;
 use planned::list::Listed;
 use splices::bring::hub_in_hand;
@@ -36,7 +35,7 @@ fn look_step(
     requires bounds { Located work.old h × InHand h × Reached task.now.c h.ne p (splits step) }
     requires listed_in { ListedIn (text task.now.s.now) task.now.s.now.end inner_depth work.old h }
     requires grounded { Grounded task.now }
-    ensures { StepLooked (text task.now.s.now) task.now.s.now.end task.now.names.now task.now.places.now task.now.c budget
+    ensures { StepLooked (text task.now.s.now) task.now.s.now.end task.now.c.names.now task.now.places.now task.now.c budget
         work.old work.new h p (splits step) result }
 {
     if budget == 0 {
@@ -54,10 +53,10 @@ fn look_hand(task: &Task, budget: usize, work: &mut [u8], h: Listed) -> Result<(
     requires bounds { Located work.old h × InHand h }
     requires listed_in { ListedIn (text task.now.s.now) task.now.s.now.end inner_depth work.old h }
     requires grounded { Grounded task.now }
-    ensures { HandLooked (text task.now.s.now) task.now.s.now.end task.now.names.now task.now.places.now task.now.c budget
+    ensures { HandLooked (text task.now.s.now) task.now.s.now.end task.now.c.names.now task.now.places.now task.now.c budget
         work.old work.new h result }
 {
-    match find_corner(task.s, task.names, task.c, work, h) {
+    match find_corner(task.s, &task.c, work, h) {
         Corner::Settled => Ok(()),
         Corner::Blocked => Err(Unplanned::Declined(stuck(budget))),
         Corner::Optional(p) => Err(look_step(task, budget, work, h, p, Step::Split)),
@@ -70,7 +69,7 @@ fn look_at(task: &Task, budget: usize, work: &mut [u8], at: usize) -> Result<(),
     requires bounds { work_bytes ≤ length work.old }
     requires found_alternative { FoundAlternative (text task.now.s.now) task.now.s.now.end inner_depth at }
     requires grounded { Grounded task.now }
-    ensures { LookedAt (text task.now.s.now) task.now.s.now.end task.now.names.now task.now.places.now task.now.c budget at
+    ensures { LookedAt (text task.now.s.now) task.now.s.now.end task.now.c.names.now task.now.places.now task.now.c budget at
         work.old work.new result }
 {
     let h = hub_in_hand(task.s, Block::DEPTH, at, work);
@@ -87,7 +86,7 @@ fn look_all(
     requires bounds { work_bytes ≤ length work.old }
     requires at_value { (at ≡ get_or task.now.places.now task.now.c.hub 0) × (at + 4 ≤ task.now.s.now.end) }
     requires grounded { Grounded task.now }
-    ensures { Unstored (text task.now.s.now) task.now.s.now.end task.now.names.now task.now.places.now task.now.c budget
+    ensures { Unstored (text task.now.s.now) task.now.s.now.end task.now.c.names.now task.now.places.now task.now.c budget
         work.new result }
 {
     let s = task.s;
@@ -104,9 +103,9 @@ fn look_all(
 pub fn unstored(task: &Task, budget: usize, work: &mut [u8]) -> Result<Option<Done>, Unplanned>
     requires bounds { work_bytes ≤ length work.old }
     requires grounded { Grounded task.now }
-    ensures { Unstored (text task.now.s.now) task.now.s.now.end task.now.names.now task.now.places.now task.now.c budget
+    ensures { Unstored (text task.now.s.now) task.now.s.now.end task.now.c.names.now task.now.places.now task.now.c budget
         work.new result }
 {
     let c = task.c;
-    look_all(task, budget, work, index(task.places[c.hub]))
+    look_all(task, budget, work, task.places[c.hub] as usize)
 }

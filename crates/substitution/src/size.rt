@@ -1,29 +1,16 @@
 // How large a rule is: its alternatives, with their outermost elements and options.
-ghost use Rattle.std.specs.Prelude.{◌+◌, ◌≤◌, get_or};
+ghost use Rattle.std.specs.Prelude.{◌+◌, ◌≤◌};
 ghost use Rattle.grammar.specs.Numbers.{most_words};
 ghost use Rattle.grammar.specs.Found.{FoundRule};
-ghost use Rattle.steps.specs.Decide.{SmallSize, IsCounted};
 ghost use Rattle.substitution.specs.Size.{RuleCounted};
 ghost use Rattle.words.specs.Sheet.{text};
 
-use analysis::names::index;
 use ends::ends::alternative_end;
 use splices::splice::Size;
+use steps::decide::counted;
 use words::numbers::Block;
 use words::sheet::Sheet;
 use words::words::word;
-
-// The alternative at `at` is counted, by the words of its head.
-fn with_one(s: &Sheet, at: usize, z: Size) -> Size
-    requires { (at + 5 ≤ s.now.end) × SmallSize z }
-    ensures { IsCounted z (get_or (text s.now) (at + 4) 0) (get_or (text s.now) (at + 3) 0) result }
-{
-    Size {
-        a: z.a + 1,
-        e: z.e + index(word(s.bytes, at + 4)),
-        o: z.o + index(word(s.bytes, at + 3)),
-    }
-}
 
 // The rule at `at`.
 pub fn hub_size(s: &Sheet, at: usize) -> Size
@@ -35,7 +22,11 @@ pub fn hub_size(s: &Sheet, at: usize) -> Size
     let n = word(s.bytes, at + 3);
     let mut p = at + 4;
     for _ in 0..n {
-        z = with_one(s, p, z);
+        z = counted(
+            z,
+            word(s.bytes, p + 4) as usize,
+            word(s.bytes, p + 3) as usize,
+        );
         p = alternative_end(s, Block::DEPTH, p);
     }
     z

@@ -8,11 +8,10 @@ ghost use Rattle.words.specs.Sheet.{text};
 
 use crate::over::unstored;
 use crate::size::hub_size;
-use analysis::names::index;
 use planned::list::{Sizes, is_drained};
 use records::rules::Rules;
 use splices::splice::Size;
-use steps::corner::Cycle;
+use steps::cycle::Cycle;
 use turns::limits::Limits;
 use turns::state::State;
 use turns::task::Task;
@@ -58,9 +57,9 @@ fn stored(
 ) -> Result<Option<Done>, Unplanned>
     requires shut { Shut (Ready (text task.now.s.now) task.now.s.now.end work.old first 0 0 0) }
     requires grounded { Shut (Grounded task.now) }
-    requires going { Shut (Going (text task.now.s.now) task.now.s.now.end task.now.names.now task.now.places.now task.now.c task.now.limits
+    requires going { Shut (Going (text task.now.s.now) task.now.s.now.end task.now.c.names.now task.now.places.now task.now.c task.now.limits
         budget work.old first) }
-    ensures { MadeOf (text task.now.s.now) task.now.s.now.end task.now.names.now task.now.places.now task.now.c task.now.limits
+    ensures { MadeOf (text task.now.s.now) task.now.s.now.end task.now.c.names.now task.now.places.now task.now.c task.now.limits
         budget work.new result }
 {
     let mut st = first;
@@ -76,11 +75,11 @@ fn stored(
 fn run(task: &Task, budget: usize, work: &mut [u8]) -> Result<Option<Done>, Unplanned>
     requires bounds { work_bytes ≤ length work.old }
     requires grounded { Shut (Grounded task.now) }
-    ensures { MadeOf (text task.now.s.now) task.now.s.now.end task.now.names.now task.now.places.now task.now.c task.now.limits
+    ensures { MadeOf (text task.now.s.now) task.now.s.now.end task.now.c.names.now task.now.places.now task.now.c task.now.limits
         budget work.new result }
 {
     let c = task.c;
-    let at = index(task.places[c.hub]);
+    let at = task.places[c.hub] as usize;
     let z = hub_size(task.s, at);
     if is_within(task.limits.most(), z) {
         let st = begin(task.s, at, z, budget);
@@ -94,22 +93,20 @@ fn run(task: &Task, budget: usize, work: &mut [u8]) -> Result<Option<Done>, Unpl
 pub fn substitute(
     s: &Sheet,
     rules: Rules,
-    c: Cycle,
+    c: &Cycle,
     limits: Limits,
     budget: usize,
     work: &mut [u8],
 ) -> Result<Option<Done>, Unplanned>
     requires bounds { (s.now.end ≤ most_words) × (work_bytes ≤ length work.old) }
-    requires ground { Ground (text s.now) s.now.end rules.names rules.places c }
-    ensures { MadeOf (text s.now) s.now.end rules.names rules.places c limits budget work.new result }
+    requires ground { Ground (text s.now) s.now.end c.now.names.now rules.places c.now }
+    ensures { MadeOf (text s.now) s.now.end c.now.names.now rules.places c.now limits budget work.new result }
 {
-    let names = rules.names;
     let places = rules.places;
     let task = Task {
         s,
-        names: &names,
         places: &places,
-        c,
+        c: *c,
         limits,
     };
     run(&task, budget, work)

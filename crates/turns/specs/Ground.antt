@@ -10,7 +10,7 @@ use Rattle.reach.specs.Rows.{bit, RowOf}
 use Rattle.analysis.specs.Facts.{Standing, Among}
 use Rattle.hub.specs.Grounds.{rules_of, grammar_at, IsCycle}
 use Rattle.turns.specs.Turns.{Task}
-use Rattle.steps.specs.declared.corner.Cycle.{Cycle}
+use Rattle.steps.specs.declared.cycle.Cycle.{Cycle}
 use Rattle.turns.specs.declared.task.Task as T
 use Rattle.words.specs.Sheet.{text}
 
@@ -42,4 +42,4 @@ task_of {ws} {end} {c = c} b limits =
 
 -- What is lent as one value belongs together.
 abbrev pub Grounded : T.Task → Type 0
-Grounded t = Ground (text t.s.now) t.s.now.end t.names.now t.places.now t.c
+Grounded t = Ground (text t.s.now) t.s.now.end t.c.names.now t.places.now t.c

@@ -11,7 +11,7 @@ use Rattle.steps.specs.Decide.{DeclinedBy}
 use Rattle.steps.specs.Step.{step_by, RuleNamed, RuleUnreferring, CallIn}
 use Rattle.turns.specs.Ground.{Ground, task_of}
 use Rattle.turns.specs.Midway.{Ready, With, Midway, Holding, limits_of, pending_count}
-use Rattle.steps.specs.declared.corner.Cycle.{Cycle}
+use Rattle.steps.specs.declared.cycle.Cycle.{Cycle}
 use Rattle.steps.specs.declared.corner.Place.{Place}
 use Rattle.turns.specs.declared.limits.Limits.{Limits}
 use Rattle.turns.specs.declared.state.State.{State}

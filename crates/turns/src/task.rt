@@ -4,19 +4,18 @@ ghost use Rattle.grammar.specs.Numbers.{most_words};
 ghost use Rattle.turns.specs.Called.{call_of};
 
 use crate::limits::Limits;
-use analysis::names::index;
-use steps::corner::{Cycle, Place};
+use steps::corner::Place;
+use steps::cycle::Cycle;
 use steps::step::{Call, Step};
 use words::sheet::Sheet;
 
-// The sheet, the names and the places of its rules, a cycle among them with its hub, and the limits.
+// The sheet, the places of its rules, a cycle among them with its hub, and the limits.
 // Stays: that they belong together is a clause and no ghost field: it holds data, such as the rules, and a ghost field takes facts alone.
 #[derive(Clone, Copy, Debug, PartialEq, Eq)]
 pub struct Task<'a> {
     pub s: &'a Sheet<'a>,
-    pub names: &'a [u32],
     pub places: &'a [u32],
-    pub c: Cycle,
+    pub c: Cycle<'a>,
     pub limits: Limits,
     ghost few: { s.now.end ≤ most_words },
 }
@@ -24,14 +23,14 @@ pub struct Task<'a> {
 impl Task<'_> {
     // The call of the member that is met at a place.
     pub fn call(&self, p: Place, step: Step) -> Call
-        requires { (p.target < length self.now.names.now) × (p.target < length self.now.places.now) }
-        ensures { result ≡ call_of self.now.names.now self.now.places.now p step }
+        requires { (p.target < length self.now.c.names.now) × (p.target < length self.now.places.now) }
+        ensures { result ≡ call_of self.now.c.names.now self.now.places.now p step }
     {
         let i = p.target;
         Call {
             index: p.index,
-            name: self.names[i],
-            at: index(self.places[i]),
+            name: self.c.names[i],
+            at: self.places[i] as usize,
             step,
         }
     }

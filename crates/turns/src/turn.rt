@@ -161,7 +161,7 @@ fn step(task: &Task, work: &mut [u8], t: Taken, k: Call) -> Result<State, Unplan
 // A step at a member of the cycle that is called.
 fn step_at(task: &Task, work: &mut [u8], t: Taken, p: Place, by: Step) -> Result<State, Unplanned>
     requires shut { Shut (With (text task.now.s.now) task.now.s.now.end work.old t.st t.x) }
-    requires called_at { CalledAt (text task.now.s.now) task.now.s.now.end work.old task.now.names.now task.now.places.now
+    requires called_at { CalledAt (text task.now.s.now) task.now.s.now.end work.old task.now.c.names.now task.now.places.now
         t.x p (splits by) }
     ensures { SteppedTo (text task.now.s.now) task.now.s.now.end work.old work.new t.st t.x p.index
         (get_or task.now.places.now p.target 0) (splits by) task.now.limits result }
@@ -184,12 +184,12 @@ pub fn stuck(budget: usize) -> Clause
 fn act(task: &Task, work: &mut [u8], t: Taken) -> Result<State, Unplanned>
     requires shut { Shut (With (text task.now.s.now) task.now.s.now.end work.old t.st t.x) }
     requires grounded { Shut (Grounded task.now) }
-    ensures { ActedOn (text task.now.s.now) task.now.s.now.end task.now.names.now task.now.places.now task.now.c task.now.limits
+    ensures { ActedOn (text task.now.s.now) task.now.s.now.end task.now.c.names.now task.now.places.now task.now.c task.now.limits
         work.old work.new t.st t.x result }
 {
     let x = t.x;
     let st = t.st;
-    match find_corner(task.s, task.names, task.c, work, x) {
+    match find_corner(task.s, &task.c, work, x) {
         Corner::Settled => Ok(put_settled(work, st, x)),
         Corner::Blocked => Err(Unplanned::Declined(stuck(st.budget))),
         Corner::Optional(p) => step_at(task, work, t, p, Step::Split),
@@ -202,7 +202,7 @@ pub fn take_turn(task: &Task, work: &mut [u8], st: State) -> Result<State, Unpla
     requires bounds { HasNext st }
     requires shut { Shut (Ready (text task.now.s.now) task.now.s.now.end work.old st 0 0 0) }
     requires grounded { Shut (Grounded task.now) }
-    ensures { TurnedTo (text task.now.s.now) task.now.s.now.end task.now.names.now task.now.places.now task.now.c task.now.limits
+    ensures { TurnedTo (text task.now.s.now) task.now.s.now.end task.now.c.names.now task.now.places.now task.now.c task.now.limits
         work.old work.new st result }
 {
     let t = take(task.s, work, st);

@@ -106,19 +106,23 @@ module _ {ws : List ℕ} {end : ℕ} {rules : Rules} (f : FoundRows ws end rules
     pub place_room : at + 4 ≤ end
     place_room = rule_room inner_depth place_found
 
+-- The array of names is as long as there may be rules.
+pub names_long : {ws : List ℕ} {end : ℕ} {rules : Rules} → Standing ws end rules → length rules.names ≡ rule_limit
+names_long s =
+    ap length s.rows.rows.names
+    ∙ row_long (rule_names s.rows.found.trees)
+    (let m = length-map s.rows.found.trees (λ r. r.name) in let c = s.rows.found.count in let f = s.rows.few in omega arith)
+
 -- The rules' names can be put into a table.
 pub told : {ws : List ℕ} {end : ℕ} {rules : Rules} → Standing ws end rules → Told rules.names rules.n
 told {rules = rules} s =
     record {
-      few = let l = s.rows.few in let e = long in omega arith;
+      few = let l = s.rows.few in let e = names_long s in omega arith;
       apart = λ i j l m e.
           let a = rule_of s.rows i (omega arith) in
           let b = rule_of s.rows j m in
           let z = one_rule s.rows (λ r. r.name) s.names a b (sym (name_at s.rows a) ∙ e ∙ name_at s.rows b) in
           omega arith;
     }
-  where
-    long : length rules.names ≡ rule_limit
-    long = ap length s.rows.rows.names ∙ row_long (rule_names s.rows.found.trees) (let m = length-map s.rows.found.trees (λ r. r.name) in let c = s.rows.found.count in let f = s.rows.few in omega arith)
 
 pub ruleset standing = (place_found, place_room)

@@ -1,18 +1,20 @@
--- A rising run of words, halved; and the row of the rules that are in it.
-use Prim.Native.Nat.{ℕ, zero, suc, ◌+◌, ◌-◌, ◌*◌, ◌/◌, ◌<◌, ◌≤◌}
-use mathlib.Core.Path.{◌≡◌, sym, ap, ◌∙◌, subst}
-use mathlib.Core.List.{List, [], ◌∷◌, Memᴰ}
-use mathlib.Core.Bool.{Bool, true, false}
-use native.Mathlib.Omega.{arith}
-use lib.ListN.{length, get_or, drop, length-take, length-drop}
-use lib.Seq.{get_or-take, get_or-drop}
-use lib.Dec.{eqb, ltb}
-use borrow.Author.Tests.{eqb-true, eqb-false, ltb-true, ltb-false}
-use Rattle.grammar.specs.Words.{words}
+-- A rising run of words, searched; and the row of the rules that are in it.
+use Rattle.std.proofs.Common.{ℕ, zero, suc, ◌-◌, ◌*◌, ◌/◌, ◌<◌, ◌≤◌, ◌≡◌, refl, sym, ap, ap₂, ◌∙◌, subst, arith, List, [], ◌∷◌, map, length, get_or, take, drop}
+use mathlib.Core.List.{Memᴰ}
+use Rattle.std.specs.Prelude.{Bool, true, Result, Ok, Err, is_ok}
+use Rattle.std.specs.Int.{w32, from_le_bytes}
+use Rattle.std.specs.Ordering.{nat_cmp}
+use Rattle.std.specs.List.Sorted.{IsSearchInRange, IsBinarySearchResult}
+use Rattle.std.specs.Simd.{first_chunks}
+use Rattle.std.proofs.lemmas.List.{get_or-map}
+use Rattle.std.proofs.lemmas.List.Sorted.{searched}
+use lib.ListN.{length-map}
+use lib.Dec.{ltb}
+use borrow.Author.Tests.{ltb-true, ltb-false}
+use Rattle.grammar.specs.Words.{word_of, words}
 use Rattle.grammar.specs.Lists.{member, rising}
 use Rattle.grammar.specs.Laws.Lists.{in_member, member_in}
 use Rattle.grammar.specs.Laws.Parse.{either}
-use Rattle.grammar.specs.Laws.Words.{length_words}
 use Rattle.graph.specs.Order.{Rising, true_rising}
 use Rattle.reach.specs.Rows.{bit, RowOf, Collected}
 use Rattle.reach.proofs.Laws.Graph.{at_in, in_at}
@@ -26,125 +28,100 @@ rising_at (x ∷ xs) h i zero l m = absurd (omega arith)
 rising_at (x ∷ xs) h zero (suc j) l m = h.0 (get_or xs j 0) (at_in 0 xs j (omega arith))
 rising_at (x ∷ xs) h (suc i) (suc j) l m = rising_at xs h.1 i j (omega arith) (omega arith)
 
-module _ (bs : List ℕ) (from to : ℕ) (inside : from ≤ to) (room : 4 * to ≤ length bs) where
-  abbrev run : List ℕ
-  run = between (words bs) from to
+-- The number of four bytes, as the library has it.
+abbrev pub chunk_word : List ℕ → ℕ
+chunk_word y = from_le_bytes w32 y
 
-  long : length run ≡ to - from
-  long =
-      length-take (to - from) (drop from (words bs))
-      ∙ (let d = length-drop from (words bs) in let w = length_words bs in omega arith)
+-- Bytes four by four are their words.
+chunk_words : (k : ℕ) (bs : List ℕ) → k ≡ length bs / 4 → map chunk_word (first_chunks 4 k bs) ≡ words bs
+unfolding words
+chunk_words zero [] e = refl
+chunk_words zero (a ∷ []) e = refl
+chunk_words zero (a ∷ b ∷ []) e = refl
+chunk_words zero (a ∷ b ∷ c ∷ []) e = refl
+chunk_words zero (a ∷ b ∷ c ∷ d ∷ bs) e = absurd (omega arith)
+chunk_words (suc k) [] e = absurd (omega arith)
+chunk_words (suc k) (a ∷ []) e = absurd (omega arith)
+chunk_words (suc k) (a ∷ b ∷ []) e = absurd (omega arith)
+chunk_words (suc k) (a ∷ b ∷ c ∷ []) e = absurd (omega arith)
+chunk_words (suc k) (a ∷ b ∷ c ∷ d ∷ bs) e = ap₂ ◌∷◌ (omega arith) (chunk_words k bs (omega arith))
 
-  at_run : (k : ℕ) → from ≤ k → k < to → get_or (words bs) k 0 ≡ get_or run (k - from) 0
-  at_run k l m =
-      let e : from + (k - from) ≡ k = omega arith in
-      sym
-      (get_or-take (to - from) (drop from (words bs)) (k - from) 0 (omega arith)
-      ∙ get_or-drop from (words bs) (k - from) 0 ∙ ap (λ j. get_or (words bs) j 0) e)
+four : (n : ℕ) → 4 * suc n ≡ suc (suc (suc (suc (4 * n))))
+four n = omega arith
 
-  in_run : {x : ℕ} (k : ℕ) → from ≤ k → k < to → get_or (words bs) k 0 ≡ x → true ≡ member x run
-  in_run {x} k l m e =
-      sym (in_member (subst (λ y. Memᴰ y run) (sym (at_run k l m) ∙ e) (at_in 0 run (k - from) (let n = long in omega arith))))
+words_drop : (n : ℕ) (bs : List ℕ) → words (drop (4 * n) bs) ≡ drop n (words bs)
+unfolding words
+words_drop zero bs = refl
+words_drop (suc n) [] = rw (four n) refl
+words_drop (suc n) (a ∷ []) = rw (four n) refl
+words_drop (suc n) (a ∷ b ∷ []) = rw (four n) refl
+words_drop (suc n) (a ∷ b ∷ c ∷ []) = rw (four n) refl
+words_drop (suc n) (a ∷ b ∷ c ∷ d ∷ bs) = rw (four n) (words_drop n bs)
 
-  out_run : {x : ℕ} → ((k : ℕ) → from ≤ k → k < to → get_or (words bs) k 0 ≡ x → ⊥) → false ≡ member x run
-  out_run {x} h =
-      either (member x run)
+words_take : (n : ℕ) (bs : List ℕ) → words (take (4 * n) bs) ≡ take n (words bs)
+unfolding words
+words_take zero bs = refl
+words_take (suc n) [] = rw (four n) refl
+words_take (suc n) (a ∷ []) = rw (four n) refl
+words_take (suc n) (a ∷ b ∷ []) = rw (four n) refl
+words_take (suc n) (a ∷ b ∷ c ∷ []) = rw (four n) refl
+words_take (suc n) (a ∷ b ∷ c ∷ d ∷ bs) = rw (four n) (ap {B = List ℕ} (λ l. word_of a b c d ∷ l) (words_take n bs))
+
+-- Those of a part of the bytes are that part of the words.
+run_words : (bs : List ℕ) (from to : ℕ) → words (take (4 * to - 4 * from) (drop (4 * from) bs)) ≡ between (words bs) from to
+run_words bs from to =
+    let e : 4 * to - 4 * from ≡ 4 * (to - from) = omega arith in
+    rw e (words_take (to - from) (drop (4 * from) bs) ∙ ap (take (to - from)) (words_drop from bs))
+
+-- What a search by a key finds among elements whose keys rise.
+module _ {X : Type 0} (key : X → ℕ) (d : X) (xs : List X) (rises : rising (map key xs) ≡ true) (id : ℕ) where
+  abbrev keys : List ℕ
+  keys = map key xs
+
+  long : length keys ≡ length xs
+  long = length-map xs key
+
+  key_at : (i : ℕ) (e : X) (z : ℕ) → i < length xs → get_or keys i z ≡ key (get_or xs i e)
+  key_at i e z l = get_or-map key xs i e z l
+
+  by_keys : (r : Result ℕ ℕ) → IsSearchInRange r (length xs) → IsBinarySearchResult (λ y. nat_cmp (key y) id) xs r
+      → IsBinarySearchResult (λ y. nat_cmp y id) keys r
+  by_keys (Ok i) l h = λ z. ap (λ y. nat_cmp y id) (key_at i d z l) ∙ h d
+  by_keys (Err i) l h = λ up.
+      let p = h (λ a b e le lt.
+      rw (← key_at a e 0 (omega arith), ← key_at b e 0 lt) (up a b 0 le (let n = long in omega arith))) in (
+        (λ k z a b. ap (λ y. nat_cmp y id) (key_at k d z (omega arith)) ∙ p.0 k d a b),
+        (λ k z a b. ap (λ y. nat_cmp y id) (key_at k d z (let n = long in omega arith)) ∙ p.1 k d a (let n = long in omega arith)),
+      )
+
+  ordered : (i j : ℕ) → i ≤ j → j < length keys → get_or keys i 0 ≤ get_or keys j 0
+  ordered i j le lt =
+      either (ltb i j)
+      (λ t. let l = rising_at keys (true_rising keys rises) i j (ltb-true i j t) lt in omega arith)
+      (λ f. let l = ltb-false i j f in let e : i ≡ j = omega arith in let s = ap (λ k. get_or keys k 0) e in omega arith)
+
+  pub found : (r : Result ℕ ℕ) → IsSearchInRange r (length xs) → IsBinarySearchResult (λ y. nat_cmp (key y) id) xs r
+      → is_ok r ≡ member id keys
+  found (Ok i) b h =
+      let s = searched keys id (Ok i) (by_keys (Ok i) b h) ordered in
+      sym (in_member (subst (λ y. Memᴰ y keys) s.1 (at_in 0 keys i s.0)))
+  found (Err i) b h =
+      let s = searched keys id (Err i) (by_keys (Err i) b h) ordered in
+      either (member id keys)
       (λ t.
-      let (i, l, e) = in_at 0 (member_in run t) in
-      let n = long in
-      let z : (from + i) - from ≡ i = omega arith in
-      absurd (h (from + i) (omega arith) (omega arith) (at_run (from + i) (omega arith) (omega arith) ∙ ap (λ k. get_or run k 0) z ∙ e)))
+      let (k, l, e) = in_at 0 (member_in keys t) in
+      absurd
+      (either (ltb k i) (λ x. let y = s.1 k (ltb-true k i x) in omega arith) (λ x. let y = s.2 k (ltb-false k i x) l in omega arith)))
       (λ f. sym f)
 
-  module _ (rises : rising run ≡ true) where
-    rises_at : (i j : ℕ) → from ≤ i → i < j → j < to → get_or (words bs) i 0 < get_or (words bs) j 0
-    rises_at i j l m n =
-        let a = at_run i l (omega arith) in
-        let b = at_run j (omega arith) n in
-        let g = rising_at run (true_rising run rises) (i - from) (j - from) (omega arith) (let e = long in omega arith) in
-        omega arith
-
--- What is left to look at: all in front is smaller, all behind is larger.
-pub record Halving (bs : List ℕ) (from to id low high : ℕ) : Type 0 where
-  pub inside : from ≤ to
-  pub room : 4 * to ≤ length bs
-  pub rises : rising (between (words bs) from to) ≡ true
-  pub first : from ≤ low
-  pub order : low ≤ high
-  pub last : high ≤ to
-  pub below : (k : ℕ) → from ≤ k → k < low → get_or (words bs) k 0 < id
-  pub above : (k : ℕ) → high ≤ k → k < to → id < get_or (words bs) k 0
-
-pub halve_all : {bs : List ℕ} {from to : ℕ} (id : ℕ) → from ≤ to → 4 * to ≤ length bs → rising (between (words bs) from to) ≡ true
-    → Halving bs from to id from to
-halve_all id l m r =
-    record {
-      inside = l;
-      room = m;
-      rises = r;
-      first = omega arith;
-      order = l;
-      last = omega arith;
-      below = λ k a b. absurd (omega arith);
-      above = λ k a b. absurd (omega arith);
-    }
-
-module _ {bs : List ℕ} {from to id low high : ℕ} (g : Halving bs from to id low high) where
-  pub halve_done : high ≤ low → false ≡ member id (between (words bs) from to)
-  halve_done z =
-      out_run bs from to g.inside g.room λ k l m e.
-      either (ltb k low)
-      (λ t. let b = g.below k l (ltb-true k low t) in omega arith)
-      (λ f. let n = ltb-false k low f in let a = g.above k (omega arith) m in omega arith)
-
-  abbrev middle : ℕ
-  middle = low + (high - low) / 2
-
-  module _ (some : low < high) {w : ℕ} (e : w ≡ get_or (words bs) middle 0) where
-    pub halve_found : w ≡ id → true ≡ member id (between (words bs) from to)
-    halve_found z =
-        in_run bs from to g.inside g.room middle (let a = g.first in omega arith) (let a = g.last in omega arith) (sym e ∙ z)
-
-    pub halve_up : w < id → Halving bs from to id (middle + 1) high
-    halve_up z =
-        record {
-          inside = g.inside;
-          room = g.room;
-          rises = g.rises;
-          first = let a = g.first in omega arith;
-          order = omega arith;
-          last = g.last;
-          below = λ k a b.
-              either (eqb k middle)
-              (λ t. let s = ap (λ j. get_or (words bs) j 0) (eqb-true k middle t) in omega arith)
-              (λ f.
-              let n = eqb-false k middle f in
-              let s = rises_at bs from to g.inside g.room g.rises k middle a (omega arith) (let c = g.last in omega arith) in
-              omega arith);
-          above = g.above;
-        }
-
-    pub halve_down : (w ≡ id → ⊥) → id ≤ w → Halving bs from to id low middle
-    halve_down other y =
-        let z : id < w = omega arith in
-        record {
-          inside = g.inside;
-          room = g.room;
-          rises = g.rises;
-          first = g.first;
-          order = omega arith;
-          last = let a = g.last in omega arith;
-          below = g.below;
-          above = λ k a b.
-              either (eqb k middle)
-              (λ t. let s = ap (λ j. get_or (words bs) j 0) (eqb-true k middle t) in omega arith)
-              (λ f.
-              let n = eqb-false k middle f in
-              let s = rises_at bs from to g.inside g.room g.rises middle k (let c = g.first in omega arith) (omega arith) b in
-              omega arith);
-        }
-
-pub ruleset halving = (halve_all, halve_done, halve_found, halve_up, halve_down)
+-- An id among the words from a place up to a place.
+pub id_found : (bs : List ℕ) (from to id : ℕ) → rising (between (words bs) from to) ≡ true → {xs : List (List ℕ)} {k : ℕ}
+    → xs ≡ first_chunks 4 k (take (4 * to - 4 * from) (drop (4 * from) bs)) → k ≡ length (take (4 * to - 4 * from) (drop (4 * from) bs)) / 4
+    → (r : Result ℕ ℕ) → IsSearchInRange r (length xs) → IsBinarySearchResult (λ y. nat_cmp (chunk_word y) id) xs r
+    → is_ok r ≡ member id (between (words bs) from to)
+id_found bs from to id rises {xs} {k} e c r b h =
+    let same : map chunk_word xs ≡ between (words bs) from to = ap (map chunk_word) e ∙ chunk_words k _ c ∙ run_words bs from to in
+    found chunk_word [] xs (rw same rises) id r b h ∙ ap (member id) same
 
 -- The rules, each looked for.
 pub rows_of : {ids xs row : List ℕ} {Gives : ℕ → Bool → Type 0} {n : ℕ} → Collected Gives n row

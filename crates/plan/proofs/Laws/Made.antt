@@ -30,6 +30,7 @@ use Rattle.turns.specs.declared.limits.Limits.{Limits}
 use Rattle.substitution.specs.declared.turning.Done.{Done}
 use Rattle.std.specs.Prelude.{Option, Some, None, Result, Ok, Err}
 use Rattle.std.proofs.lemmas.Bool.{and_from}
+use Rattle.steps.specs.declared.cycle.Cycle.{Cycle}
 use Rattle.steps.specs.declared.decide.Clause.TheVariants.{NoSteps}
 use Rattle.turns.specs.Turn.{UnplannedBy}
 use Rattle.turns.specs.declared.turn.Unplanned.{Unplanned}
@@ -64,44 +65,45 @@ module _ {ws : List ℕ} {end : ℕ} {rules : Rules} {past : Bool} {calls : List
         (sym x.inlinable
         ∙ all_false (satellite_is_inlinable inner_depth) (keep_in _ (is_among a) (and_from _ _ own (ap not apart))) f)))
 
-    pub ground_of : {n : ℕ} → n ≡ rules.n → Ground ws end rules.names rules.places (record { n = n; members = members; hub = hub })
-    ground_of e =
-        record {
-          rules = rules;
-          standing = x.known.known.standing;
-          named = refl;
-          placed = refl;
-          small = x.known.known.small;
-          count = e;
-          hub = x.low;
-          nullable = marks.nullable;
-          empty = nullable_row x.known.known;
-          cycle = x.known.cycle;
-          is_cycle = x.known.is_cycle;
-          inlinable = λ i a. satellite a;
-        }
-
     pub hub_low : hub < rules.n
     hub_low = x.low
 
     pub hub_standing : Standing ws end rules
     hub_standing = x.known.known.standing
 
-  module _ {n most : ℕ} {limits : Limits} {bs : List ℕ} {made : Result (Option Done) Unplanned} (count : n ≡ rules.n)
-      (b : IsBudget ws end rules members limits.floor most)
-      (v : MadeOf ws end rules.names rules.places (record { n = n; members = members; hub = hub }) limits most bs made) where
-    module _ (x : HubKnown ws end rules past calls marks kept members hub) (a : Among (known_rules x.known) hub) where
+module _ {ws : List ℕ} {end : ℕ} {rules : Rules} {past : Bool} {calls : List (List ℕ)} {marks : Marks} {kept : List ℕ} {y : Cycle} where
+  pub ground_of : HubKnown ws end rules past calls marks kept y.members y.hub → y.n ≡ rules.n → Ground ws end rules.names rules.places y
+  ground_of x e =
+      record {
+        rules = rules;
+        standing = x.known.known.standing;
+        named = refl;
+        placed = refl;
+        small = x.known.known.small;
+        count = e;
+        hub = x.low;
+        nullable = marks.nullable;
+        empty = nullable_row x.known.known;
+        cycle = x.known.cycle;
+        is_cycle = x.known.is_cycle;
+        inlinable = λ i a. satellite x a;
+      }
+
+  module _ {most : ℕ} {limits : Limits} {bs : List ℕ} {made : Result (Option Done) Unplanned} (count : y.n ≡ rules.n)
+      (b : IsBudget ws end rules y.members limits.floor most)
+      (v : MadeOf ws end rules.names rules.places y limits most bs made) where
+    module _ (x : HubKnown ws end rules past calls marks kept y.members y.hub) (a : Among (known_rules x.known) y.hub) where
       -- The definition's substitution.
       whole : Decided (Substituted inner_depth)
       whole =
-          substitute inner_depth (known_rules x.known) (known_grammar x.known) x.known.cycle (get_or rules.ids hub 0)
+          substitute inner_depth (known_rules x.known) (known_grammar x.known) x.known.cycle (get_or rules.ids y.hub 0)
           (limits_of limits) (substitution_budget inner_depth (limits_of limits) (known_rules x.known) x.known.cycle) 0
           (as_they_are a.rule.body)
 
       last : Substituted inner_depth → Decided (CyclePlan inner_depth)
       last =
           last_tests (limits_of limits) (reading past) (known_grammar x.known) inner_depth (known_rules x.known) x.known.preserved
-          x.known.cycle (get_or rules.ids hub 0)
+          x.known.cycle (get_or rules.ids y.hub 0)
 
       made_to : {r : Result (Option Done) Unplanned} → made ≡ r → MadeTo ws end bs whole r
       unfolding whole ground_of
@@ -111,14 +113,14 @@ module _ {ws : List ℕ} {end : ℕ} {rules : Rules} {past : Bool} {calls : List
 
     -- A list was made.
     module _ {done : Done} (e : made ≡ Ok (Some done)) where
-      pub made_laid : HubKnown ws end rules past calls marks kept members hub → Laid bs done.l
-      made_laid x = (made_to x (at_place x.known.known.standing hub x.low) e).laid
+      pub made_laid : HubKnown ws end rules past calls marks kept y.members y.hub → Laid bs done.l
+      made_laid x = (made_to x (at_place x.known.known.standing y.hub x.low) e).laid
 
-      pub made_listed : HubKnown ws end rules past calls marks kept members hub → AllIn ws end inner_depth bs done.l
-      made_listed x = (made_to x (at_place x.known.known.standing hub x.low) e).listed
+      pub made_listed : HubKnown ws end rules past calls marks kept y.members y.hub → AllIn ws end inner_depth bs done.l
+      made_listed x = (made_to x (at_place x.known.known.standing y.hub x.low) e).listed
 
-      pub made_planned : {r : Result Plan Unplanned} → PlanLast ws end rules past calls marks kept members hub done bs r
-          → PlanMade ws end rules past calls marks kept members limits hub bs r
+      pub made_planned : {r : Result Plan Unplanned} → PlanLast ws end rules past calls marks kept y.members y.hub done bs r
+          → PlanMade ws end rules past calls marks kept y.members limits y.hub bs r
       unfolding whole last
       made_planned {r} p =
           record {
@@ -127,11 +129,11 @@ module _ {ws : List ℕ} {end : ℕ} {rules : Rules} {past : Bool} {calls : List
                 (p.is limits x.known);
           }
 
-    pub made_idle : made ≡ Ok None → PlanMade ws end rules past calls marks kept members limits hub bs (Err (Declined NoSteps))
+    pub made_idle : made ≡ Ok None → PlanMade ws end rules past calls marks kept y.members limits y.hub bs (Err (Declined NoSteps))
     unfolding whole last
     made_idle e = record { is = λ x a. record { is = ap (λ m. m and_then last x a) (made_to x a e).is } }
 
-    pub made_unplanned : {n : Unplanned} → made ≡ Err n → PlanMade ws end rules past calls marks kept members limits hub bs (Err n)
+    pub made_unplanned : {n : Unplanned} → made ≡ Err n → PlanMade ws end rules past calls marks kept y.members limits y.hub bs (Err n)
     unfolding whole last
     made_unplanned {n} e = record { is = λ x a. unplanned_then (whole x a) (last x a) n (made_to x a e) }
 

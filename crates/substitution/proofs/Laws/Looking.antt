@@ -32,7 +32,7 @@ use Rattle.turns.specs.Midway.{limits_of, within_limits}
 use Rattle.turns.specs.Turns.{Task, Replaced, IsSettled, substitution, Substituting}
 use Rattle.substitution.specs.Run.{Untouched, MadeOf}
 use Rattle.substitution.specs.Over.{HubBeyond, InNeed, LookedAt, Unstored}
-use Rattle.steps.specs.declared.corner.Cycle.{Cycle}
+use Rattle.steps.specs.declared.cycle.Cycle.{Cycle}
 use Rattle.turns.specs.declared.limits.Limits.{Limits}
 use Rattle.std.specs.Prelude.{Option, None, Result, Ok, Err}
 use Rattle.steps.specs.declared.decide.Clause.{Clause}

@@ -5,7 +5,6 @@ use mathlib.Core.List.{List, []}
 use mathlib.Core.Bool.{Bool, true, false}
 use native.Mathlib.Omega.{arith}
 use lib.ListN.{length, get_or}
-use Rattle.grammar.specs.Numbers.{rule_limit}
 use Rattle.grammar.specs.Tree.{inner_depth}
 use Rattle.grammar.specs.Lists.{member}
 use Rattle.grammar.specs.Found.{FoundRule}
@@ -22,7 +21,7 @@ use Rattle.steps.specs.Corner.{CornerAt}
 use Rattle.steps.specs.Step.{RuleNamed, RuleUnreferring, DecidedAt}
 use Rattle.turns.specs.Ground.{Ground, task_of}
 use Rattle.substitution.specs.Over.{Stops, LookTo, Reached, StepLooked, HandLooked, LookedAt}
-use Rattle.steps.specs.declared.corner.Cycle.{Cycle}
+use Rattle.steps.specs.declared.cycle.Cycle.{Cycle}
 use Rattle.steps.specs.declared.corner.Place.{Place}
 use Rattle.steps.specs.declared.corner.Corner.{Corner}
 use Rattle.steps.specs.declared.corner.Corner.TheVariants as C
@@ -33,7 +32,6 @@ use Rattle.turns.specs.Turn.{StuckAt}
 use Rattle.turns.specs.declared.turn.Unplanned.{Unplanned}
 use Rattle.turns.specs.declared.turn.Unplanned.TheVariants.{Declined, Overfull}
 use Rattle.substitution.proofs.Laws.Grown.{step_grows}
-use Rattle.turns.proofs.Laws.Ground.{names_told}
 use Rattle.turns.proofs.Laws.Replaced.{settled_corner, blocked_corner_lem, optional_corner, satellite_corner}
 use Rattle.turns.proofs.Laws.Replaced.{target_among, target_found, target_room, target_spans, target_named}
 use Rattle.turns.proofs.Laws.Replaced.{target_unreferring, target_name_in, target_place_in}
@@ -107,7 +105,7 @@ pub ruleset reaching = (reached_name, reached_place, reached_found, reached_room
 pub ruleset stepping = (step_spent, step_declined, step_goes)
 
 -- The alternative that came into the hand.
-module _ {ws : List ℕ} {end : ℕ} {names : List ℕ} {c : Cycle} {bs : List ℕ} {h : Listed} {r : Corner} {p : Place}
+module _ {ws : List ℕ} {end : ℕ} {names : List ℕ} {c : Cycle} {bs : List ℕ} {h : Listed} {r : Corner Place} {p : Place}
     (w : CornerAt names c ws end inner_depth bs h r) where
   pub reached_optional : r ≡ C.Optional p → Reached c h.ne p true
   reached_optional e =
@@ -116,7 +114,7 @@ module _ {ws : List ℕ} {end : ℕ} {names : List ℕ} {c : Cycle} {bs : List �
   pub reached_satellite : r ≡ C.Satellite p → Reached c h.ne p false
   reached_satellite e = let m = rw e at w.within in record { member = m.0; other = λ o. m.1 }
 
-module _ {ws : List ℕ} {end : ℕ} {names places : List ℕ} {c : Cycle} {left : ℕ} {bs : List ℕ} {h : Listed} {r : Corner}
+module _ {ws : List ℕ} {end : ℕ} {names places : List ℕ} {c : Cycle} {left : ℕ} {bs : List ℕ} {h : Listed} {r : Corner Place}
     (w : CornerAt names c ws end inner_depth bs h r) where
   pub look_settled : r ≡ C.Settled → HandLooked ws end names places c left bs bs h (Ok tt)
   look_settled e = record { is = λ b limits. settled_corner b limits (rw e at w); long = refl }
@@ -165,7 +163,4 @@ hand_at {left = left} k g m =
       long = m.long ∙ g.long;
     }
 
-pub few_rules : {ws : List ℕ} {end : ℕ} {names places : List ℕ} {c : Cycle} → Ground ws end names places c → c.n ≤ rule_limit
-few_rules b = let f = b.standing.rows.few in let e = b.count in omega arith
-
-pub ruleset looks = (reached_optional, reached_satellite, look_settled, look_blocked, look_optional, look_satellite, few_rules, names_told)
+pub ruleset looks = (reached_optional, reached_satellite, look_settled, look_blocked, look_optional, look_satellite)

@@ -9,7 +9,7 @@ use Rattle.planned.specs.Layout.{stack}
 use Rattle.turns.specs.Midway.{Shut, shut, opened, Ready, HasNext, NextIs}
 use Rattle.turns.specs.Turn.{TurnedTo, turns_left}
 use Rattle.substitution.specs.Run.{MadeOf, Going}
-use Rattle.steps.specs.declared.corner.Cycle.{Cycle}
+use Rattle.steps.specs.declared.cycle.Cycle.{Cycle}
 use Rattle.turns.specs.declared.limits.Limits.{Limits}
 use Rattle.turns.specs.declared.state.State.{State}
 use Rattle.std.specs.Prelude.{Some, Result, Ok, Err}

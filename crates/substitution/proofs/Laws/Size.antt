@@ -113,10 +113,11 @@ module _ {ws : List ℕ} {end d n at i p : ℕ} {z : Size} (g : Counting ws end 
     pub counting_room : p + 5 ≤ end
     counting_room = alternative_room d counting_found
 
-    pub counting_more : {t : Size} {there : ℕ} → IsCounted z (get_or ws (p + 4) 0) (get_or ws (p + 3) 0) t
+    pub counting_more : {t : Size} {there e o : ℕ} → e ≡ get_or ws (p + 4) 0 → o ≡ get_or ws (p + 3) 0 → IsCounted z e o t
         → AlternativeWalked skipping ws end d p tt there tt
         → Counting ws end d n at (i + 1) there t
-    counting_more {t} {there} c w =
+    counting_more {t} {there} e o by w =
+        let c : IsCounted z (get_or ws (p + 4) 0) (get_or ws (p + 3) 0) t = rw (e, o) at by in
         let f = counting_found in
         let l = alternative_past d f.spans in
         let m = w.passed f.tree f.next f.spans in

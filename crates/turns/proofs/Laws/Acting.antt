@@ -26,7 +26,7 @@ use Rattle.steps.specs.Step.{step_by}
 use Rattle.turns.specs.Ground.{Ground, task_of}
 use Rattle.turns.specs.Midway.{Shut, opened, With, limits_of, PutSettled}
 use Rattle.turns.specs.Turn.{called, CalledAt, SteppedTo, StuckAt, ActedOn}
-use Rattle.steps.specs.declared.corner.Cycle.{Cycle}
+use Rattle.steps.specs.declared.cycle.Cycle.{Cycle}
 use Rattle.steps.specs.declared.corner.Place.{Place}
 use Rattle.steps.specs.declared.corner.Corner.{Corner}
 use Rattle.steps.specs.declared.corner.Corner.TheVariants as C
@@ -57,10 +57,10 @@ module _ {ws : List ℕ} {end : ℕ} {bs : List ℕ} {st : State} {x : Listed} (
       record { alternatives = omega arith; elements = omega arith; options = omega arith }
 
 module _ {ws : List ℕ} {end : ℕ} {names places : List ℕ} {c : Cycle} (b : Shut (Ground ws end names places c)) where
-  pub ground_told : Told names c.n
+  ground_told : Told names c.n
   ground_told = names_told (opened b)
 
-  pub ground_few : c.n ≤ rule_limit
+  ground_few : c.n ≤ rule_limit
   ground_few = let e = (opened b).count in let f = (opened b).standing.rows.few in omega arith
 
   pub long : {i : ℕ} → i < c.n → (i < length names) × (i < length places)
@@ -75,7 +75,7 @@ module _ {ws : List ℕ} {end : ℕ} {names places : List ℕ} {c : Cycle} (b : 
       let r = row_long (places_from 0 s.found.trees) (omega arith) in
       (omega arith, omega arith)
 
-  module _ {bs : List ℕ} {x : Listed} {k : Corner} (o : CornerAt names c ws end inner_depth bs x k) {p : Place} where
+  module _ {bs : List ℕ} {x : Listed} {k : Corner Place} (o : CornerAt names c ws end inner_depth bs x k) {p : Place} where
     pub optional_called : k ≡ C.Optional p → CalledAt ws end bs names places x p true
     optional_called e =
         let q = rw e at o in
@@ -109,7 +109,7 @@ module _ {ws : List ℕ} {end : ℕ} {names places : List ℕ} {c : Cycle} (b : 
 
 -- By its corner.
 module _ {ws : List ℕ} {end : ℕ} {names places : List ℕ} {c : Cycle} (limits : Limits) {before : List ℕ} {st : State} {x : Listed}
-    {k : Corner} (o : CornerAt names c ws end inner_depth before x k) where
+    {k : Corner Place} (o : CornerAt names c ws end inner_depth before x k) where
   pub act_settled : {after : List ℕ} {next : State} → Shut (With ws end before st x) → k ≡ C.Settled → PutSettled before after st x next
       → ActedOn ws end names places c limits before after st x (Ok next)
   act_settled {next = next} w e p =
@@ -194,8 +194,6 @@ pub ruleset acting = (
   with_laid,
   with_movable,
   taken_room,
-  ground_told,
-  ground_few,
   optional_called,
   satellite_called,
   act_settled,

@@ -14,7 +14,7 @@ use Rattle.analysis.proofs.Laws.Standing.{told}
 use Rattle.hub.proofs.Laws.Grounds.{row_bit, same_place, target_at, target_none}
 use Rattle.steps.specs.Corner.{CycleBy}
 use Rattle.turns.specs.Ground.{Ground, task_of}
-use Rattle.steps.specs.declared.corner.Cycle.{Cycle}
+use Rattle.steps.specs.declared.cycle.Cycle.{Cycle}
 
 module _ {ws : List ℕ} {end : ℕ} {names places : List ℕ} {c : Cycle} (b : Ground ws end names places c) where
   pub cycle_by : (limits : Limits) → CycleBy (task_of b limits).grammar b.cycle b.rules.ids names c

@@ -37,7 +37,7 @@ use Rattle.steps.specs.Step.{CallIn, RuleNamed, RuleUnreferring, step_by}
 use Rattle.steps.specs.Step.{RuleNamed, RuleUnreferring, step_by}
 use Rattle.turns.specs.Ground.{Ground, task_of}
 use Rattle.turns.specs.Turns.{Task, Replaced, IsSettled}
-use Rattle.steps.specs.declared.corner.Cycle.{Cycle}
+use Rattle.steps.specs.declared.cycle.Cycle.{Cycle}
 use Rattle.steps.specs.declared.corner.Place.{Place}
 use Rattle.steps.specs.declared.corner.Corner.{Corner}
 use Rattle.steps.specs.declared.corner.Corner.TheVariants as C
@@ -131,7 +131,7 @@ module _ (g : Grammar) (cycle : List ℕ) (hub : ℕ) where
 -- By places.
 module _ {ws : List ℕ} {end : ℕ} {names places : List ℕ} {c : Cycle} (b : Ground ws end names places c) (limits : Limits)
     {bs : List ℕ} {x : Listed} where
-  corner_is : {r : Corner} → CornerAt names c ws end inner_depth bs x r
+  corner_is : {r : Corner Place} → CornerAt names c ws end inner_depth bs x r
       → planned_corner (task_of b limits).grammar b.cycle (get_or b.rules.ids c.hub 0) (meaning ws end inner_depth bs x).elements
       ≡ corner_by b.rules.ids r
   corner_is k = k.is (task_of b limits).grammar b.cycle b.rules.ids (cycle_by b limits)

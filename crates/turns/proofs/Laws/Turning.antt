@@ -10,7 +10,7 @@ use Rattle.planned.specs.Laws.Counts.{alternatives_in_lem}
 use Rattle.turns.specs.Ground.{task_of}
 use Rattle.turns.specs.Midway.{Shut, shut, opened, Ready, With, limits_of, pending_count, TakenFrom}
 use Rattle.turns.specs.Turn.{ActedOn, TurnedTo, turns_left}
-use Rattle.steps.specs.declared.corner.Cycle.{Cycle}
+use Rattle.steps.specs.declared.cycle.Cycle.{Cycle}
 use Rattle.turns.specs.declared.limits.Limits.{Limits}
 use Rattle.turns.specs.declared.state.State.{State}
 use Rattle.turns.specs.declared.taken.Taken.{Taken}

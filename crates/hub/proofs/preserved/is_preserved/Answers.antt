@@ -1,19 +1,12 @@
-use Rattle.std.proofs.Common.{rules}
+use Rattle.std.proofs.Common.{rules, refl, ◌∙◌}
+use Rattle.std.proofs.lemmas.List.Sorted.{answers_always}
 use Rattle.hub.proofs.preserved.is_preserved.Goals as goal
-use Rattle.hub.proofs.Laws.Preserved.{halving}
+use Rattle.hub.proofs.Laws.Preserved.{chunk_word, id_found}
 
--- src/preserved.rt:25:13
-pub returns-then-w-id : goal.returns-then-w-id
-returns-then-w-id c = search (rules, halving)
-
--- src/preserved.rt:21:5
-pub loop-low-preserved-then-w-id-2 : goal.loop-low-preserved-then-w-id-2
-loop-low-preserved-then-w-id-2 c = search (rules, halving)
-
--- src/preserved.rt:21:5
-pub loop-low-preserved : goal.loop-low-preserved
-loop-low-preserved c = search (rules, halving)
-
--- src/preserved.rt:14:1
+-- The closure gives the word that stands in four bytes.
 pub returns : goal.returns
-returns c = search (rules, halving)
+returns c =
+    let facts = c.binary_search_by_key.ensures in
+    let by_word = facts.position chunk_word (answers_always _ _ _ (λ f a r g called. search rules)) in
+    c.is_ok.ensures.value
+    ∙ id_found c.args.s.now c.args.from c.args.to c.args.id c.requires.to_value c.as_chunks.ensures.front refl _ facts.bound by_word

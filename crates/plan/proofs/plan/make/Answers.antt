@@ -1,5 +1,6 @@
-use Rattle.std.proofs.Common.{rules, refl, ap, ◌≡◌, ◌∙◌, Some, None, Ok}
+use Rattle.std.proofs.Common.{rules, refl, sym, ap, ◌≡◌, ◌∙◌, Some, None, Ok}
 use Rattle.plan.proofs.plan.make.Goals as goal
+use Rattle.analysis.proofs.Laws.Standing.{names_long, told}
 use Rattle.plan.proofs.Laws.Made.{hub_low, hub_standing, made_laid, made_listed, made_idle, made_planned, made_unplanned, making}
 use Rattle.steps.proofs.Laws.Raised.{raised}
 
@@ -9,12 +10,12 @@ substitute-requires-clause-ground c = search (rules, making, hub_low, hub_standi
 pub returns-in_err-done : goal.returns-in_err-done
 returns-in_err-done c =
     let w = c.in_err-done.was in
-    rw (raised c.in_err-done.field-0.0 c.from_residual.result c.from_residual.ensures.1) (search (rules, made_unplanned))
+    rw (raised c.in_err-done.field-0.0 c.from_residual.result c.from_residual.ensures.1) (made_unplanned refl c.budget-most.ensures c.substitute.ensures w)
 
 pub returns-in_default : goal.returns-in_default
 returns-in_default c =
     let w : c.substitute.result ≡ Ok None = c.in_ok-done.was ∙ ap Ok c.in_default.is in
-    search (rules, made_idle)
+    made_idle refl c.budget-most.ensures c.substitute.ensures w
 
 pub finish-requires-clause-laid : goal.finish-requires-clause-laid
 finish-requires-clause-laid c =
@@ -25,4 +26,10 @@ finish-requires-clause-laid c =
 pub returns : goal.returns
 returns c =
     let w : c.substitute.result ≡ Ok (Some c.in-Some.done) = c.in_ok-done.was ∙ ap Ok c.in-Some.is in
-    search (rules, made_planned)
+    made_planned refl c.budget-most.ensures c.substitute.ensures w c.finish.ensures
+
+pub slice_bounds-c-end : goal.slice_bounds-c-end
+slice_bounds-c-end c = sym (names_long (hub_standing c.requires.hub_known))
+
+pub invariant_of-c : goal.invariant_of-c
+invariant_of-c c = search (rules, making, hub_standing, told)

@@ -3,9 +3,6 @@ use Rattle.substitution.proofs.over.look_hand.Goals as goal
 use Rattle.substitution.proofs.Laws.Over.{looks}
 
 -- src/over.rt:90:11
-pub find_corner-requires-clause-bounds : goal.find_corner-requires-clause-bounds
-find_corner-requires-clause-bounds c = search (rules, looks)
-
 -- src/over.rt:74:1
 pub returns-in-Settled : goal.returns-in-Settled
 returns-in-Settled c = search (rules, looks)

@@ -6,8 +6,8 @@ use Rattle.substitution.proofs.Laws.Size.{counting}
 pub loop-init : goal.loop-init
 loop-init c = search (rules, bodies, counting)
 
-pub with_one-z-requires : goal.with_one-z-requires
-with_one-z-requires c = search (rules, bodies, counting)
+pub counted-z-requires : goal.counted-z-requires
+counted-z-requires c = search (rules, bodies, counting)
 
 pub alternative_end-p-requires :
     goal.alternative_end-p-requires

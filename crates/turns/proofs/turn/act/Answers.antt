@@ -3,9 +3,6 @@ use Rattle.turns.proofs.turn.act.Goals as goal
 use Rattle.turns.proofs.Laws.Acting.{acting}
 
 -- src/turn.rt:234:11
-pub find_corner-requires-clause-bounds : goal.find_corner-requires-clause-bounds
-find_corner-requires-clause-bounds c = search (rules, acting)
-
 -- src/turn.rt:237:32
 pub step_at-requires-clause-called_at : goal.step_at-requires-clause-called_at
 step_at-requires-clause-called_at c = search (rules, acting)
