@@ -52,6 +52,10 @@ has_bit w h = eqb (h / w % 2) 1
 unfoldable pub name_at : List ℕ → List ℕ → ℕ → ℕ
 name_at ws bs i = get_or ws (entry bs i % most_words) 0
 
+-- The name that a half leads to.
+unfoldable pub entry_name : List ℕ → List ℕ → ℕ
+entry_name ws h = get_or ws (half h 0 % most_words) 0
+
 -- Whether one of the first k has a name, and a set has it.
 unfoldable pub has_among : List ℕ → List ℕ → ℕ → ℕ → ℕ → Bool
 has_among ws bs w n zero = false

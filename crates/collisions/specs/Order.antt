@@ -6,12 +6,6 @@ use Rattle.planned.specs.Halves.{HalfPut}
 use Rattle.planned.specs.List.{SameList}
 use Rattle.collisions.specs.Names.{IsSet, entries_at, entries_end, most_entries, low_in, high_in, count_in, entry, has_bit, name_at}
 
--- The first k names are below a name, and no other is.
-pub record Parted (ws bs : List ℕ) (name k : ℕ) : Type 0 where
-  pub within : k ≤ count_in bs
-  pub below : (i : ℕ) → i < k → name_at ws bs i < name
-  pub above : (i : ℕ) → k ≤ i → i < count_in bs → name ≤ name_at ws bs i
-
 -- Whether the k-th has the name.
 pub record IsAt (ws bs : List ℕ) (name k : ℕ) (r : Bool) : Type 0 where
   pub within : k ≤ count_in bs

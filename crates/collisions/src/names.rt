@@ -3,8 +3,8 @@
 ghost use Rattle.std.specs.Prelude.{◌≡◌, ◌+◌, ◌*◌, ◌%◌, ◌<◌, ◌≤◌, true, false, length, get_or, MatchResult};
 ghost use Rattle.grammar.specs.Numbers.{most_words, work_bytes};
 ghost use Rattle.collisions.specs.Names.{entries_at, entries_end, most_entries, set_bit, low_in, high_in, count_in};
-ghost use Rattle.collisions.specs.Names.{entry, has_bit, name_at, has_name, Ordered, NamePut, Cleared};
-ghost use Rattle.collisions.specs.Order.{Parted, IsAt, Joined, Raised, Nearer, Insertable, Inserted, InSet};
+ghost use Rattle.collisions.specs.Names.{entry, has_bit, entry_name, has_name, Ordered, NamePut, Cleared};
+ghost use Rattle.collisions.specs.Order.{IsAt, Joined, Raised, Nearer, Insertable, Inserted, InSet};
 ghost use Rattle.words.specs.Sheet.{text};
 
 use planned::halves::{half, move_halves, put_half};
@@ -35,49 +35,27 @@ impl Names<'_> {
     // Places are below this.
     pub const PLACES: u16 = 8192;
 
-    // The i-th name.
-    fn name_at(&self, i: usize) -> u32
-        requires { i < count_in self.now.work.now }
-        ensures { result ≡ name_at (text self.now.s.now) self.now.work.now i }
+    // The name that an entry leads to. Two bytes that are no entry may lead behind the sheet, where no name is.
+    fn name_of(&self, e: [u8; 2]) -> u32
+        ensures { result ≡ entry_name (text self.now.s.now) e }
     {
-        word(self.s.bytes, place(entry_at(self.work, i)))
-    }
-
-    // How many entries have names below a name: by halving.
-    // Stays: std's search by halving asks for a key of any two bytes, and not all are a place in the sheet; a test of that at each
-    // step is no plainer than the loop.
-    fn find(&self, name: u32) -> usize
-        ensures { Parted (text self.now.s.now) self.now.work.now name result }
-    {
-        let mut low: usize = 0;
-        let mut high = count(self.work);
-        while low < high {
-            let middle = low + (high - low) / 2;
-            let w = self.name_at(middle);
-            if w < name {
-                low = middle + 1;
-            } else {
-                high = middle;
-            }
+        let p = place(u16::from_le_bytes(e));
+        if p < self.s.bytes.len() / 4 {
+            word(self.s.bytes, p)
+        } else {
+            0
         }
-        low
     }
 
-    // Whether the entry behind those below a name has it.
-    fn is_at(&self, name: u32, k: usize) -> bool
-        requires { Parted (text self.now.s.now) self.now.work.now name k }
-        ensures { IsAt (text self.now.s.now) self.now.work.now name k result }
-    {
-        k < count(self.work) && self.name_at(k) == name
-    }
-
-    // Where a name stands among the entries; or where it would stand.
+    // Where a name stands among the entries; or where it would stand: by halving.
     fn look(&self, name: u32) -> Result<usize, usize>
         ensures { MatchResult result (λ k. IsAt (text self.now.s.now) self.now.work.now name k true)
             (λ k. IsAt (text self.now.s.now) self.now.work.now name k false) }
     {
-        let k = self.find(name);
-        if self.is_at(name, k) { Ok(k) } else { Err(k) }
+        let low = lowest(self.work);
+        let high = low + count(self.work);
+        let (entries, _) = self.work[2 * low..2 * high].as_chunks::<2>();
+        entries.binary_search_by_key(&name, |e| self.name_of(*e))
     }
 
     // Whether a set has a name.

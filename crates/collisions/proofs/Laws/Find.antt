@@ -1,44 +1,126 @@
 -- Names in order, halved; and what the entry that is found tells of a name.
-use Prim.Native.Nat.{ℕ, zero, suc, ◌+◌, ◌*◌, ◌%◌, ◌<◌, ◌≤◌}
-use mathlib.Core.Path.{◌≡◌, refl, sym, ap, ◌∙◌}
-use mathlib.Core.List.{List}
+use Prim.Native.Nat.{ℕ, zero, suc, ◌+◌, ◌*◌, ◌-◌, ◌/◌, ◌%◌, ◌<◌, ◌≤◌}
+use mathlib.Core.Path.{◌≡◌, refl, sym, ap, ap₂, ◌∙◌}
+use mathlib.Core.List.{List, []}
 use mathlib.Core.Bool.{Bool, true, false, ◌&&◌, ◌||◌, or-true, false≢true}
 use native.Mathlib.Omega.{arith}
-use lib.ListN.{length, get_or}
+use lib.ListN.{length, get_or, get_or-eq_default, take, drop}
+use Rattle.std.specs.Prelude.{Result, Ok, Err, MatchResult}
+use Rattle.std.specs.Ordering.{nat_cmp, ordering_index}
+use Rattle.std.specs.List.Sorted.{IsSearchInRange, IsBinarySearchResult, IsNonDecreasingBy}
+use Rattle.std.specs.Simd.{first_chunks}
+use Rattle.std.proofs.lemmas.Cmp.{ranked}
+use Rattle.std.proofs.lemmas.List.{length-drop, length-take-le, get_or-take, get_or-drop, drop-drop}
+use Rattle.std.proofs.lemmas.Bool.Decides.{nat_tests}
 use lib.Dec.{eqb, ltb}
 use borrow.Author.Tests.{eqb-true, eqb-false, ltb-true, ltb-false, eq-eqb}
 use Rattle.std.specs.Cmp.{first_so, second_so}
 use Rattle.grammar.specs.Numbers.{most_words}
 use Rattle.grammar.specs.Laws.Parse.{either}
-use Rattle.words.specs.Room.{Room}
+use Rattle.grammar.specs.Words.{words}
+use Rattle.grammar.specs.Laws.Words.{length_words}
 use Rattle.planned.specs.Layout.{half}
-use Rattle.collisions.specs.Names.{entries_end, low_in, count_in, entry, has_bit, name_at, has_among, has_name, Ordered}
+use Rattle.collisions.specs.Names.{entries_end, low_in, count_in, entry, entry_name, has_bit, name_at, has_among, has_name, Ordered}
 use Rattle.collisions.specs.Order.{IsAt}
 
--- Where an entry stands, and its name.
+-- Where an entry stands.
 module _ {ws : List ℕ} {end : ℕ} {bs : List ℕ} (o : Ordered ws end bs) {i : ℕ} (l : i < count_in bs) where
   pub entry_room : low_in bs + i < entries_end
   entry_room = let a = o.last in omega arith
 
-  pub place_room : {s : List ℕ} → Room s end → {h p : ℕ} → h ≡ entry bs i → p ≡ h % most_words → 4 * p + 4 ≤ length s
-  place_room r {h} e f = let a = o.within i l in let b = r.trailer in let z = ap (λ x. x % most_words) e in omega arith
+-- The name of an entry, by its two bytes.
+pub name_read : (ws e : List ℕ) {v p w : ℕ} → v ≡ get_or e 0 0 + 256 * get_or e 1 0 → p ≡ v % most_words → w ≡ get_or ws p 0 → w ≡ entry_name ws e
+unfolding half entry_name
+name_read ws e bytes place f = f ∙ ap (λ x. get_or ws x 0) (place ∙ ap (λ x. x % most_words) bytes)
 
-pub entry_is : (bs : List ℕ) (i : ℕ) {low h : ℕ} → low ≡ low_in bs → h ≡ half bs (low + i) → h ≡ entry bs i
-entry_is bs i e f = f ∙ ap (λ x. half bs (x + i)) e
+pub name_past : (bs e : List ℕ) {v p : ℕ} → v ≡ get_or e 0 0 + 256 * get_or e 1 0 → p ≡ v % most_words → length bs / 4 ≤ p
+    → 0 ≡ entry_name (words bs) e
+name_past bs e {p = p} bytes place l =
+    let n = length_words bs in name_read (words bs) e bytes place (sym (get_or-eq_default (words bs) 0 (omega arith)))
 
-pub name_is : (ws bs : List ℕ) (i : ℕ) {h p w : ℕ} → h ≡ entry bs i → p ≡ h % most_words → w ≡ get_or ws p 0 → w ≡ name_at ws bs i
-unfolding name_at
-name_is ws bs i e f g = g ∙ ap (λ x. get_or ws x 0) (f ∙ ap (λ x. x % most_words) e)
+-- The chunks of a part of a list, item by item.
+chunk_at : {X : Type 0} (n k : ℕ) (xs : List X) (i : ℕ) (d : List X) → i < k → get_or (first_chunks n k xs) i d ≡ take n (drop (n * i) xs)
+chunk_at n zero xs i d l = absurd (omega arith)
+chunk_at n (suc k) xs zero d l = ap (λ m. take n (drop m xs)) {x = 0} (omega arith)
+chunk_at n (suc k) xs (suc i) d l =
+    chunk_at n k (drop n xs) i d (omega arith) ∙ ap (take n) (drop-drop (n * i) n xs ∙ ap (λ m. drop m xs) (omega arith))
 
-pub ruleset entries = (entry_room, place_room, entry_is, name_is)
+-- The entries, two bytes each.
+module _ {ws : List ℕ} {end : ℕ} {bs : List ℕ} (o : Ordered ws end bs) {low count : ℕ} (first : low ≡ low_in bs) (many : count ≡ count_in bs)
+    {xs : List (List ℕ)} (e : xs ≡ first_chunks 2 (length (take (2 * (low + count) - 2 * low) (drop (2 * low) bs)) / 2)
+    (take (2 * (low + count) - 2 * low) (drop (2 * low) bs))) where
+  abbrev part : List ℕ
+  part = take (2 * (low + count) - 2 * low) (drop (2 * low) bs)
 
--- What is left to look at: all in front is smaller, all behind is not.
-pub record Halving (ws : List ℕ) (end : ℕ) (bs : List ℕ) (name low high : ℕ) : Type 0 where
-  pub ordered : Ordered ws end bs
-  pub order : low ≤ high
-  pub last : high ≤ count_in bs
-  pub below : (i : ℕ) → i < low → name_at ws bs i < name
-  pub above : (i : ℕ) → high ≤ i → i < count_in bs → name ≤ name_at ws bs i
+  part_long : length part ≡ 2 * count_in bs
+  part_long =
+      let a = length-drop (2 * low) bs in
+      let b = length-take-le (2 * (low + count) - 2 * low) (drop (2 * low) bs) (let c = o.last in let d = o.long in let f = o.order in omega arith) in
+      omega arith
+
+  chunks_long : (n : ℕ) (k : ℕ) (ys : List ℕ) → length (first_chunks n k ys) ≡ k
+  chunks_long n zero ys = refl
+  chunks_long n (suc k) ys = ap suc (chunks_long n k (drop n ys))
+
+  pub entries_long : length xs ≡ count_in bs
+  entries_long = ap length e ∙ chunks_long 2 (length part / 2) part ∙ (let a = part_long in omega arith)
+
+  byte : (i j : ℕ) → i < count_in bs → j < 2 → get_or (take 2 (drop (2 * i) part)) j 0 ≡ get_or bs (2 * (low_in bs + i) + j) 0
+  byte i j l m =
+      get_or-take 2 (drop (2 * i) part) j 0 m ∙ get_or-drop (2 * i) part j 0
+      ∙ get_or-take (2 * (low + count) - 2 * low) (drop (2 * low) bs) (2 * i + j) 0 (omega arith) ∙ get_or-drop (2 * low) bs (2 * i + j) 0
+      ∙ ap (λ k. get_or bs k 0) (omega arith)
+
+  pub entry_named : (i : ℕ) (d : List ℕ) → i < count_in bs → entry_name ws (get_or xs i d) ≡ name_at ws bs i
+  unfolding entry_name name_at half
+  entry_named i d l =
+      let c : get_or xs i d ≡ take 2 (drop (2 * i) part) =
+      ap (λ ys. get_or ys i d) e ∙ chunk_at 2 (length part / 2) part i d (let a = part_long in omega arith) in
+      ap (λ h. get_or ws ((get_or h 0 0 + 256 * get_or h 1 0) % most_words) 0) c
+      ∙ ap₂ (λ x y. get_or ws ((x + 256 * y) % most_words) 0)
+      (byte i 0 l (omega arith) ∙ ap (λ k. get_or bs k 0) (omega arith)) (byte i 1 l (omega arith))
+
+  -- A name is looked for among them.
+  module _ (name : ℕ) where
+    rise : IsNonDecreasingBy (λ h. ordering_index (nat_cmp (entry_name ws h) name)) xs
+    rise i j d le l =
+        let n = entries_long in
+        let a = entry_named i d (omega arith) in
+        let b = entry_named j d (omega arith) in
+        let up : name_at ws bs i ≤ name_at ws bs j =
+        either (ltb i j) (λ u. let z = o.rises i j (ltb-true i j u) (omega arith) in omega arith)
+        (λ u. let z = ltb-false i j u in let same : i ≡ j = omega arith in let f = ap (name_at ws bs) same in omega arith) in
+        let all : entry_name ws (get_or xs i d) ≤ entry_name ws (get_or xs j d) = omega arith in
+        grind (arith, nat_tests)
+
+    pub looked : (r : Result ℕ ℕ) → IsSearchInRange r (length xs) → IsBinarySearchResult (λ h. nat_cmp (entry_name ws h) name) xs r
+        → MatchResult r (λ k. IsAt ws bs name k true) (λ k. IsAt ws bs name k false)
+    looked (Ok k) l h =
+        let n = entries_long in
+        let inside : k < count_in bs = omega arith in
+        record {
+          within = omega arith;
+          found = λ t. inside;
+          is = λ t. sym (entry_named k [] inside) ∙ ranked _ name _ (sym (h []));
+          less = λ f. absurd (false≢true (sym f));
+          more = λ f. absurd (false≢true (sym f));
+        }
+    looked (Err k) l h =
+        let n = entries_long in
+        let p = h rise in
+        record {
+          within = omega arith;
+          found = λ t. absurd (false≢true t);
+          is = λ t. absurd (false≢true t);
+          less = λ f i m.
+              let a = entry_named i [] (omega arith) in
+              let b : entry_name ws (get_or xs i []) < name = ranked _ name _ (sym (p.0 i [] (omega arith) m)) in
+              omega arith;
+          more = λ f i m u.
+              let a = entry_named i [] u in
+              let b : name < entry_name ws (get_or xs i []) = ranked _ name _ (sym (p.1 i [] m (omega arith))) in
+              omega arith;
+        }
 
 -- Whether a set has a name, by its entry.
 module _ (ws bs : List ℕ) (w n : ℕ) where
@@ -108,5 +190,3 @@ module _ {ws : List ℕ} {end : ℕ} {bs : List ℕ} (o : Ordered ws end bs) {na
 
   pub found_room : r ≡ true → low_in bs + k < entries_end
   found_room t = entry_room o (a.found t)
-
-pub ruleset held = (has_entry, has_none, found_room)
