@@ -1,7 +1,7 @@
 // The decision for one cycle: its hub, the tests of its rules, the substitution, the tests of what that made, and the rules that
 // may go (SPECIFICATION 7 to 10).
 ghost use Rattle.std.specs.Prelude.{◌+◌, ◌<◌, ◌≤◌, length};
-ghost use Rattle.grammar.specs.Numbers.{most_words, work_bytes};
+ghost use Rattle.grammar.specs.Numbers.{work_bytes};
 ghost use Rattle.grammar.specs.Tree.{inner_depth};
 ghost use Rattle.grammar.specs.Found.{FoundRule};
 ghost use Rattle.analysis.specs.Facts.{Standing};
@@ -38,17 +38,16 @@ pub struct Plan {
 
 // Behind the substitution: a step was made, what it left can be rewritten; then the rules that may go.
 fn finish(
-    s: &Sheet,
     f: &Facts,
     members: [u64; Row::WORDS],
     hub: usize,
     work: &[u8],
     done: Done,
 ) -> Result<Plan, Unplanned>
-    requires bounds { Standing (text s.now) s.now.end f.now.rules × (hub < f.now.rules.n) }
-    requires laid { Laid work.now done.l × AllIn (text s.now) s.now.end inner_depth work.now done.l }
-    ensures { PlanLast (text s.now) s.now.end f.now.rules f.now.past f.now.rows.now.calls f.now.marks f.now.kept members hub done
-        work.now result }
+    requires bounds { Standing (text f.now.s.now) f.now.s.now.end f.now.rules × (hub < f.now.rules.n) }
+    requires laid { Laid work.now done.l × AllIn (text f.now.s.now) f.now.s.now.end inner_depth work.now done.l }
+    ensures { PlanLast (text f.now.s.now) f.now.s.now.end f.now.rules f.now.past f.now.rows.now.calls
+        f.now.found.marks f.now.found.kept members hub done work.now result }
 {
     if done.steps == 0 {
         return Err(Unplanned::Declined(Clause::NoSteps));
@@ -56,13 +55,13 @@ fn finish(
     let rules = f.rules;
     let n = rules.n as usize;
     let l = done.l;
-    let marks = f.marks;
-    let nullable = marks.nullable;
+    let ground = f.found;
+    let nullable = ground.marks.nullable;
     let past = f.past;
-    let Some(planned) = judge(s, rules, nullable, past, members, hub, work, l) else {
+    let Some(planned) = judge(f.s, rules, nullable, past, members, hub, work, l) else {
         return Err(Unplanned::Declined(Clause::NotDirectlyRewritable));
     };
-    let kept = f.kept;
+    let kept = ground.kept;
     let row = removable(&f.rows.calls, n, members, kept, planned, hub);
     Ok(Plan {
         hub,
@@ -74,18 +73,19 @@ fn finish(
 
 // The substitution within its budget, and what is behind it.
 fn make(
-    s: &Sheet,
     f: &Facts,
     members: [u64; Row::WORDS],
     hub: usize,
     limits: Limits,
     work: &mut [u8],
 ) -> Result<Plan, Unplanned>
-    requires bounds { (s.now.end ≤ most_words) × (work_bytes ≤ length work.old) }
-    requires hub_known { HubKnown (text s.now) s.now.end f.now.rules f.now.past f.now.rows.now.calls f.now.marks f.now.kept members hub }
-    ensures { PlanMade (text s.now) s.now.end f.now.rules f.now.past f.now.rows.now.calls f.now.marks f.now.kept members limits hub
-        work.new result }
+    requires bounds { work_bytes ≤ length work.old }
+    requires hub_known { HubKnown (text f.now.s.now) f.now.s.now.end f.now.rules f.now.past f.now.rows.now.calls
+        f.now.found.marks f.now.found.kept members hub }
+    ensures { PlanMade (text f.now.s.now) f.now.s.now.end f.now.rules f.now.past f.now.rows.now.calls
+        f.now.found.marks f.now.found.kept members limits hub work.new result }
 {
+    let s = f.s;
     let rules = f.rules;
     let n = rules.n as usize;
     let most = budget(s, rules, members, limits.floor);
@@ -99,7 +99,7 @@ fn make(
     let Some(done) = substitute(s, rules, &c, limits, most, work)? else {
         return Err(Unplanned::Declined(Clause::NoSteps));
     };
-    finish(s, f, members, hub, work, done)
+    finish(f, members, hub, work, done)
 }
 
 // Whether the rule at `at` takes arguments: its flags are odd.
@@ -114,51 +114,50 @@ fn takes_arguments(s: &Sheet, at: usize) -> bool
 
 // From the hub on: the tests of the rules, then the substitution.
 fn with_hub(
-    s: &Sheet,
     f: &Facts,
     members: [u64; Row::WORDS],
     hub: usize,
     limits: Limits,
     work: &mut [u8],
 ) -> Result<Plan, Unplanned>
-    requires bounds { (s.now.end ≤ most_words) × (work_bytes ≤ length work.old) }
+    requires bounds { work_bytes ≤ length work.old }
     requires inside { hub < f.now.rules.n }
-    requires cycle_known { CycleKnown (text s.now) s.now.end f.now.rules f.now.past f.now.rows.now.calls f.now.marks f.now.kept members }
-    ensures { PlanWith (text s.now) s.now.end f.now.rules f.now.past f.now.rows.now.calls f.now.marks f.now.kept members limits hub
-        work.new result }
+    requires cycle_known { CycleKnown (text f.now.s.now) f.now.s.now.end f.now.rules f.now.past f.now.rows.now.calls
+        f.now.found.marks f.now.found.kept members }
+    ensures { PlanWith (text f.now.s.now) f.now.s.now.end f.now.rules f.now.past f.now.rows.now.calls
+        f.now.found.marks f.now.found.kept members limits hub work.new result }
 {
     let rules = f.rules;
     let places = rules.places;
-    if takes_arguments(s, places[hub] as usize) {
+    if takes_arguments(f.s, places[hub] as usize) {
         return Err(Unplanned::Declined(Clause::HubWithArguments));
     }
-    let marks = f.marks;
-    let stops = marks.stops;
+    let stops = f.found.marks.stops;
     if !all_inlinable(stops, members, hub) {
         return Err(Unplanned::Declined(Clause::SatelliteNotInlinable));
     }
-    make(s, f, members, hub, limits, work)
+    make(f, members, hub, limits, work)
 }
 
 // The whole decision for a cycle, whose members are the row.
 pub fn plan_cycle(
-    s: &Sheet,
     f: &Facts,
     members: [u64; Row::WORDS],
     limits: Limits,
     work: &mut [u8],
 ) -> Result<Plan, Unplanned>
-    requires bounds { (s.now.end ≤ most_words) × (work_bytes ≤ length work.old) }
-    requires cycle_known { CycleKnown (text s.now) s.now.end f.now.rules f.now.past f.now.rows.now.calls f.now.marks f.now.kept members }
-    ensures { PlanOf (text s.now) s.now.end f.now.rules f.now.past f.now.rows.now.calls f.now.marks f.now.kept members limits
-        work.new result }
+    requires bounds { work_bytes ≤ length work.old }
+    requires cycle_known { CycleKnown (text f.now.s.now) f.now.s.now.end f.now.rules f.now.past f.now.rows.now.calls
+        f.now.found.marks f.now.found.kept members }
+    ensures { PlanOf (text f.now.s.now) f.now.s.now.end f.now.rules f.now.past f.now.rows.now.calls
+        f.now.found.marks f.now.found.kept members limits work.new result }
 {
     let rules = f.rules;
-    let marks = f.marks;
-    let nullable = marks.nullable;
-    let kept = f.kept;
-    let Some(hub) = choose_hub(s, rules, nullable, &f.rows.calls, members, kept) else {
+    let ground = f.found;
+    let nullable = ground.marks.nullable;
+    let kept = ground.kept;
+    let Some(hub) = choose_hub(f.s, rules, nullable, &f.rows.calls, members, kept) else {
         return Err(Unplanned::Declined(Clause::NoHub));
     };
-    with_hub(s, f, members, hub, limits, work)
+    with_hub(f, members, hub, limits, work)
 }

@@ -1,7 +1,7 @@
 // The search for the first cycle with a plan (SPECIFICATION 5): the cycles in their order, until one has a plan or passes a limit.
 // No cycle is looked for before those in front of it are declined.
 ghost use Rattle.std.specs.Prelude.{◌≡◌, ◌≤◌, length};
-ghost use Rattle.grammar.specs.Numbers.{rule_limit, most_words, work_bytes};
+ghost use Rattle.grammar.specs.Numbers.{rule_limit, work_bytes};
 ghost use Rattle.plan.specs.Search.{IsNone, Ended, RulesKnown, FoundOf, JoinedKnown, TriedOf};
 ghost use Rattle.words.specs.Sheet.{text};
 
@@ -13,7 +13,6 @@ use reach::rows::Row;
 use turns::limits::Limits;
 use turns::turn::Unplanned;
 use words::numbers::Refusal;
-use words::sheet::Sheet;
 
 // A plan, and the row of its cycle's members.
 #[derive(Clone, Copy, Debug, PartialEq, Eq)]
@@ -61,18 +60,17 @@ fn ended(
 
 // The cycles of rules that are joined.
 fn try_cycles(
-    s: &Sheet,
     f: &Facts,
     closed: &[[u64; Row::WORDS]; Row::RULES],
     limits: Limits,
     work: &mut [u8],
 ) -> Found
-    requires bounds { (s.now.end ≤ most_words) × (work_bytes ≤ length work.old) }
+    requires bounds { work_bytes ≤ length work.old }
     requires closed_len { (length closed.now ≡ rule_limit) × (f.now.rules.n ≤ rule_limit) }
-    requires joined_known { JoinedKnown (text s.now) s.now.end f.now.rules f.now.past f.now.rows.now.calls f.now.marks f.now.kept
-        closed.now }
-    ensures { TriedOf (text s.now) s.now.end f.now.rules f.now.past f.now.rows.now.calls f.now.marks f.now.kept
-        closed.now limits work.new result }
+    requires joined_known { JoinedKnown (text f.now.s.now) f.now.s.now.end f.now.rules f.now.past f.now.rows.now.calls
+        f.now.found.marks f.now.found.kept closed.now }
+    ensures { TriedOf (text f.now.s.now) f.now.s.now.end f.now.rules f.now.past f.now.rows.now.calls
+        f.now.found.marks f.now.found.kept closed.now limits work.new result }
 {
     let rules = f.rules;
     let n = rules.n as usize;
@@ -85,7 +83,7 @@ fn try_cycles(
             return ended(Ok(None), k, clauses);
         };
         let members = ahead.members;
-        match plan_cycle(s, f, members, limits, work) {
+        match plan_cycle(f, members, limits, work) {
             Ok(plan) => {
                 let answer = Ok(Some(FoundPlan { plan, members }));
                 return ended(answer, k, clauses);
@@ -102,14 +100,14 @@ fn try_cycles(
 
 // The cycles of the rules, by their left corners.
 #[tactic(auto, using(crate::proofs::Laws::Cycles::found_of))]
-pub fn find_plan(s: &Sheet, f: &Facts, limits: Limits, work: &mut [u8]) -> Found
-    requires bounds { (s.now.end ≤ most_words) × (work_bytes ≤ length work.old) }
-    requires rules_known { RulesKnown (text s.now) s.now.end f.now.rules f.now.past f.now.rows.now.calls f.now.rows.now.corners
-        f.now.marks f.now.kept }
-    ensures { FoundOf (text s.now) s.now.end f.now.rules f.now.past f.now.rows.now.calls f.now.rows.now.corners
-        f.now.marks f.now.kept limits work.new result }
+pub fn find_plan(f: &Facts, limits: Limits, work: &mut [u8]) -> Found
+    requires bounds { work_bytes ≤ length work.old }
+    requires rules_known { RulesKnown (text f.now.s.now) f.now.s.now.end f.now.rules f.now.past f.now.rows.now.calls
+        f.now.rows.now.corners f.now.found.marks f.now.found.kept }
+    ensures { FoundOf (text f.now.s.now) f.now.s.now.end f.now.rules f.now.past f.now.rows.now.calls
+        f.now.rows.now.corners f.now.found.marks f.now.found.kept limits work.new result }
 {
     let rules = f.rules;
     let closed = joined(f.rows.corners, rules.n as usize);
-    try_cycles(s, f, &closed, limits, work)
+    try_cycles(f, &closed, limits, work)
 }

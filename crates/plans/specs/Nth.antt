@@ -17,6 +17,8 @@ use Rattle.turns.specs.declared.turn.Unplanned.TheVariants.{Declined, Overfull}
 use Rattle.plan.specs.declared.plan.Plan.{Plan}
 use Rattle.plan.specs.Decision.{DecidedAs}
 use Rattle.plans.specs.declared.nth.Nth.{Nth}
+use Rattle.plans.specs.declared.nth.Decision.{Decision}
+use Rattle.plans.specs.declared.nth.Decision.TheVariants as V
 
 -- The definition's cycles of rules, by least id.
 abbrev pub cycles_of : Corners → List Rule → List (List ℕ)
@@ -45,6 +47,13 @@ pub record NthOf (ws : List ℕ) (end to : ℕ) (rules : Rules) (past : Bool) (n
 -- A number as one of 32 bits; a larger one is told as the largest.
 abbrev pub capped : ℕ → ℕ
 capped n = min n (word_end - 1)
+
+-- The number that tells what is decided.
+abbrev pub decision_number : Decision → ℕ
+decision_number V.Planned = 0
+decision_number V.Declined = 1
+decision_number V.TooLarge = 2
+decision_number V.NoCycle = 3
 
 -- In numbers: no refusal, so many cycles, which decision it is; of a plan the hub's place, steps and alternatives, of a decline
 -- its clause.

@@ -6,7 +6,7 @@ ghost use Rattle.plan.specs.Ground.{KeptAt};
 ghost use Rattle.plans.specs.First.{FirstOf, search_numbers, search_cycle, search_row};
 ghost use Rattle.words.specs.Sheet.{text};
 
-use crate::nth::capped;
+use crate::nth::{Decision, capped};
 use analysis::rounds::Rows;
 use plan::facts::Facts;
 use plan::ground::find_out;
@@ -34,17 +34,15 @@ pub fn decide_first(s: &Sheet, to: usize, rules: Rules, past: bool, work: &mut [
 {
     let mut rows = Rows::empty();
     let ground = find_out(s, to, rules, past, &mut rows, work);
-    let marks = ground.marks;
-    let kept = ground.kept;
     let limits = Limits::standard();
     let facts = Facts {
+        s,
         rules,
         past,
         rows: &rows,
-        marks,
-        kept,
+        found: ground,
     };
-    find_plan(s, &facts, limits, work)
+    find_plan(&facts, limits, work)
 }
 
 // A search in numbers, where so many cycles were declined.
@@ -61,7 +59,7 @@ pub fn tell_search(declined: u32, answer: Result<Option<FoundPlan>, Refusal>) ->
                 numbers: [
                     0,
                     declined,
-                    0,
+                    u32::from(Decision::Planned),
                     capped(p.hub),
                     0,
                     capped(p.steps),
@@ -73,12 +71,12 @@ pub fn tell_search(declined: u32, answer: Result<Option<FoundPlan>, Refusal>) ->
             }
         }
         Err(_) => FirstTold {
-            numbers: [0, declined, 2, 0, 0, 0, 0, 0],
+            numbers: [0, declined, u32::from(Decision::TooLarge), 0, 0, 0, 0, 0],
             cycle: [0; Row::WORDS],
             row: [0; Row::WORDS],
         },
         Ok(None) => FirstTold {
-            numbers: [0, declined, 3, 0, 0, 0, 0, 0],
+            numbers: [0, declined, u32::from(Decision::NoCycle), 0, 0, 0, 0, 0],
             cycle: [0; Row::WORDS],
             row: [0; Row::WORDS],
         },

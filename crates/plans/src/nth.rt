@@ -37,8 +37,31 @@ impl Told {
 
     // Where among the numbers it stands what is decided.
     pub const DECISION: usize = 2;
+}
 
-    pub const PLANNED: u32 = 0;
+// What is decided: a plan, a decline, a list beyond its limits, or that there is no such cycle.
+#[derive(Clone, Copy, Debug, PartialEq, Eq)]
+pub enum Decision {
+    Planned,
+    Declined,
+    TooLarge,
+    NoCycle,
+}
+
+// The number by which it is told (SPECIFICATION 3.12).
+impl From<Decision> for u32 {
+    ghost use Rattle.plans.specs.Nth.{decision_number};
+
+    ghost from_gives = { λ decision number. number ≡ decision_number decision };
+
+    fn from(decision: Decision) -> u32 {
+        match decision {
+            Decision::Planned => 0,
+            Decision::Declined => 1,
+            Decision::TooLarge => 2,
+            Decision::NoCycle => 3,
+        }
+    }
 }
 
 // The decision for the nth cycle of rules that stand in a sheet, with their preserved ids behind them up to `to`.
@@ -50,8 +73,6 @@ pub fn decide_nth(s: &Sheet, to: usize, rules: Rules, past: bool, nth: u32, work
     let mut rows = Rows::empty();
     let mut cycles = [[0u64; Row::WORDS]; Row::RULES];
     let ground = find_out(s, to, rules, past, &mut rows, work);
-    let marks = ground.marks;
-    let kept = ground.kept;
     let ids = rules.ids;
     let n = list_cycles(rows.corners, ids, rules.n as usize, &mut cycles);
     if n <= nth {
@@ -63,13 +84,13 @@ pub fn decide_nth(s: &Sheet, to: usize, rules: Rules, past: bool, nth: u32, work
     let members = cycles[nth as usize];
     let limits = Limits::standard();
     let facts = Facts {
+        s,
         rules,
         past,
         rows: &rows,
-        marks,
-        kept,
+        found: ground,
     };
-    let decision = plan_cycle(s, &facts, members, limits, work);
+    let decision = plan_cycle(&facts, members, limits, work);
     Nth {
         cycles: n,
         choice: Some(decision),
@@ -96,7 +117,7 @@ fn tell_decision(cycles: u32, d: Result<Plan, Unplanned>) -> Told
                 numbers: [
                     0,
                     cycles,
-                    0,
+                    u32::from(Decision::Planned),
                     capped(p.hub),
                     0,
                     capped(p.steps),
@@ -107,11 +128,20 @@ fn tell_decision(cycles: u32, d: Result<Plan, Unplanned>) -> Told
             }
         }
         Err(Unplanned::Declined(clause)) => Told {
-            numbers: [0, cycles, 1, 0, u32::from(clause), 0, 0, 0],
+            numbers: [
+                0,
+                cycles,
+                u32::from(Decision::Declined),
+                0,
+                u32::from(clause),
+                0,
+                0,
+                0,
+            ],
             row: [0; Row::WORDS],
         },
         Err(Unplanned::Overfull) => Told {
-            numbers: [0, cycles, 2, 0, 0, 0, 0, 0],
+            numbers: [0, cycles, u32::from(Decision::TooLarge), 0, 0, 0, 0, 0],
             row: [0; Row::WORDS],
         },
     }
@@ -124,7 +154,7 @@ pub fn tell_nth(r: Nth) -> Told
     let choice = r.choice;
     match choice {
         None => Told {
-            numbers: [0, cycles, 3, 0, 0, 0, 0, 0],
+            numbers: [0, cycles, u32::from(Decision::NoCycle), 0, 0, 0, 0, 0],
             row: [0; Row::WORDS],
         },
         Some(d) => tell_decision(cycles, d),
@@ -132,11 +162,11 @@ pub fn tell_nth(r: Nth) -> Told
 }
 
 // The list of a plan stays in the work area; without a plan nothing does.
-// Stays: what was decided is asked of the numbers, since they are what a caller in another language is told.
+// Stays: what was decided is asked of the numbers, since the two answers are of different types, and these alone tell both alike.
 pub fn leave(numbers: [u32; 8], work: &mut [u8])
     ensures { work.new ≡ left_by numbers work.old }
 {
-    if numbers[Told::DECISION] != Told::PLANNED {
+    if numbers[Told::DECISION] != u32::from(Decision::Planned) {
         clear(work);
     }
 }

@@ -62,7 +62,7 @@ module _ (ws : List ℕ) (end : ℕ) (rules : Rules) (n hub : ℕ) (row : List �
 
   -- It is known of the rules that stay, with the same preserved ones; and the hub's place among them.
   pub record RenewedAs (x : Renewable) (calls' corners' : List (List ℕ)) (r : Renewed) : Type 0 where
-    pub known : RulesKnown ws end rules past calls' corners' r.marks r.kept
+    pub known : RulesKnown ws end rules past calls' corners' r.found.marks r.found.kept
     pub standing : known.known.standing ≡ x.standing
     pub preserved : known.preserved ≡ x.known.preserved
     pub inside : r.hub < rules.n

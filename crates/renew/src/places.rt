@@ -7,6 +7,7 @@ ghost use Rattle.renew.specs.Fewer.{PlaceLess, PlaceLessIf, RulesLess};
 use crate::less::without_place;
 use crate::renew::Renewed;
 use analysis::rounds::{Marks, Rows};
+use plan::ground::Ground;
 use reach::rows::{Row, has};
 
 // Where the rule at place i stood before place k was taken out.
@@ -51,17 +52,14 @@ fn place_less(m: Renewed, n: usize, k: usize, rows: &mut Rows) -> Renewed
 {
     rows_less(&mut rows.calls, n, k);
     rows_less(&mut rows.corners, n, k);
-    let marks = m.marks;
-    let a = marks.nullable;
-    let b = marks.stops;
-    let c = m.kept;
-    let less = Marks {
-        nullable: without_place(a, k),
-        stops: without_place(b, k),
+    let known = m.found;
+    let marks = Marks {
+        nullable: without_place(known.marks.nullable, k),
+        stops: without_place(known.marks.stops, k),
     };
+    let kept = without_place(known.kept, k);
     Renewed {
-        marks: less,
-        kept: without_place(c, k),
+        found: Ground { marks, kept },
         hub: place_after(k, m.hub),
     }
 }

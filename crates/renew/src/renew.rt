@@ -11,6 +11,7 @@ use analysis::known::Known;
 use analysis::names::put_names;
 use analysis::rounds::{Marks, Rows};
 use analysis::survey::survey_rule;
+use plan::ground::Ground;
 use reach::rows::{Row, add_if, without};
 use records::rules::Rules;
 use words::sheet::Sheet;
@@ -18,8 +19,7 @@ use words::sheet::Sheet;
 // What is known of rules, and the hub's place among them.
 #[derive(Clone, Copy, Debug, PartialEq, Eq)]
 pub struct Renewed {
-    pub marks: Marks,
-    pub kept: [u64; Row::WORDS],
+    pub found: Ground,
     pub hub: usize,
 }
 
@@ -32,26 +32,27 @@ fn put_bit(row: [u64; Row::WORDS], j: usize, on: bool) -> [u64; Row::WORDS]
     add_if(rest, j, on)
 }
 
-// The rule at a place surveyed anew; the result is the row of those that cannot be inlined. The table of names is left in the work area.
+// The rule at a place surveyed anew; the result are the marks then. The table of names is left in the work area.
 fn survey_hub(
     s: &Sheet,
     rules: Rules,
     hub: usize,
     past: bool,
-    nullable: [u64; Row::WORDS],
-    stops: [u64; Row::WORDS],
+    marks: Marks,
     rows: &mut Rows,
     work: &mut [u8],
-) -> [u64; Row::WORDS]
+) -> Marks
     requires bounds { (work_bytes ≤ length work.old) × (hub < rules.n) }
     requires standing { Standing (text s.now) s.now.end rules }
-    ensures hub_surveyed { HubSurveyed (text s.now) s.now.end rules hub past nullable
-        rows.old.calls rows.old.corners stops rows.new.calls rows.new.corners result }
+    ensures hub_surveyed { HubSurveyed (text s.now) s.now.end rules hub past marks.nullable
+        rows.old.calls rows.old.corners marks.stops rows.new.calls rows.new.corners result.stops }
+    ensures same_nullable { result.nullable ≡ marks.nullable }
     ensures work_after { work.new ≡ table_with rules.names rules.n work.old }
 {
     let names = rules.names;
     let places = rules.places;
     let n = rules.n as usize;
+    let nullable = marks.nullable;
     put_names(&names, n, work);
     let known = Known {
         names: &names,
@@ -65,7 +66,8 @@ fn survey_hub(
     let k = v.corners;
     rows.calls[hub] = c;
     rows.corners[hub] = k;
-    put_bit(stops, hub, v.stops)
+    let stops = put_bit(marks.stops, hub, v.stops);
+    Marks { nullable, stops }
 }
 
 // What is known of the rules after a plan, by what was known before it: n rules, of which those in a row are gone.
@@ -81,20 +83,17 @@ pub fn renew(
 ) -> Renewed
     requires bounds { work_bytes ≤ length work.old }
     requires renewable { Renewable (text s.now) s.now.end rules n before.hub gone past rows.old.calls rows.old.corners
-        before.marks before.kept }
+        before.found.marks before.found.kept }
     ensures renewed_of { RenewedOf (text s.now) s.now.end rules n before.hub gone past
-        rows.old.calls rows.old.corners before.marks before.kept rows.new.calls rows.new.corners result }
+        rows.old.calls rows.old.corners before.found.marks before.found.kept rows.new.calls rows.new.corners result }
     ensures work_after { work.new ≡ table_with rules.names rules.n work.old }
 {
     let rest = rules_less(gone, before, n, rows);
-    let known = rest.marks;
-    let nullable = known.nullable;
-    let c = known.stops;
-    let kept = rest.kept;
-    let stops = survey_hub(s, rules, rest.hub, past, nullable, c, rows, work);
+    let known = rest.found;
+    let marks = survey_hub(s, rules, rest.hub, past, known.marks, rows, work);
+    let kept = known.kept;
     Renewed {
-        marks: Marks { nullable, stops },
-        kept,
+        found: Ground { marks, kept },
         hub: rest.hub,
     }
 }

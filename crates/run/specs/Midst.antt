@@ -24,7 +24,7 @@ use Rattle.run.specs.Ended.{Front}
 
 -- Before the first plan, with what is found out about the rules.
 abbrev pub at_start : Applied → Ground → State
-at_start at found = record { at = at; marks = found.marks; kept = found.kept; plans = 0; steps = 0 }
+at_start at found = record { at = at; found = found; plans = 0; steps = 0 }
 
 -- The sheet of a parser's unit in the result, its rules and its counters.
 pub record Begun (result : List ℕ) (end to : ℕ) (rules : Rules) (counters : Counters) : Type 0 where
@@ -44,8 +44,8 @@ module _ (limits : R.Limits) (past : Bool) (s : Sheet) (result trail : List ℕ)
     pub held : Held result now st.at.end st.at.to
     pub rows : RowsOf now.rules st.at.rules
     pub counters : counters_of st.at.counters ≡ now.counters
-    pub facts : FactsOf (reading past) now.rules st.at.rules.ids calls corners st.marks
-    pub keeps : RowOf st.at.rules.ids st.at.rules.n s.preserved st.kept
+    pub facts : FactsOf (reading past) now.rules st.at.rules.ids calls corners st.found.marks
+    pub keeps : RowOf st.at.rules.ids st.at.rules.n s.preserved st.found.kept
     pub told : Front trail (each encode_entry (entries_of stages)) (entry_words * st.at.entries)
     pub entries : st.at.entries ≡ length (entries_of stages)
     pub plans : st.plans ≡ length stages

@@ -35,8 +35,7 @@ abbrev pub behind_plan : State → Applied → Plan → Renewed → State
 behind_plan st a p r =
     record {
       at = a;
-      marks = r.marks;
-      kept = r.kept;
+      found = r.found;
       plans = st.plans + 1;
       steps = st.steps + p.steps;
     }
@@ -69,7 +68,7 @@ pub record TurnedOf (limits : R.Limits) (past : Bool) (result trail : List ℕ) 
 pub record UpToDate (ws : List ℕ) (past : Bool) (calls corners : List (List ℕ)) (st : State) (a : Applied) (p : Plan)
     (calls' corners' : List (List ℕ)) (r : State) : Type 0 where
   pub renewed : Renewed
-  pub renews : RenewedOf ws a.end a.rules st.at.rules.n p.hub p.removable past calls corners st.marks st.kept
+  pub renews : RenewedOf ws a.end a.rules st.at.rules.n p.hub p.removable past calls corners st.found.marks st.found.kept
       calls' corners' renewed
   pub is : r ≡ behind_plan st a p renewed
 

@@ -2,10 +2,8 @@
 ghost use Rattle.std.specs.Prelude.{◌≡◌};
 ghost use Rattle.run.specs.Midst.{at_start};
 
-use analysis::rounds::Marks;
 use apply::apply::Applied;
 use plan::ground::Ground;
-use reach::rows::Row;
 
 // How many entries the trail has.
 #[derive(Clone, Copy, Debug, PartialEq, Eq)]
@@ -21,12 +19,11 @@ impl Trail {
     }
 }
 
-// The sheet in the result with its rules and counters, what is known of the rules, the preserved ones; plans and steps so far.
+// The sheet in the result with its rules and counters, what is known of the rules and the preserved ones, plans and steps so far.
 #[derive(Clone, Copy, Debug, PartialEq, Eq)]
 pub struct State {
     pub at: Applied,
-    pub marks: Marks,
-    pub kept: [u64; Row::WORDS],
+    pub found: Ground,
     pub plans: u32,
     pub steps: u32,
 }
@@ -36,12 +33,9 @@ impl State {
     pub fn begin(at: Applied, found: Ground) -> State
         ensures { result ≡ at_start at found }
     {
-        let marks = found.marks;
-        let kept = found.kept;
         State {
             at,
-            marks,
-            kept,
+            found,
             plans: 0,
             steps: 0,
         }

@@ -33,7 +33,7 @@ fn bring_up(
     requires bounds { Room res.now a.end × (work_bytes ≤ length work.old) × (st.at.rules.n ≤ rule_limit) }
     requires plans_bound { (st.plans + 1 < word_end) × (st.steps + p.steps < word_end) }
     requires renewable { Renewable (words res.now) a.end a.rules st.at.rules.n p.hub p.removable past rows.old.calls
-        rows.old.corners st.marks st.kept }
+        rows.old.corners st.found.marks st.found.kept }
     ensures up_to_date { UpToDate (words res.now) past rows.old.calls rows.old.corners st a p
         rows.new.calls rows.new.corners result }
 {
@@ -42,26 +42,18 @@ fn bring_up(
     let n = old.n as usize;
     let plans = st.plans + 1;
     let steps = st.steps + p.steps as u32;
-    let marks = st.marks;
-    let kept = st.kept;
+    let found = st.found;
     let rules = a.rules;
     let gone = p.removable;
     let s = Sheet {
         bytes: res,
         end: a.end,
     };
-    let before = Renewed {
-        marks,
-        kept,
-        hub: p.hub,
-    };
+    let before = Renewed { found, hub: p.hub };
     let r = renew(&s, rules, n, before, gone, past, rows, work);
-    let known = r.marks;
-    let preserved = r.kept;
     State {
         at: a,
-        marks: known,
-        kept: preserved,
+        found: r.found,
         plans,
         steps,
     }
@@ -112,20 +104,19 @@ pub fn take_turn(
 {
     let at = st.at;
     let rules = at.rules;
-    let marks = st.marks;
-    let kept = st.kept;
+    let ground = st.found;
     let s = Sheet {
         bytes: res,
         end: at.end,
     };
     let facts = Facts {
+        s: &s,
         rules,
         past,
         rows,
-        marks,
-        kept,
+        found: ground,
     };
-    let found = find_plan(&s, &facts, limits, work);
+    let found = find_plan(&facts, limits, work);
     let Some(f) = found.answer? else {
         return Ok(None);
     };

@@ -88,7 +88,7 @@ module _ {ws : List ℕ} {end : ℕ} {rules : Rules} (s : Standing ws end rules)
 
 module _ {ws : List ℕ} {end : ℕ} {rules : Rules} {n hub : ℕ} {row : List ℕ} {past : Bool} {calls corners : List (List ℕ)} {marks : Marks}
     {kept : List ℕ} (x : Renewable ws end rules n hub row past calls corners marks kept) {cs ks : List (List ℕ)} {m : Renewed}
-    (l : RulesLess calls corners (record { marks = marks; kept = kept; hub = hub }) cs ks m row n)
+    (l : RulesLess calls corners (record { found = record { marks = marks; kept = kept }; hub = hub }) cs ks m row n)
   where
     abbrev s₀ : Standing x.words₀ x.end₀ x.rules₀
     s₀ = x.known.known.standing
@@ -108,7 +108,7 @@ module _ {ws : List ℕ} {end : ℕ} {rules : Rules} {n hub : ℕ} {row : List �
     abbrev renewed : Rule → Rule
     renewed = with_body inner_depth hub_id x.stays.body
 
-    fewer : Fewer calls corners (record { marks = marks; kept = kept; hub = hub }) cs ks m old left x.gone
+    fewer : Fewer calls corners (record { found = record { marks = marks; kept = kept }; hub = hub }) cs ks m old left x.gone
     fewer = l.is old x.gone (sym (x.count ∙ all_rules s₀.rows)) (by_rules s₀ (all_rules s₀.rows) x.gone_row)
 
     trees : new ≡ map renewed left
@@ -161,7 +161,7 @@ module _ {ws : List ℕ} {end : ℕ} {rules : Rules} {n hub : ℕ} {row : List �
           (as_new (subst (λ ys. HasRow left ys (get_or rows i [])) (ap give e ∙ sym (stays a.rule (is_among a))) (h.at i b)))
 
     -- Which rules are nullable does not change.
-    nulls : HasRow new (nullable_rules body_depth new) m.marks.nullable
+    nulls : HasRow new (nullable_rules body_depth new) m.found.marks.nullable
     nulls =
         let h = as_new (fewer.nullable (nullable_rules body_depth old) (by_rules s₀ refl x.known.known.facts.nullable)) in
         row_of
@@ -172,7 +172,7 @@ module _ {ws : List ℕ} {end : ℕ} {rules : Rules} {n hub : ℕ} {row : List �
         ∙ rw (in_member (at_in 0 (ids_of new) j (let z = length-map new (λ t. t.id) in omega arith))) refl))
         (row_none h)
 
-    module _ {cs' ks' : List (List ℕ)} {st : List ℕ} (v : HubSurveyed ws end rules m.hub past m.marks.nullable cs ks m.marks.stops cs' ks' st)
+    module _ {cs' ks' : List (List ℕ)} {st : List ℕ} (v : HubSurveyed ws end rules m.hub past m.found.marks.nullable cs ks m.found.marks.stops cs' ks' st)
       where
         abbrev grammar : Grammar
         grammar = record { names = names_of new; nullable = nullable_rules body_depth new }
@@ -206,7 +206,7 @@ module _ {ws : List ℕ} {end : ℕ} {rules : Rules} {n hub : ℕ} {row : List �
         abbrev test : Rule → Bool
         test t = not (satellite_is_inlinable inner_depth t)
 
-        was_stopping : {i : ℕ} (b : Among left i) → bit m.marks.stops i ≡ test b.rule
+        was_stopping : {i : ℕ} (b : Among left i) → bit m.found.marks.stops i ≡ test b.rule
         unfolding stopping
         was_stopping b =
             let (j, a, e) = in_among (in_keep (λ r. not (member r.id x.gone)) old (is_among b)).0 in
@@ -252,7 +252,7 @@ module _ {ws : List ℕ} {end : ℕ} {rules : Rules} {n hub : ℕ} {row : List �
                   (fewer.corners (cornered (reading past) before) (record { at = λ j b. by_rules s₀ refl (x.known.known.facts.rows.corner_rows j b) })) a d);
             }
 
-        known_now : RulesKnown ws end rules past cs' ks' (record { nullable = m.marks.nullable; stops = st }) m.kept
+        known_now : RulesKnown ws end rules past cs' ks' (record { nullable = m.found.marks.nullable; stops = st }) m.found.kept
         known_now =
             record {
               known = record {
@@ -267,26 +267,33 @@ module _ {ws : List ℕ} {end : ℕ} {rules : Rules} {n hub : ℕ} {row : List �
             }
 
         now : RenewedAs ws end rules n hub row past calls corners marks kept x cs' ks'
-            (record { marks = record { nullable = m.marks.nullable; stops = st }; kept = m.kept; hub = m.hub })
+            (record { found = record { marks = record { nullable = m.found.marks.nullable; stops = st }; kept = m.found.kept }; hub = m.hub })
         unfolding known_now
         now = record { known = known_now; standing = refl; preserved = refl; inside = hub_inside; same = hub_id_lem }
 
 module _ {ws : List ℕ} {end : ℕ} {rules : Rules} {n hub : ℕ} {row : List ℕ} {past : Bool} {calls corners : List (List ℕ)} {marks : Marks}
     {kept : List ℕ} {cs ks : List (List ℕ)} {m : Renewed}
-    (l : RulesLess calls corners (record { marks = marks; kept = kept; hub = hub }) cs ks m row n)
+    (l : RulesLess calls corners (record { found = record { marks = marks; kept = kept }; hub = hub }) cs ks m row n)
   where
     pub hub_low : Renewable ws end rules n hub row past calls corners marks kept → m.hub < rules.n
     hub_low x = hub_inside x l
 
-    pub renewed_of : {cs' ks' : List (List ℕ)} {st : List ℕ} → HubSurveyed ws end rules m.hub past m.marks.nullable cs ks m.marks.stops cs' ks' st
+    pub renewed_of : {cs' ks' : List (List ℕ)} {known : Marks}
+        → HubSurveyed ws end rules m.hub past m.found.marks.nullable cs ks m.found.marks.stops cs' ks' known.stops
+        → known.nullable ≡ m.found.marks.nullable
         → RenewedOf ws end rules n hub row past calls corners marks kept cs' ks'
-        (record { marks = record { nullable = m.marks.nullable; stops = st }; kept = m.kept; hub = m.hub })
-    renewed_of v = record { is = λ x. now x l v }
+        (record { found = record { marks = known; kept = m.found.kept }; hub = m.hub })
+    renewed_of {cs'} {ks'} {known} v e =
+        subst
+        (λ null.
+        RenewedOf ws end rules n hub row past calls corners marks kept cs' ks'
+        (record { found = record { marks = record { nullable = null; stops = known.stops }; kept = m.found.kept }; hub = m.hub }))
+        (sym e) (record { is = λ x. now x l v })
 
-    pub calls_long_lem : {cs' ks' : List (List ℕ)} {st : List ℕ} → HubSurveyed ws end rules m.hub past m.marks.nullable cs ks m.marks.stops cs' ks' st
+    pub calls_long_lem : {cs' ks' : List (List ℕ)} {st : List ℕ} → HubSurveyed ws end rules m.hub past m.found.marks.nullable cs ks m.found.marks.stops cs' ks' st
         → length cs' ≡ rule_limit
     calls_long_lem v = ap length v.calls ∙ length-set cs m.hub v.survey.calls ∙ l.calls_long
 
     pub corners_long_lem : {cs' ks' : List (List ℕ)} {st : List ℕ}
-        → HubSurveyed ws end rules m.hub past m.marks.nullable cs ks m.marks.stops cs' ks' st → length ks' ≡ rule_limit
+        → HubSurveyed ws end rules m.hub past m.found.marks.nullable cs ks m.found.marks.stops cs' ks' st → length ks' ≡ rule_limit
     corners_long_lem v = ap length v.corners ∙ length-set ks m.hub v.survey.corners ∙ l.corners_long

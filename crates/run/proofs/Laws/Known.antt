@@ -51,7 +51,7 @@ module _ {limits : R.Limits} {past : Bool} {s : Sheet} {result trail : List ℕ}
   pub midst_small : st.at.end ≤ most_words
   midst_small = let u = m.held.up_to in let l = midst_short in omega arith
 
-  unfoldable pub midst_known : RulesKnown (words result) st.at.end st.at.rules past calls corners st.marks st.kept
+  unfoldable pub midst_known : RulesKnown (words result) st.at.end st.at.rules past calls corners st.found.marks st.found.kept
   unfolding held_standing
   midst_known =
       record {
@@ -62,7 +62,7 @@ module _ {limits : R.Limits} {past : Bool} {s : Sheet} {result trail : List ℕ}
 
 module _ {lim : Limits} {past : Bool} {s : Sheet} {result trail : List ℕ} {calls corners : List (List ℕ)} {st : State}
     (m : Midst (limits_of lim) past s result trail calls corners st) {bs : List ℕ} {r : Found}
-    (o : FoundOf (words result) st.at.end st.at.rules past calls corners st.marks st.kept lim bs r) where
+    (o : FoundOf (words result) st.at.end st.at.rules past calls corners st.found.marks st.found.kept lim bs r) where
   pub answer_at : {a : Result (Option FoundPlan) Refusal} → r.answer ≡ a → AnswerIs (midst_known m) lim bs r.declined a
   answer_at e = subst (λ a. AnswerIs (midst_known m) lim bs r.declined a) e (o.is (midst_known m)).answer
 

@@ -161,7 +161,7 @@ module _ {limits : R.Limits} {past : Bool} {result trail work : List ℕ} {calls
         }
 
     pub renewable : {n : ℕ} → n ≡ st.at.rules.n
-        → Renewable (words result') a.end a.rules n p.hub p.removable past calls corners st.marks st.kept
+        → Renewable (words result') a.end a.rules n p.hub p.removable past calls corners st.found.marks st.found.kept
     unfolding midst_known held_standing left_standing
     renewable e =
         record {
@@ -195,7 +195,7 @@ module _ {limits : R.Limits} {past : Bool} {result trail work : List ℕ} {calls
         omega arith
 
     module _ {n : ℕ} (e : n ≡ st.at.rules.n) {calls' corners' : List (List ℕ)} {r : Renewed}
-        (w : RenewedOf (words result') a.end a.rules n p.hub p.removable past calls corners st.marks st.kept
+        (w : RenewedOf (words result') a.end a.rules n p.hub p.removable past calls corners st.found.marks st.found.kept
         calls' corners' r) where
       abbrev after : State
       after = behind_plan st a p r
@@ -223,7 +223,7 @@ module _ {limits : R.Limits} {past : Bool} {result trail work : List ℕ} {calls
             room = let l = done.told.long in let h = done.room in omega arith;
           }
 
-      renewed : RenewedAs (words result') a.end a.rules n p.hub p.removable past calls corners st.marks st.kept
+      renewed : RenewedAs (words result') a.end a.rules n p.hub p.removable past calls corners st.found.marks st.found.kept
           (renewable e) calls' corners' r
       renewed = w.is (renewable e)
 
@@ -238,9 +238,9 @@ module _ {limits : R.Limits} {past : Bool} {result trail work : List ℕ} {calls
             rows = done.rows;
             counters = done.counters_are;
             facts =
-                subst (λ t. FactsOf (reading past) t.rows.found.trees a.rules.ids calls' corners' r.marks)
+                subst (λ t. FactsOf (reading past) t.rows.found.trees a.rules.ids calls' corners' r.found.marks)
                 renewed.standing renewed.known.known.facts;
-            keeps = subst (λ ps. RowOf a.rules.ids a.rules.n ps r.kept) renewed.preserved renewed.known.keeps;
+            keeps = subst (λ ps. RowOf a.rules.ids a.rules.n ps r.found.kept) renewed.preserved renewed.known.keeps;
             told = told;
             entries = done.entries ∙ ap (λ k. k + length stage.after.entries) m.entries
                 ∙ sym (length-append (entries_of m.stages) stage.after.entries)

@@ -19,7 +19,7 @@ use Rattle.run.proofs.Laws.Known.{midst_room, midst_small, midst_known, found_no
 use Rattle.run.proofs.Laws.Over.{turned_none, turned_large}
 
 module _ {lim : Limits} {past : Bool} {result trail : List ℕ} {calls corners : List (List ℕ)} {st : State} {bs : List ℕ} {r : Found}
-    (o : FoundOf (words result) st.at.end st.at.rules past calls corners st.marks st.kept lim bs r) where
+    (o : FoundOf (words result) st.at.end st.at.rules past calls corners st.found.marks st.found.kept lim bs r) where
   pub turn_none : r.answer ≡ Ok None
       → TurnedOf (limits_of lim) past result trail calls corners st result trail calls corners (Ok None)
   turn_none e = record { is = λ s m. turned_none m (found_none m o e) }

@@ -4,6 +4,9 @@ use Rattle.analysis.proofs.Laws.Standing.{names_long, told}
 use Rattle.plan.proofs.Laws.Made.{hub_low, hub_standing, made_laid, made_listed, made_idle, made_planned, made_unplanned, making}
 use Rattle.steps.proofs.Laws.Raised.{raised}
 
+pub substitute-requires-clause-bounds : goal.substitute-requires-clause-bounds
+substitute-requires-clause-bounds c = (c.requires.hub_known.known.known.small, search rules)
+
 pub substitute-requires-clause-ground : goal.substitute-requires-clause-ground
 substitute-requires-clause-ground c = search (rules, making, hub_low, hub_standing)
 

@@ -5,4 +5,7 @@ use Rattle.plan.proofs.Laws.Search.{Trying}
 use Rattle.plan.proofs.search.try_cycles.Given as goal
 
 abbrev pub invariant-loop-k : goal.invariant-loop-k
-invariant-loop-k l = (length l.work ≡ length l.initial.work) × Trying (text l.s) l.s.end l.f.rules l.f.past l.f.rows.now.calls l.f.marks l.f.kept l.closed l.limits l.n l.k l.left l.clauses
+invariant-loop-k l =
+    let g = l.f.found in
+    (length l.work ≡ length l.initial.work)
+    × Trying (text l.f.s.now) l.f.s.now.end l.f.rules l.f.past l.f.rows.now.calls g.marks g.kept l.closed l.limits l.n l.k l.left l.clauses

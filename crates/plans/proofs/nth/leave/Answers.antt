@@ -2,10 +2,8 @@ use Rattle.std.proofs.Common.{rules}
 use Rattle.plans.proofs.nth.leave.Goals as goal
 use Rattle.plans.proofs.Laws.Numbers.{lefts}
 
--- src/nth.rt:144:1
-pub returns-then-numbers-ne-PLANNED : goal.returns-then-numbers-ne-PLANNED
-returns-then-numbers-ne-PLANNED c = search (rules, lefts)
+pub returns-then-numbers-from : goal.returns-then-numbers-from
+returns-then-numbers-from c = search (rules, lefts, c.from.ensures)
 
--- src/nth.rt:144:1
-pub returns-else-numbers-ne-PLANNED : goal.returns-else-numbers-ne-PLANNED
-returns-else-numbers-ne-PLANNED c = search (rules, lefts)
+pub returns-else-numbers-from : goal.returns-else-numbers-from
+returns-else-numbers-from c = search (rules, lefts, c.from.ensures)
