@@ -11,7 +11,8 @@ use sheet::answer::rules_end;
 use words::sheet::Sheet;
 
 // The line of a refusal.
-// Stays: the refusal is told by its number, since the line is promised for every number and not for the nine refusals alone.
+// Stays: the refusal is told by its number. The line is promised for every number, and with the enum the function would ask more of its
+// callers than it did.
 pub fn list_refused(number: u32, text: &mut [u8]) -> usize
     ensures { Filled text.old text.new result (listed_refusal number) most_text }
 {

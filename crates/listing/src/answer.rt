@@ -30,7 +30,13 @@ fn list(sheet: &[u8], a: Result<Totals, Refusal>, res: &[u8], trail: &[u8], text
         Ok(t) => {
             let words = (t.result / 4) as usize;
             let entries = (t.trail / 16) as usize;
-            let n = list_joined(res, words, trail, entries, t.plans, t.steps, text);
+            let n = list_joined(
+                &res[..4 * words],
+                &trail[..16 * entries],
+                t.plans,
+                t.steps,
+                text,
+            );
             Told { n, refusal: None }
         }
     }

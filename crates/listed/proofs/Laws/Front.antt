@@ -22,38 +22,40 @@ front ws {xs} n q h s =
     rw e at (slice_stands (take n ws) n q 0 q (omega arith) (omega arith) (omega arith))
 
 -- The first n words of some bytes.
-words_front : (bs : List ℕ) {xs : List ℕ} (n q : ℕ) → 4 * n ≤ length bs → Stands (words bs) n xs 0 q → Stands (words (take (4 * n) bs)) n xs 0 q
-words_front bs n q h s = rw (words_take bs n h) (front (words bs) n q (omega (arith, length_words bs)) s)
+pub stands_front : (bs : List ℕ) {xs : List ℕ} (n q : ℕ) → 4 * n ≤ length bs → Stands (words bs) n xs 0 q → Stands (words (take (4 * n) bs)) n xs 0 q
+stands_front bs n q h s = rw (words_take bs n h) (front (words bs) n q (omega (arith, length_words bs)) s)
 
-pub held_front : {result : List ℕ} {n : ℕ} → Held result n → Held (take (4 * n) result) (length (take (4 * n) result) / 4)
+unfoldable pub held_front : {result : List ℕ} {n : ℕ} → Held result n → Held (take (4 * n) result) (length (take (4 * n) result) / 4)
 held_front {result} {n} h =
-    let long = length-take-le (4 * n) result h.room in
+    let room = h.room in
+    let most = h.most in
+    let long = length-take-le (4 * n) result room in
     let e : length (take (4 * n) result) / 4 ≡ n = omega arith in
-    rw e
     record {
       sheet = h.sheet;
       good = h.good;
-      stands = words_front result n n h.room h.stands;
+      stands = rw e (stands_front result n n room h.stands);
       room = omega arith;
-      most = h.most;
+      most = omega arith;
     }
 
-pub recorded_front : {trail : List ℕ} {k : ℕ} → Recorded trail k → Recorded (take (16 * k) trail) (length (take (16 * k) trail) / 16)
+unfoldable pub recorded_front : {trail : List ℕ} {k : ℕ} → Recorded trail k
+    → Recorded (take (16 * k) trail) (length (take (16 * k) trail) / 16)
 recorded_front {trail} {k} r =
     let g = r.found in
     let room = r.room in
+    let few = r.few in
     let many : 16 * k ≡ 4 * (4 * k) = omega arith in
     let long = length-take-le (16 * k) trail (omega arith) in
     let e : length (take (16 * k) trail) / 16 ≡ k = omega arith in
-    rw e
     record {
       found =
           record {
             trees = g.trees;
             next = g.next;
-            spans = record { stands = rw many (words_front trail (4 * k) g.next room g.spans.stands); fine = g.spans.fine };
-            count = g.count;
+            spans = record { stands = rw (e, many) (stands_front trail (4 * k) g.next room g.spans.stands); fine = g.spans.fine };
+            count = rw e g.count;
           };
       room = omega arith;
-      few = r.few;
+      few = omega arith;
     }
