@@ -6,6 +6,8 @@ ghost use Rattle.analysis.specs.Names.{Told};
 use reach::rows::Row;
 
 // A cycle among n rules: their names by place, which rules are its members, and which rules are nullable.
+// Stays: that of `steps` differs in its last field alone, which is the place of the hub. One type for both, over that field's type, would
+// call both by one name that says neither.
 #[derive(Clone, Copy, Debug, PartialEq, Eq)]
 pub struct Cycle<'a> {
     pub names: &'a [u32],

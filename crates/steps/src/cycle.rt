@@ -6,6 +6,7 @@ ghost use Rattle.analysis.specs.Names.{Told};
 use reach::rows::Row;
 
 // A cycle among n rules, and its hub: their names by place, which rules are its members, and the place of the hub.
+// Stays: that of `hub` differs in its last field alone, which is the row of the nullable rules (there it is said why).
 #[derive(Clone, Copy, Debug, PartialEq, Eq)]
 pub struct Cycle<'a> {
     pub names: &'a [u32],
