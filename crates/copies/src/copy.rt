@@ -12,8 +12,8 @@ use words::words::word;
 
 impl Drawing<'_> {
     // The element at `at`, made plain or not; returned is where it ends.
-    // Stays: this is no visitor of the common walk (words::visit). What fits there at a place fits at each later one (`VisitorLaws.on`),
-    // and so would be room for all that is behind. Here room is asked for the one tree (`ElementFits`), and a type may not ask more.
+    // Stays: this is no visitor of the common walk (words::visit). There, what fits at a place fits at each later one (`VisitorLaws.on`),
+    // so it would ask for room for all that is behind. This asks for room for the one tree (`ElementFits`), and may not ask more.
     #[cycle(tree)]
     pub fn copy_element(&mut self, s: &Sheet, depth: u32, at: usize, plain: bool) -> usize
         requires element_fits { ElementFits (text s.now) s.now.end depth plain at self.old.out.now self.old.trail.now self.old.pen }

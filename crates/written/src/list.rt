@@ -31,41 +31,41 @@ fn id_at(s: &Sheet, at: usize) -> u32
 }
 
 // The head of an alternative, with an id.
-fn begin(d: &mut Drawing<'_>, s: &Sheet, depth: u32, x: Listed, id: u32)
+fn begin(d: &mut Drawing<'_>, s: &Sheet, x: Listed, id: u32)
     requires bounds { (compose_at ≤ d.old.pen.to) × (4 * (d.old.pen.to + 5 + 2 * x.no) ≤ length d.old.out.now) }
-    requires readable { Readable (text s.now) s.now.end depth d.old.out.now x }
+    requires readable { Readable (text s.now) s.now.end inner_depth d.old.out.now x }
     ensures same_out { d.old.out.ghost_name ≡ d.new.out.ghost_name }
     ensures same_trail { d.old.trail.ghost_name ≡ d.new.trail.ghost_name }
     ensures same_entries { d.old.trail.now ≡ d.new.trail.now }
-    ensures drawn { HeadDrawn (text s.now) s.now.end depth d.old.out.now x id d.new.out.now d.old.pen d.new.pen }
+    ensures drawn { HeadDrawn (text s.now) s.now.end inner_depth d.old.out.now x id d.new.out.now d.old.pen d.new.pen }
 {
-    write_head(s, depth, d.out, x, id, d.pen.to);
+    write_head(s, Block::DEPTH, d.out, x, id, d.pen.to);
     d.pen.to += 5 + 2 * x.no;
 }
 
 // An alternative that always filled its slot: it keeps its id, and nothing is recorded (SPECIFICATION 11.2).
-fn write_same(d: &mut Drawing<'_>, s: &Sheet, depth: u32, x: Listed)
+fn write_same(d: &mut Drawing<'_>, s: &Sheet, x: Listed)
     requires bounds { (compose_at ≤ d.old.pen.to) × (is_marked x.slot ≡ true) }
-    requires readable { Readable (text s.now) s.now.end depth d.old.out.now x
-        × AlternativeFits (text s.now) s.now.end depth d.old.out.now x d.old.trail.now d.old.pen }
+    requires readable { Readable (text s.now) s.now.end inner_depth d.old.out.now x
+        × AlternativeFits (text s.now) s.now.end inner_depth d.old.out.now x d.old.trail.now d.old.pen }
     ensures same_out { d.old.out.ghost_name ≡ d.new.out.ghost_name }
     ensures same_trail { d.old.trail.ghost_name ≡ d.new.trail.ghost_name }
-    ensures drawn { AlternativeDrawn (text s.now) s.now.end depth d.old.out.now x d.new.out.now
+    ensures drawn { AlternativeDrawn (text s.now) s.now.end inner_depth d.old.out.now x d.new.out.now
         d.old.trail.now d.new.trail.now d.old.pen d.new.pen }
 {
     let id = id_at(s, usize::from(x.origin));
-    begin(d, s, depth, x, id);
-    write_items(d, s, depth, x, false);
+    begin(d, s, x, id);
+    write_items(d, s, Block::DEPTH, x, false);
 }
 
 // A new alternative: a fresh id, and fresh ids for all that is in it (SPECIFICATION 11.3).
-fn write_new(d: &mut Drawing<'_>, s: &Sheet, depth: u32, x: Listed)
+fn write_new(d: &mut Drawing<'_>, s: &Sheet, x: Listed)
     requires bounds { (compose_at ≤ d.old.pen.to) × (is_marked x.slot ≡ false) }
-    requires readable { Readable (text s.now) s.now.end depth d.old.out.now x
-        × AlternativeFits (text s.now) s.now.end depth d.old.out.now x d.old.trail.now d.old.pen }
+    requires readable { Readable (text s.now) s.now.end inner_depth d.old.out.now x
+        × AlternativeFits (text s.now) s.now.end inner_depth d.old.out.now x d.old.trail.now d.old.pen }
     ensures same_out { d.old.out.ghost_name ≡ d.new.out.ghost_name }
     ensures same_trail { d.old.trail.ghost_name ≡ d.new.trail.ghost_name }
-    ensures drawn { AlternativeDrawn (text s.now) s.now.end depth d.old.out.now x d.new.out.now
+    ensures drawn { AlternativeDrawn (text s.now) s.now.end inner_depth d.old.out.now x d.new.out.now
         d.old.trail.now d.new.trail.now d.old.pen d.new.pen }
 {
     let owner = id_at(s, usize::from(x.origin));
@@ -77,40 +77,40 @@ fn write_new(d: &mut Drawing<'_>, s: &Sheet, depth: u32, x: Listed)
         owner,
     );
     d.pen = given.pen;
-    begin(d, s, depth, x, given.id);
-    write_items(d, s, depth, x, true);
+    begin(d, s, x, given.id);
+    write_items(d, s, Block::DEPTH, x, true);
 }
 
-fn write_one(d: &mut Drawing<'_>, s: &Sheet, depth: u32, x: Listed)
+fn write_one(d: &mut Drawing<'_>, s: &Sheet, x: Listed)
     requires bounds { compose_at ≤ d.old.pen.to }
-    requires readable { Readable (text s.now) s.now.end depth d.old.out.now x
-        × AlternativeFits (text s.now) s.now.end depth d.old.out.now x d.old.trail.now d.old.pen }
+    requires readable { Readable (text s.now) s.now.end inner_depth d.old.out.now x
+        × AlternativeFits (text s.now) s.now.end inner_depth d.old.out.now x d.old.trail.now d.old.pen }
     ensures same_out { d.old.out.ghost_name ≡ d.new.out.ghost_name }
     ensures same_trail { d.old.trail.ghost_name ≡ d.new.trail.ghost_name }
-    ensures drawn { AlternativeDrawn (text s.now) s.now.end depth d.old.out.now x d.new.out.now
+    ensures drawn { AlternativeDrawn (text s.now) s.now.end inner_depth d.old.out.now x d.new.out.now
         d.old.trail.now d.new.trail.now d.old.pen d.new.pen }
 {
     if x.slot < Mark::BIT {
-        write_new(d, s, depth, x);
+        write_new(d, s, x);
         return;
     }
-    write_same(d, s, depth, x);
+    write_same(d, s, x);
 }
 
-fn write_list(d: &mut Drawing<'_>, s: &Sheet, depth: u32, l: Sizes)
+fn write_list(d: &mut Drawing<'_>, s: &Sheet, l: Sizes)
     requires bounds { compose_at ≤ d.old.pen.to }
-    requires laid { Laid d.old.out.now l × AllIn (text s.now) s.now.end depth d.old.out.now l }
-    requires list_fits { ListFits (text s.now) s.now.end depth d.old.out.now l d.old.trail.now d.old.pen }
+    requires laid { Laid d.old.out.now l × AllIn (text s.now) s.now.end inner_depth d.old.out.now l }
+    requires list_fits { ListFits (text s.now) s.now.end inner_depth d.old.out.now l d.old.trail.now d.old.pen }
     ensures same_out { d.old.out.ghost_name ≡ d.new.out.ghost_name }
     ensures same_trail { d.old.trail.ghost_name ≡ d.new.trail.ghost_name }
-    ensures drawn { ListDrawn (text s.now) s.now.end depth d.old.out.now l d.new.out.now
+    ensures drawn { ListDrawn (text s.now) s.now.end inner_depth d.old.out.now l d.new.out.now
         d.old.trail.now d.new.trail.now d.old.pen d.new.pen }
 {
     let mut c = Cursor::front();
     for _ in 0..l.outa {
         let out = &mut *d.out;
         let r = read_here(out, l, c);
-        write_one(d, s, depth, r.x);
+        write_one(d, s, r.x);
         c = r.next;
     }
 }
@@ -128,5 +128,5 @@ pub fn write_planned(d: &mut Drawing<'_>, s: &Sheet, l: Sizes)
         (drawn_list (text s.now) s.now.end inner_depth d.old.out.now l (counters_of d.old.pen.counters))
         d.old.out.now d.new.out.now d.old.trail.now d.new.trail.now d.old.pen d.new.pen }
 {
-    write_list(d, s, Block::DEPTH, l);
+    write_list(d, s, l);
 }
