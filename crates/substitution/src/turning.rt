@@ -57,8 +57,8 @@ fn stored(
 ) -> Result<Option<Done>, Unplanned>
     requires shut { Shut (Ready (text task.now.s.now) task.now.s.now.end work.old first 0 0 0) }
     requires grounded { Shut (Grounded task.now) }
-    requires going { Shut (Going (text task.now.s.now) task.now.s.now.end task.now.c.names.now task.now.places.now task.now.c task.now.limits
-        budget work.old first) }
+    requires going { Shut (Going (text task.now.s.now) task.now.s.now.end task.now.c.names.now task.now.places.now task.now.c
+        task.now.limits budget work.old first) }
     ensures { MadeOf (text task.now.s.now) task.now.s.now.end task.now.c.names.now task.now.places.now task.now.c task.now.limits
         budget work.new result }
 {
