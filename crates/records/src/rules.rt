@@ -14,8 +14,7 @@ use words::numbers::{Block, RuleFlags};
 use words::words::word;
 
 // One row of each array for each rule, zeros behind; a place is counted in words.
-// Stays: SPECIFICATION 17.5 has three arrays and their number. That they are the rules of a sheet is a clause: the fact has the
-// trees of the rules, and a ghost field takes no data.
+// Stays: SPECIFICATION 17.5 has three arrays and their number. That they are the rules of a sheet is a fact of both, and none of theirs.
 #[derive(Clone, Copy, Debug, PartialEq, Eq)]
 pub struct Rules {
     pub ids: [u32; 128],

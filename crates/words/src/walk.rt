@@ -10,7 +10,8 @@ use crate::sheet::Sheet;
 use crate::words::word;
 
 // That a record is found at a place is a clause, here and in all that walks.
-// Stays: the fact is data, since it has the tree that stands there, and a ghost field takes facts alone.
+// Stays: that fact is a clause and no ghost field. A walk goes from place to place, so each call would make a value of sheet, depth and
+// place, and show of it what it shows for the clause.
 
 // Where an element's payload begins, and its kind.
 #[derive(Clone, Copy, Debug, PartialEq, Eq)]
