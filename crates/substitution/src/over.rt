@@ -6,7 +6,6 @@ ghost use Rattle.grammar.specs.Tree.{inner_depth};
 ghost use Rattle.grammar.specs.Found.{FoundAlternative};
 ghost use Rattle.planned.specs.List.{Located, InHand, ListedIn};
 ghost use Rattle.steps.specs.Step.{splits};
-ghost use Rattle.turns.specs.Ground.{Grounded};
 ghost use Rattle.substitution.specs.Over.{Reached, StepLooked, HandLooked, LookedAt, Unstored};
 ghost use Rattle.words.specs.Sheet.{text};
 
@@ -34,7 +33,6 @@ fn look_step(
 ) -> Unplanned
     requires bounds { Located work.old h × InHand h × Reached task.now.c h.ne p (splits step) }
     requires listed_in { ListedIn (text task.now.s.now) task.now.s.now.end inner_depth work.old h }
-    requires grounded { Grounded task.now }
     ensures { StepLooked (text task.now.s.now) task.now.s.now.end task.now.c.names.now task.now.places.now task.now.c budget
         work.old work.new h p (splits step) result }
 {
@@ -52,7 +50,6 @@ fn look_step(
 fn look_hand(task: &Task, budget: usize, work: &mut [u8], h: Listed) -> Result<(), Unplanned>
     requires bounds { Located work.old h × InHand h }
     requires listed_in { ListedIn (text task.now.s.now) task.now.s.now.end inner_depth work.old h }
-    requires grounded { Grounded task.now }
     ensures { HandLooked (text task.now.s.now) task.now.s.now.end task.now.c.names.now task.now.places.now task.now.c budget
         work.old work.new h result }
 {
@@ -68,7 +65,6 @@ fn look_hand(task: &Task, budget: usize, work: &mut [u8], h: Listed) -> Result<(
 fn look_at(task: &Task, budget: usize, work: &mut [u8], at: usize) -> Result<(), Unplanned>
     requires bounds { work_bytes ≤ length work.old }
     requires found_alternative { FoundAlternative (text task.now.s.now) task.now.s.now.end inner_depth at }
-    requires grounded { Grounded task.now }
     ensures { LookedAt (text task.now.s.now) task.now.s.now.end task.now.c.names.now task.now.places.now task.now.c budget at
         work.old work.new result }
 {
@@ -85,7 +81,6 @@ fn look_all(
 ) -> Result<Option<Done>, Unplanned>
     requires bounds { work_bytes ≤ length work.old }
     requires at_value { (at ≡ get_or task.now.places.now task.now.c.hub 0) × (at + 4 ≤ task.now.s.now.end) }
-    requires grounded { Grounded task.now }
     ensures { Unstored (text task.now.s.now) task.now.s.now.end task.now.c.names.now task.now.places.now task.now.c budget
         work.new result }
 {
@@ -102,7 +97,6 @@ fn look_all(
 // The hub of a cycle.
 pub fn unstored(task: &Task, budget: usize, work: &mut [u8]) -> Result<Option<Done>, Unplanned>
     requires bounds { work_bytes ≤ length work.old }
-    requires grounded { Grounded task.now }
     ensures { Unstored (text task.now.s.now) task.now.s.now.end task.now.c.names.now task.now.places.now task.now.c budget
         work.new result }
 {

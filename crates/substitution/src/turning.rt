@@ -1,7 +1,7 @@
 // The substitution in a hub's alternatives (SPECIFICATION 8): a loop that counts steps against the budget.
 ghost use Rattle.std.specs.Prelude.{◌+◌, ◌≤◌, length, get_or};
 ghost use Rattle.grammar.specs.Numbers.{most_words, work_bytes};
-ghost use Rattle.turns.specs.Ground.{Ground, Grounded};
+ghost use Rattle.turns.specs.Ground.{Ground};
 ghost use Rattle.turns.specs.Midway.{Shut, Ready, NextIs, Begun};
 ghost use Rattle.substitution.specs.Run.{Going, MadeOf};
 ghost use Rattle.words.specs.Sheet.{text};
@@ -56,7 +56,6 @@ fn stored(
     work: &mut [u8],
 ) -> Result<Option<Done>, Unplanned>
     requires shut { Shut (Ready (text task.now.s.now) task.now.s.now.end work.old first 0 0 0) }
-    requires grounded { Shut (Grounded task.now) }
     requires going { Shut (Going (text task.now.s.now) task.now.s.now.end task.now.c.names.now task.now.places.now task.now.c
         task.now.limits budget work.old first) }
     ensures { MadeOf (text task.now.s.now) task.now.s.now.end task.now.c.names.now task.now.places.now task.now.c task.now.limits
@@ -74,7 +73,6 @@ fn stored(
 // The hub's own list is stored if it is within the limits.
 fn run(task: &Task, budget: usize, work: &mut [u8]) -> Result<Option<Done>, Unplanned>
     requires bounds { work_bytes ≤ length work.old }
-    requires grounded { Shut (Grounded task.now) }
     ensures { MadeOf (text task.now.s.now) task.now.s.now.end task.now.c.names.now task.now.places.now task.now.c task.now.limits
         budget work.new result }
 {

@@ -1,6 +1,8 @@
 pub mod Turns
 pub mod Ground
+pub mod Told
 pub mod Replaced
+pub mod Stand
 pub mod Midway
 pub mod Holding
 pub mod Pushing

@@ -11,8 +11,6 @@ use Rattle.analysis.specs.Facts.{Standing, Among}
 use Rattle.hub.specs.Grounds.{rules_of, grammar_at, IsCycle}
 use Rattle.turns.specs.Turns.{Task}
 use Rattle.steps.specs.declared.cycle.Cycle.{Cycle}
-use Rattle.turns.specs.declared.task.Task as T
-use Rattle.words.specs.Sheet.{text}
 
 pub record Ground (ws : List ℕ) (end : ℕ) (names places : List ℕ) (c : Cycle) : Type 0 where
   pub rules : Rules
@@ -39,7 +37,3 @@ task_of {ws} {end} {c = c} b limits =
       hub = get_or b.rules.ids c.hub 0;
       limits = limits;
     }
-
--- What is lent as one value belongs together.
-abbrev pub Grounded : T.Task → Type 0
-Grounded t = Ground (text t.s.now) t.s.now.end t.c.names.now t.places.now t.c

@@ -2,6 +2,8 @@
 ghost use Rattle.std.specs.Prelude.{◌≡◌, ◌<◌, ◌≤◌, length};
 ghost use Rattle.grammar.specs.Numbers.{most_words};
 ghost use Rattle.turns.specs.Called.{call_of};
+ghost use Rattle.turns.specs.Stand.{RulesStand};
+ghost use Rattle.words.specs.Sheet.{text};
 
 use crate::limits::Limits;
 use steps::corner::Place;
@@ -9,8 +11,8 @@ use steps::cycle::Cycle;
 use steps::step::{Call, Step};
 use words::sheet::Sheet;
 
-// The sheet, the places of its rules, a cycle among them with its hub, and the limits.
-// Stays: that they belong together is a clause and no ghost field: it holds data, such as the rules, and a ghost field takes facts alone.
+// The sheet, the places of its rules, a cycle among them with its hub, and the limits. At each of the places stands a rule, by the
+// name that the cycle has of it.
 #[derive(Clone, Copy, Debug, PartialEq, Eq)]
 pub struct Task<'a> {
     pub s: &'a Sheet<'a>,
@@ -18,6 +20,7 @@ pub struct Task<'a> {
     pub c: Cycle<'a>,
     pub limits: Limits,
     ghost few: { s.now.end ≤ most_words },
+    ghost stand: { RulesStand (text s.now) s.now.end places.now c },
 }
 
 impl Task<'_> {

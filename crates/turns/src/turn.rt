@@ -7,7 +7,6 @@ ghost use Rattle.words.specs.Room.{Room};
 ghost use Rattle.planned.specs.List.{Laid, Located, Movable, InHand, HasRoom};
 ghost use Rattle.splices.specs.Splice.{HandIn};
 ghost use Rattle.steps.specs.Decide.{SmallSize};
-ghost use Rattle.turns.specs.Ground.{Grounded};
 ghost use Rattle.steps.specs.Step.{splits, Goable, PushedBy};
 ghost use Rattle.turns.specs.Turn.{Called, CalledAt, SteppedTo, StuckAt, ActedOn, TurnedTo};
 ghost use Rattle.turns.specs.Midway.{Shut, Ready, HasNext, With, within, Held, CanReplace, SizeAfter};
@@ -183,7 +182,6 @@ pub fn stuck(budget: usize) -> Clause
 // What was taken is settled, or a step is made on it.
 fn act(task: &Task, work: &mut [u8], t: Taken) -> Result<State, Unplanned>
     requires shut { Shut (With (text task.now.s.now) task.now.s.now.end work.old t.st t.x) }
-    requires grounded { Shut (Grounded task.now) }
     ensures { ActedOn (text task.now.s.now) task.now.s.now.end task.now.c.names.now task.now.places.now task.now.c task.now.limits
         work.old work.new t.st t.x result }
 {
@@ -201,7 +199,6 @@ fn act(task: &Task, work: &mut [u8], t: Taken) -> Result<State, Unplanned>
 pub fn take_turn(task: &Task, work: &mut [u8], st: State) -> Result<State, Unplanned>
     requires bounds { HasNext st }
     requires shut { Shut (Ready (text task.now.s.now) task.now.s.now.end work.old st 0 0 0) }
-    requires grounded { Shut (Grounded task.now) }
     ensures { TurnedTo (text task.now.s.now) task.now.s.now.end task.now.c.names.now task.now.places.now task.now.c task.now.limits
         work.old work.new st result }
 {

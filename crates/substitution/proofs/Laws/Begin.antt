@@ -23,32 +23,27 @@ use Rattle.splices.specs.declared.splice.Size.{Size}
 use Rattle.turns.specs.Turns.{Substituting, substitution}
 use Rattle.substitution.specs.Size.{RuleCounted}
 use Rattle.turns.specs.Ground.{Ground, task_of}
-use Rattle.turns.specs.Midway.{Shut, shut, opened, Ready, Begun, within_limits, limits_of}
+use Rattle.turns.specs.Stand.{RulesStand}
+use Rattle.turns.specs.Midway.{Shut, shut, Ready, Begun, within_limits, limits_of}
 use Rattle.substitution.specs.Run.{Going}
 use Rattle.steps.specs.declared.cycle.Cycle.{Cycle}
 use Rattle.turns.specs.declared.limits.Limits.{Limits}
 use Rattle.turns.specs.declared.state.State.{State}
 use Rattle.turns.proofs.Laws.Midway.{retold}
 use Rattle.turns.proofs.Laws.Advance.{midway_same}
-use Rattle.turns.proofs.Laws.Acting.{long}
-use Rattle.turns.proofs.Laws.Replaced.{target_found, target_room, target_tree}
+use Rattle.turns.proofs.Laws.Replaced.{target_tree}
+use Rattle.turns.proofs.Laws.Stand.{member_place, member_room, member_found}
 
-module _ {ws : List ℕ} {end : ℕ} {names places : List ℕ} {c : Cycle} (b : Shut (Ground ws end names places c)) where
-  low : c.hub < c.n
-  low = let e = (opened b).count in let h = (opened b).hub in omega arith
-
+module _ {ws : List ℕ} {end : ℕ} {places : List ℕ} {c : Cycle} (s : RulesStand ws end places c) where
   pub hub_place : c.hub < length places
-  hub_place = (long b low).1
-
-  pub ground_open : Ground ws end names places c
-  ground_open = opened b
+  hub_place = member_place s s.hub
 
   module _ {at : ℕ} (e : at ≡ get_or places c.hub 0) where
     pub hub_stands : FoundRule ws end at
-    hub_stands = target_found (opened b) low e
+    hub_stands = member_found s s.hub e
 
     pub hub_room : at + 4 ≤ end
-    hub_room = target_room (opened b) low e
+    hub_room = member_room s s.hub e
 
     module _ (limits : Limits) {bs : List ℕ} {budget : ℕ} {z : Size} {st : State} {k : Bool} (large : work_bytes ≤ length bs) (counted : RuleCounted ws end at z)
         (within : k ≡ within_limits limits z) (yes : k ≡ true) (begun : Begun (get_or ws (at + 3) 0) (at + 4) z budget st) where
@@ -101,9 +96,9 @@ module _ {ws : List ℕ} {end : ℕ} {names places : List ℕ} {c : Cycle} (b : 
       pub begun_ready : budget < 2 ^ 64 → Shut (Ready ws end bs st 0 0 0)
       begun_ready top = shut (ready top)
 
-      pub begun_going : budget < 2 ^ 64 → Shut (Going ws end names places c limits budget bs st)
+      pub begun_going : {names : List ℕ} → budget < 2 ^ 64 → Shut (Going ws end names places c limits budget bs st)
       unfolding ready
-      begun_going top =
+      begun_going {names} top =
           shut
           (record {
             is = λ g a y.
@@ -129,4 +124,4 @@ module _ {ws : List ℕ} {end : ℕ} {names places : List ℕ} {c : Cycle} (b : 
                 settled = tt;
               }
 
-pub ruleset beginning = (hub_place, ground_open, hub_stands, hub_room, begun_ready, begun_going)
+pub ruleset beginning = (hub_place, hub_stands, hub_room, begun_ready, begun_going)

@@ -28,6 +28,7 @@ use Rattle.splices.specs.declared.splice.Size.{Size}
 use Rattle.steps.specs.Decide.{DeclinedBy}
 use Rattle.substitution.specs.Size.{RuleCounted}
 use Rattle.turns.specs.Ground.{Ground, task_of}
+use Rattle.turns.specs.Stand.{RulesStand}
 use Rattle.turns.specs.Midway.{limits_of, within_limits}
 use Rattle.turns.specs.Turns.{Task, Replaced, IsSettled, substitution, Substituting}
 use Rattle.substitution.specs.Run.{Untouched, MadeOf}
@@ -41,8 +42,8 @@ use Rattle.turns.specs.declared.turn.Unplanned.{Unplanned}
 use Rattle.turns.specs.declared.turn.Unplanned.TheVariants.{Declined, Overfull}
 use Rattle.substitution.specs.declared.turning.Done.{Done}
 use Rattle.substitution.proofs.Laws.Grown.{stays_beyond}
-use Rattle.turns.proofs.Laws.Replaced.{target_among, target_room, target_tree, target_spans}
-use Rattle.turns.proofs.Laws.Replaced.{target_place_in}
+use Rattle.turns.proofs.Laws.Replaced.{target_tree, target_spans}
+use Rattle.turns.proofs.Laws.Stand.{member_place, member_room, member_found}
 use Rattle.turns.proofs.Laws.Turns.{substituted, substitute_spent, settle_one, substitute_declined, substitute_over}
 
 -- The first that is in need of work ends the substitution.
@@ -117,30 +118,29 @@ module _ (ws : List ℕ) (end : ℕ) (names places : List ℕ) (c : Cycle) (left
 pub hub_low : {ws : List ℕ} {end : ℕ} {names places : List ℕ} {c : Cycle} → Ground ws end names places c → c.hub < c.n
 hub_low b = let e = b.count in let l = b.hub in omega arith
 
-module _ {ws : List ℕ} {end : ℕ} {names places : List ℕ} {c : Cycle} (b : Ground ws end names places c) where
+module _ {ws : List ℕ} {end : ℕ} {places : List ℕ} {c : Cycle} (s : RulesStand ws end places c) where
   pub hub_in : c.hub < length places
-  hub_in = target_place_in b (hub_low b)
+  hub_in = member_place s s.hub
 
   module _ {at : ℕ} (e : at ≡ get_or places c.hub 0) where
     pub hub_room : at + 4 ≤ end
-    hub_room = target_room b (hub_low b) e
+    hub_room = member_room s s.hub e
 
     none_done : (n : ℕ) → n - 0 ≡ n
     none_done n = omega arith
 
-    pub looking_all : {left m : ℕ} {bs : List ℕ} → m ≡ get_or ws (at + 3) 0 → work_bytes ≤ length bs
+    pub looking_all : {names : List ℕ} {left m : ℕ} {bs : List ℕ} → m ≡ get_or ws (at + 3) 0 → work_bytes ≤ length bs
         → Looking ws end names places c left bs m 0 (at + 4) bs
     looking_all {m = m} g l =
-        let a = target_among b (hub_low b) e in
-        let s = target_spans b (hub_low b) e a in
-        let w = rule_words_lem inner_depth s.1 in
+        let f = member_found s s.hub e in
+        let w = rule_words_lem inner_depth f.spans in
         record {
-          found = record { trees = a.rule.body; next = s.0; spans = w.alternatives; count = sym w.count ∙ sym g ∙ sym (none_done m) };
+          found = record { trees = f.tree.body; next = f.next; spans = w.alternatives; count = sym w.count ∙ sym g ∙ sym (none_done m) };
           within = hub_room;
           long = l;
           same = refl;
-          so = λ b' limits a'.
-              behind_all a.rule.body (ap (λ r. as_they_are r.body) (sym (target_tree b' (hub_low b') e a' s.1)));
+          so = λ b limits a.
+              behind_all f.tree.body (ap (λ r. as_they_are r.body) (sym (target_tree b (hub_low b) e a f.spans)));
         }
 
 -- The limits, by the rule that stands there.

@@ -20,6 +20,7 @@ use Rattle.splices.specs.declared.splice.Size.{Size}
 use Rattle.steps.specs.Corner.{CornerAt}
 use Rattle.steps.specs.Step.{RuleNamed, RuleUnreferring, DecidedAt}
 use Rattle.turns.specs.Ground.{Ground, task_of}
+use Rattle.turns.specs.Stand.{RulesStand}
 use Rattle.substitution.specs.Over.{Stops, LookTo, Reached, StepLooked, HandLooked, LookedAt}
 use Rattle.steps.specs.declared.cycle.Cycle.{Cycle}
 use Rattle.steps.specs.declared.corner.Place.{Place}
@@ -33,34 +34,34 @@ use Rattle.turns.specs.declared.turn.Unplanned.{Unplanned}
 use Rattle.turns.specs.declared.turn.Unplanned.TheVariants.{Declined, Overfull}
 use Rattle.substitution.proofs.Laws.Grown.{step_grows}
 use Rattle.turns.proofs.Laws.Replaced.{settled_corner, blocked_corner_lem, optional_corner, satellite_corner}
-use Rattle.turns.proofs.Laws.Replaced.{target_among, target_found, target_room, target_spans, target_named}
-use Rattle.turns.proofs.Laws.Replaced.{target_unreferring, target_name_in, target_place_in}
+use Rattle.turns.proofs.Laws.Replaced.{target_among, target_spans}
+use Rattle.turns.proofs.Laws.Stand.{member_name, member_place, member_room, member_found, member_named, member_unreferring}
 
 -- A corner in the way.
 stuck_stops : {d left : ℕ} {n : Clause} (p : Planned d) → StuckAt left n → Stops d left p (declined blocked_corner) n
 stuck_stops p s = record { spent = s.spent; declines = λ f. rw (s.blocked f) (record { is = refl }) }
 
 -- What is needed where a member is met.
-module _ {ws : List ℕ} {end : ℕ} {names places : List ℕ} {c : Cycle} (b : Ground ws end names places c) {n : ℕ} {p : Place} {optional : Bool}
+module _ {ws : List ℕ} {end : ℕ} {places : List ℕ} {c : Cycle} (s : RulesStand ws end places c) {n : ℕ} {p : Place} {optional : Bool}
     (r : Reached c n p optional) where
-  pub reached_name : p.target < length names
-  reached_name = target_name_in b r.member.rule
+  pub reached_name : p.target < length c.names.now
+  reached_name = member_name s r.member.rule
 
   pub reached_place : p.target < length places
-  reached_place = target_place_in b r.member.rule
+  reached_place = member_place s r.member.rule
 
   module _ {at : ℕ} (e : at ≡ get_or places p.target 0) where
     pub reached_found : FoundRule ws end at
-    reached_found = target_found b r.member.rule e
+    reached_found = member_found s r.member.rule e
 
     pub reached_room : at + 4 ≤ end
-    reached_room = target_room b r.member.rule e
+    reached_room = member_room s r.member.rule e
 
-    pub reached_named : {name : ℕ} → name ≡ get_or names p.target 0 → RuleNamed ws end inner_depth at name
-    reached_named f = target_named b r.member.rule e f
+    pub reached_named : {name : ℕ} → name ≡ get_or c.names.now p.target 0 → RuleNamed ws end inner_depth at name
+    reached_named f = member_named s r.member.rule e f
 
     pub reached_unreferring : optional ≡ false → RuleUnreferring ws end inner_depth at
-    reached_unreferring o = target_unreferring b r.member.rule e r.member.member (r.other o)
+    reached_unreferring o = member_unreferring s r.member.rule e r.member.member (r.other o)
 
 pub reached_index : {c : Cycle} {n : ℕ} {p : Place} {optional : Bool} → Reached c n p optional → p.index < n
 reached_index r = r.member.index

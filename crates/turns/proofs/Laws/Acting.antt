@@ -1,22 +1,17 @@
 -- What is done about the alternative that was taken: by its corner.
-use Prim.Native.Nat.{ℕ, ◌≤◌, ◌<◌}
-use mathlib.Core.Path.{◌≡◌, refl, sym, ap, ◌∙◌}
+use Prim.Native.Nat.{ℕ, ◌<◌}
+use mathlib.Core.Path.{◌≡◌, refl}
 use mathlib.Core.Logic.{inl, inr}
 use mathlib.Core.List.{List}
 use mathlib.Core.Bool.{Bool, true, false}
 use native.Mathlib.Omega.{arith}
-use lib.ListN.{length, get_or}
+use lib.ListN.{get_or}
 use lib.Dec.{eqb}
 use borrow.Author.Tests.{eqb-true, eqb-false}
 use Rattle.grammar.specs.Laws.Parse.{either}
-use Rattle.grammar.specs.Numbers.{rule_limit}
 use Rattle.grammar.specs.Tree.{inner_depth}
-use Rattle.analysis.specs.Names.{Told}
 use Rattle.analysis.specs.Facts.{Among}
 use Rattle.hub.specs.Grounds.{rules_of}
-use Rattle.records.specs.Rules.{places_from}
-use Rattle.records.proofs.Laws.Rules.{row_long}
-use Rattle.records.specs.Laws.Places.{places_length}
 use Rattle.planned.specs.Layout.{meaning}
 use Rattle.planned.specs.List.{HasRoom}
 use Rattle.planned.specs.declared.list.Listed.{Listed}
@@ -24,6 +19,7 @@ use Rattle.turns.specs.Turns.{Replaced}
 use Rattle.steps.specs.Corner.{CornerAt}
 use Rattle.steps.specs.Step.{step_by}
 use Rattle.turns.specs.Ground.{Ground, task_of}
+use Rattle.turns.specs.Stand.{RulesStand}
 use Rattle.turns.specs.Midway.{Shut, opened, With, limits_of, PutSettled}
 use Rattle.turns.specs.Turn.{called, CalledAt, SteppedTo, StuckAt, ActedOn}
 use Rattle.steps.specs.declared.cycle.Cycle.{Cycle}
@@ -39,10 +35,10 @@ use Rattle.turns.specs.declared.turn.Unplanned.{Unplanned}
 use Rattle.turns.specs.declared.turn.Unplanned.TheVariants.{Declined}
 use Rattle.turns.proofs.Laws.Turns.{substitute_spent, substitute_declined}
 use Rattle.turns.proofs.Laws.Midway.{with_laid, with_located, with_listed, with_movable}
-use Rattle.turns.proofs.Laws.Ground.{names_told}
 use Rattle.turns.proofs.Laws.Advance.{midway_same}
 use Rattle.turns.proofs.Laws.Replaced.{settled_corner, blocked_corner_lem, optional_corner, satellite_corner, call_in, target_among}
-use Rattle.turns.proofs.Laws.Replaced.{target_found, target_room, target_spans, target_named, target_unreferring}
+use Rattle.turns.proofs.Laws.Replaced.{target_spans}
+use Rattle.turns.proofs.Laws.Stand.{member_name, member_place, member_room, member_found, member_named, member_unreferring}
 
 module _ {ws : List ℕ} {end : ℕ} {bs : List ℕ} {st : State} {x : Listed} (w : Shut (With ws end bs st x)) where
   pub taken_room : HasRoom st.l 1 x.ne x.no
@@ -56,56 +52,34 @@ module _ {ws : List ℕ} {end : ℕ} {bs : List ℕ} {st : State} {x : Listed} (
       let fo = r.few_options in
       record { alternatives = omega arith; elements = omega arith; options = omega arith }
 
-module _ {ws : List ℕ} {end : ℕ} {names places : List ℕ} {c : Cycle} (b : Shut (Ground ws end names places c)) where
-  ground_told : Told names c.n
-  ground_told = names_told (opened b)
+module _ {ws : List ℕ} {end : ℕ} {places : List ℕ} {c : Cycle} (s : RulesStand ws end places c) {bs : List ℕ} {x : Listed}
+    {k : Corner Place} (o : CornerAt c.names.now c ws end inner_depth bs x k) {p : Place} where
+  pub optional_called : k ≡ C.Optional p → CalledAt ws end bs c.names.now places x p true
+  optional_called e =
+      let q = rw e at o in
+      let i = q.within in
+      record {
+        within = i.index;
+        names = member_name s i.rule;
+        places = member_place s i.rule;
+        is =
+            called (member_room s i.rule refl) (member_found s i.rule refl) (member_named s i.rule refl refl)
+            (λ f. absurd (let y : ◌≡◌ {A = ℕ} 0 1 = cc in omega arith)) (λ f. call_in s.hub q);
+      }
 
-  ground_few : c.n ≤ rule_limit
-  ground_few = let e = (opened b).count in let f = (opened b).standing.rows.few in omega arith
-
-  pub long : {i : ℕ} → i < c.n → (i < length names) × (i < length places)
-  long l =
-      let f = ground_few in
-      let n = ground_told.few in
-      let s = (opened b).standing.rows in
-      let p = ap length (sym (opened b).placed ∙ s.rows.places) in
-      let m = places_length 0 s.found.trees in
-      let k = s.found.count in
-      let j = s.few in
-      let r = row_long (places_from 0 s.found.trees) (omega arith) in
-      (omega arith, omega arith)
-
-  module _ {bs : List ℕ} {x : Listed} {k : Corner Place} (o : CornerAt names c ws end inner_depth bs x k) {p : Place} where
-    pub optional_called : k ≡ C.Optional p → CalledAt ws end bs names places x p true
-    optional_called e =
-        let q = rw e at o in
-        let i = q.within in
-        let z = long i.rule in
-        record {
-          within = i.index;
-          names = z.0;
-          places = z.1;
-          is =
-              called (target_room (opened b) i.rule refl) (target_found (opened b) i.rule refl)
-              (target_named (opened b) i.rule refl refl)
-              (λ f. absurd (let y : ◌≡◌ {A = ℕ} 0 1 = cc in omega arith)) (λ f. call_in (opened b) q);
-        }
-
-    pub satellite_called : k ≡ C.Satellite p → CalledAt ws end bs names places x p false
-    satellite_called e =
-        let q = rw e at o in
-        let i = q.within.0 in
-        let z = long i.rule in
-        record {
-          within = i.index;
-          names = z.0;
-          places = z.1;
-          is =
-              called (target_room (opened b) i.rule refl) (target_found (opened b) i.rule refl)
-              (target_named (opened b) i.rule refl refl)
-              (λ f. target_unreferring (opened b) i.rule refl i.member q.within.1)
-              (λ f. absurd (let y : ◌≡◌ {A = ℕ} 0 1 = cc in omega arith));
-        }
+  pub satellite_called : k ≡ C.Satellite p → CalledAt ws end bs c.names.now places x p false
+  satellite_called e =
+      let q = rw e at o in
+      let i = q.within.0 in
+      record {
+        within = i.index;
+        names = member_name s i.rule;
+        places = member_place s i.rule;
+        is =
+            called (member_room s i.rule refl) (member_found s i.rule refl) (member_named s i.rule refl refl)
+            (λ f. member_unreferring s i.rule refl i.member q.within.1)
+            (λ f. absurd (let y : ◌≡◌ {A = ℕ} 0 1 = cc in omega arith));
+      }
 
 -- By its corner.
 module _ {ws : List ℕ} {end : ℕ} {names places : List ℕ} {c : Cycle} (limits : Limits) {before : List ℕ} {st : State} {x : Listed}
@@ -159,7 +133,7 @@ module _ {ws : List ℕ} {end : ℕ} {names places : List ℕ} {c : Cycle} (limi
                 long = refl;
               }
 
-  module _ {after : List ℕ} {p : Place} {optional : Bool} {r : Result State Unplanned} (g : Shut (Ground ws end names places c))
+  module _ {after : List ℕ} {p : Place} {optional : Bool} {r : Result State Unplanned}
       (s : SteppedTo ws end before after st x p.index (get_or places p.target 0) optional limits r) where
     -- The rule at the member's place.
     module _ (l : p.target < c.n)

@@ -9,8 +9,6 @@ use borrow.Author.Tests.{eqb-true, eqb-false, eq-eqb, ne_eqb}
 use Rattle.grammar.specs.Laws.Parse.{either}
 use Rattle.reference.specs.Analysis.{grammar_of}
 use Rattle.reference.specs.Substitute.{Limits}
-use Rattle.analysis.specs.Names.{Told}
-use Rattle.analysis.proofs.Laws.Standing.{told}
 use Rattle.hub.proofs.Laws.Grounds.{row_bit, same_place, target_at, target_none}
 use Rattle.steps.specs.Corner.{CycleBy}
 use Rattle.turns.specs.Ground.{Ground, task_of}
@@ -30,6 +28,3 @@ module _ {ws : List ℕ} {end : ℕ} {names places : List ℕ} {c : Cycle} (b : 
             (λ e.
             ne_eqb _ _ (λ f. eqb-false t c.hub e (same_place b.standing (let z = b.count in omega arith) b.hub f)) ∙ sym e);
       }
-
-  pub names_told : Told names c.n
-  names_told = rw (← b.named, b.count) (told b.standing)

@@ -1,47 +1,43 @@
 -- What takes the place of an alternative, by its corner, on what a substitution rests on.
-use Prim.Native.Nat.{ℕ, suc, ◌+◌, ◌<◌, ◌≤◌}
+use Prim.Native.Nat.{ℕ, suc, ◌<◌}
 use mathlib.Core.Path.{◌≡◌, refl, sym, ap, ◌∙◌, subst}
-use mathlib.Core.List.{List, [], ◌∷◌, Memᴰ}
+use mathlib.Core.List.{List, [], ◌∷◌}
 use mathlib.Core.Option.{Option, none, some}
 use mathlib.Core.Bool.{Bool, true, false, ◌&&◌}
 use native.Mathlib.Omega.{arith}
-use lib.ListN.{length, get_or, length-append, length-replicate}
+use lib.ListN.{get_or}
 use lib.Dec.{eqb}
-use Rattle.grammar.specs.Numbers.{optional_greedy, rule_limit}
+use Rattle.grammar.specs.Numbers.{optional_greedy}
 use Rattle.grammar.specs.Tree.{ElementHead, Call, epsilon, action, predicate, call, token, terminal, end_of_input, Element, leaf, block}
 use Rattle.grammar.specs.Tree.{Block, RuleOf, inner_depth, body_depth}
-use Rattle.grammar.specs.Lists.{member, AllOf}
+use Rattle.grammar.specs.Lists.{member}
 use Rattle.grammar.specs.Parse.{got}
 use Rattle.grammar.specs.Read.{block_at}
 use Rattle.grammar.specs.Encode.{encode_block}
 use Rattle.grammar.specs.Valid.{ok_block}
-use Rattle.grammar.specs.Found.{FoundRule, RuleSpans}
+use Rattle.grammar.specs.Found.{RuleSpans}
 use Rattle.grammar.specs.Laws.Complete.{rule_complete, block_complete}
 use Rattle.reference.specs.Analysis.{Grammar, target, rule_with_id}
 use Rattle.reference.specs.Walks.{sort_of, is_one, bare_reference}
 use Rattle.reference.specs.Substitute.{PlannedCorner, optional, satellite, blocked, settled, further, member_corner, planned_corner}
-use Rattle.reference.specs.Substitute.{declined, blocked_corner, replacement, Planned, Limits, standard}
-use Rattle.reference.specs.Plan.{satellite_is_inlinable}
-use Rattle.records.specs.Rules.{row, places_from}
-use Rattle.reach.specs.Rows.{bit}
+use Rattle.reference.specs.Substitute.{declined, blocked_corner, replacement, Planned, Limits}
 use Rattle.analysis.specs.Facts.{Among}
-use Rattle.analysis.proofs.Laws.Standing.{rule_of, rule_spans, name_at, place_found, place_room}
-use Rattle.hub.specs.Grounds.{rules_of, grammar_at}
+use Rattle.analysis.proofs.Laws.Standing.{rule_of, rule_spans}
+use Rattle.hub.specs.Grounds.{rules_of}
 use Rattle.hub.proofs.Laws.Grounds.{with_id}
 use Rattle.planned.specs.Layout.{meaning}
 use Rattle.planned.specs.declared.list.Listed.{Listed}
-use Rattle.collisions.proofs.Laws.Inlinable.{inlinable_none}
 use Rattle.steps.specs.Corner.{CornerAt, corner_by}
-use Rattle.steps.specs.Decide.{Unreferring}
-use Rattle.steps.specs.Step.{CallIn, RuleNamed, RuleUnreferring, step_by}
-use Rattle.steps.specs.Step.{RuleNamed, RuleUnreferring, step_by}
+use Rattle.steps.specs.Step.{CallIn, step_by}
+use Rattle.steps.specs.Step.{step_by}
 use Rattle.turns.specs.Ground.{Ground, task_of}
 use Rattle.turns.specs.Turns.{Task, Replaced, IsSettled}
 use Rattle.steps.specs.declared.cycle.Cycle.{Cycle}
 use Rattle.steps.specs.declared.corner.Place.{Place}
 use Rattle.steps.specs.declared.corner.Corner.{Corner}
 use Rattle.steps.specs.declared.corner.Corner.TheVariants as C
-use Rattle.turns.proofs.Laws.Ground.{cycle_by, names_told}
+use Rattle.turns.proofs.Laws.Ground.{cycle_by}
+use Rattle.turns.proofs.Laws.Told.{grammar_told, cycle_told}
 
 -- By the definition's corner.
 module _ {d : ℕ} (t : Task d) (p : Planned d) where
@@ -152,13 +148,11 @@ module _ {ws : List ℕ} {end : ℕ} {names places : List ℕ} {c : Cycle} (b : 
         → Replaced (task_of b limits) (meaning ws end inner_depth bs x) (step_by inner_depth (meaning ws end inner_depth bs x) p.index a.rule false)
     satellite_corner k = replaced_satellite (task_of b limits) (meaning ws end inner_depth bs x) (with_id b.standing a) (corner_is k)
 
-module _ {ws : List ℕ} {end : ℕ} {names places : List ℕ} {c : Cycle} (b : Ground ws end names places c) where
-  -- The element that is split is a call.
-  pub call_in : {bs : List ℕ} {x : Listed} {p : Place} → CornerAt names c ws end inner_depth bs x (C.Optional p)
-      → CallIn (meaning ws end inner_depth bs x).elements p.index
-  call_in {bs} {x} k =
-      corner_call (grammar_at ws end b.rules b.standing) b.cycle (get_or b.rules.ids c.hub 0) (meaning ws end inner_depth bs x).elements
-      (corner_is b standard k)
+-- The element that is split is a call.
+pub call_in : {ws : List ℕ} {end : ℕ} {c : Cycle} {bs : List ℕ} {x : Listed} {p : Place} → c.hub < c.n
+    → CornerAt c.names.now c ws end inner_depth bs x (C.Optional p) → CallIn (meaning ws end inner_depth bs x).elements p.index
+call_in {ws} {end} {c} {bs} {x} h k =
+    corner_call (grammar_told c) _ _ (meaning ws end inner_depth bs x).elements (k.is (grammar_told c) _ _ (cycle_told c h))
 
 -- One tree stands at a place.
 one_tree : (ws : List ℕ) (end d : ℕ) {at p q : ℕ} {r t : RuleOf (Block d)} → RuleSpans ws end d at r p → RuleSpans ws end d at t q → r ≡ t
@@ -167,10 +161,6 @@ one_tree ws end d {at} {p} {q} {r} {t} s u =
     let f = rule_complete ws end (block_at ws end d) (encode_block d) (ok_block d) (block_complete ws end d) at t q u in
     let g : got r p ≡ got t q = sym e ∙ f in
     cc
-
-all_of : {A : Type 0} (P : A → Type 0) (xs : List A) → ((a : A) → Memᴰ a xs → P a) → AllOf P xs
-all_of P [] f = tt
-all_of P (x ∷ xs) f = (f x (Memᴰ.head refl), all_of P xs λ a m. f a (Memᴰ.tail m))
 
 -- The rule at a member's place.
 module _ {ws : List ℕ} {end : ℕ} {names places : List ℕ} {c : Cycle} (b : Ground ws end names places c) {i at : ℕ}
@@ -181,12 +171,6 @@ module _ {ws : List ℕ} {end : ℕ} {names places : List ℕ} {c : Cycle} (b : 
   pub target_among : Among (rules_of ws end b.rules b.standing) i
   target_among = rule_of b.standing.rows i (let z = b.count in omega arith)
 
-  pub target_found : FoundRule ws end at
-  target_found = place_found b.standing.rows l b.count place
-
-  pub target_room : at + 4 ≤ end
-  target_room = place_room b.standing.rows l b.count place
-
   -- Whatever stands there is the rule of that place.
   pub target_tree : (a : Among (rules_of ws end b.rules b.standing) i) {t : RuleOf (Block body_depth)} {q : ℕ}
       → RuleSpans ws end body_depth at t q → a.rule ≡ t
@@ -195,36 +179,3 @@ module _ {ws : List ℕ} {end : ℕ} {names places : List ℕ} {c : Cycle} (b : 
 
   pub target_spans : (a : Among (rules_of ws end b.rules b.standing) i) → (q : ℕ) × RuleSpans ws end body_depth at a.rule q
   target_spans a = let s = rule_spans b.standing.rows a in (s.0, subst (λ z. RuleSpans ws end body_depth z a.rule s.0) (sym place) s.1)
-
-  pub target_named : {name : ℕ} → name ≡ get_or names i 0 → RuleNamed ws end inner_depth at name
-  target_named f =
-      record {
-        is = λ t q s.
-            f ∙ ap (λ ns. get_or ns i 0) (sym b.named) ∙ name_at b.standing.rows target_among
-            ∙ ap (λ r. r.name) (target_tree target_among s);
-      }
-
-  pub target_unreferring : bit c.members i ≡ true → (i ≡ c.hub → ⊥) → RuleUnreferring ws end inner_depth at
-  target_unreferring m h =
-      record {
-        is = λ t q s.
-            all_of (Unreferring inner_depth) t.body
-            (inlinable_none inner_depth t (subst (λ r. satellite_is_inlinable inner_depth r ≡ true) (target_tree target_among s) (b.inlinable i target_among m h)));
-      }
-
--- Names and places are rows, which are longer than there are rules.
-row_wide : (xs : List ℕ) → rule_limit ≤ length (row xs)
-unfolding row
-row_wide xs = rw (length-append, length-replicate) (omega arith)
-
-module _ {ws : List ℕ} {end : ℕ} {names places : List ℕ} {c : Cycle} (b : Ground ws end names places c) {i : ℕ} (l : i < c.n) where
-  pub target_name_in : i < length names
-  target_name_in = let f = (names_told b).few in omega arith
-
-  pub target_place_in : i < length places
-  target_place_in =
-      let w = row_wide (places_from 0 b.standing.rows.found.trees) in
-      let e = ap length (sym b.placed ∙ b.standing.rows.rows.places) in
-      let f = b.standing.rows.few in
-      let n = b.count in
-      omega arith
