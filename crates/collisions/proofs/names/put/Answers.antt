@@ -1,9 +1,6 @@
 use Rattle.std.proofs.Common.{refl}
 use Rattle.collisions.proofs.names.put.Goals as goal
-use Rattle.collisions.proofs.Laws.Names.{put_fits, put_insertable, put_inserted, put_joined}
-
-pub overflow_add-at : goal.overflow_add-at
-overflow_add-at c = record { fits = put_fits c.requires.0 c.args.set c.from.ensures c.requires.2 }
+use Rattle.collisions.proofs.Laws.Names.{put_insertable, put_inserted, put_joined}
 
 pub insert-requires : goal.insert-requires
 insert-requires c = put_insertable c.requires.0 c.args.at c.word.ensures c.in-Err.ensures refl c.requires.1 c.requires.2

@@ -19,12 +19,6 @@ returns-then-not-is_rising-clause-read_as c =
     rising_refused _ c.trailer_kind.ensures.good (ap is_some c.in-Some.is) (end_at refl c.requires.least c.rules_end-end.ensures)
     c.read_rules.ensures c.in-Some-read_rules.is c.is_rising.ensures c.if-not-is_rising.true
 
-pub judged-requires-clause-lent : goal.judged-requires-clause-lent
-judged-requires-clause-lent c = (c.requires, end_at refl c.requires.least c.rules_end-end.ensures)
-
-pub judged-requires-clause-kind_is : goal.judged-requires-clause-kind_is
-judged-requires-clause-kind_is c = c.trailer_kind.ensures.kind _ c.in-Some.is
-
 pub judged-requires-clause-found_rows : goal.judged-requires-clause-found_rows
 judged-requires-clause-found_rows c = rows_found c.read_rules.ensures c.in-Some-read_rules.is
 

@@ -18,9 +18,6 @@ returns-in_err-more c =
 pub count_one-z-requires-clause-bounds : goal.count_one-z-requires-clause-bounds
 count_one-z-requires-clause-bounds c = let w = c.in_ok-more.was in search (rules, bodies, sizing)
 
-pub count_one-z-requires-clause-small_size : goal.count_one-z-requires-clause-small_size
-count_one-z-requires-clause-small_size c = search (rules, bodies, sizing)
-
 pub count_one-z-requires-clause-found_alternative : goal.count_one-z-requires-clause-found_alternative
 count_one-z-requires-clause-found_alternative c = search (rules, bodies, sizing)
 

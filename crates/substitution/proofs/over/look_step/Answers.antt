@@ -2,9 +2,6 @@ use Rattle.std.proofs.Common.{rules}
 use Rattle.substitution.proofs.over.look_step.Goals as goal
 use Rattle.substitution.proofs.Laws.Over.{reaching, stepping}
 
-pub returns-then-budget-eq0 : goal.returns-then-budget-eq0
-returns-then-budget-eq0 c = search (rules, reaching, stepping)
-
 pub call-k-requires : goal.call-k-requires
 call-k-requires c = search (rules, reaching, stepping)
 

@@ -9,9 +9,6 @@ returns-in_err-z c =
     let w = c.in_err-z.was in
     rw (raised (Declined c.in_err-z.field-0.0) c.from_residual.result c.from_residual.ensures.1) (search (rules, stepping))
 
-pub advance-requires-clause-bounds : goal.advance-requires-clause-bounds
-advance-requires-clause-bounds c = let w = c.in_ok-z.was in search (rules, stepping)
-
 pub advance-requires-clause-shut : goal.advance-requires-clause-shut
 advance-requires-clause-shut c = search (rules, stepping)
 
