@@ -8,7 +8,7 @@ use native.Mathlib.Omega.{arith}
 use lib.ListN.{length, length-append}
 use Rattle.grammar.specs.Numbers.{most_words, trailer_words}
 use Rattle.grammar.specs.Tree as tree
-use Rattle.grammar.specs.Tree.{Rule, Sheet, inner_depth, body_depth, with_rule_body}
+use Rattle.grammar.specs.Tree.{inner_depth, body_depth, with_rule_body}
 use Rattle.grammar.specs.Words.{words}
 use Rattle.grammar.specs.Lists.{each, member, keep}
 use Rattle.grammar.specs.Encode.{encode, encode_rule, encode_rules, encode_block, encode_alternative}

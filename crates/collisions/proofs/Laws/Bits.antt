@@ -31,9 +31,6 @@ set_is References = references_set
 
 -- The bit of a set, which was asked for.
 module _ (s : Set) {w : ℕ} (e : w ≡ set_bit s) where
-  pub set_some : 0 < w
-  set_some = rw e (some (set_is s).is)
-
   pub bit_is : (h : ℕ) → eqb (h / w % 2) 1 ≡ has_bit (set_bit s) h
   unfolding has_bit
   bit_is h = rw e refl
@@ -69,9 +66,6 @@ module _ (h : ℕ) where
   unfolding has_bit
   more_fits (inl e) f l = let z = eqb-false (h / labels_bit % 2) 1 (rw e at f) in omega arith
   more_fits (inr e) f l = let z = eqb-false (h / references_bit % 2) 1 (rw e at f) in omega arith
-
-pub joined_already : (h : ℕ) (s : Set) {b : Bool} → b ≡ has_bit (set_bit s) h → b ≡ true → Joined h (set_bit s) h
-joined_already h s e t = record { place = refl; here = cc; other = λ v u d. refl }
 
 module _ (h : ℕ) (s : Set) {b : Bool} (e : b ≡ has_bit (set_bit s) h) (t : b ≡ false) {w : ℕ} (is : w ≡ set_bit s) where
   not_yet : has_bit (set_bit s) h ≡ false

@@ -187,6 +187,3 @@ module _ {ws : List ℕ} {end : ℕ} {bs : List ℕ} (o : Ordered ws end bs) {na
       (λ u. let z = a.less t i (ltb-true i k u) in absurd (omega arith))
       (λ u. let z = a.more t i (ltb-false i k u) l in absurd (omega arith)))
       (λ v. sym v)
-
-  pub found_room : r ≡ true → low_in bs + k < entries_end
-  found_room t = entry_room o (a.found t)

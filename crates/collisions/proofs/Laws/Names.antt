@@ -11,12 +11,9 @@ use Rattle.planned.specs.Halves.{HalfPut}
 use Rattle.collisions.specs.Names.{set_bit, entries_at, entries_end, low_in, count_in, has_among, has_name, Ordered, NamePut, Cleared}
 use Rattle.collisions.specs.Order.{IsAt, Insertable, Inserted, InSet}
 use Rattle.collisions.specs.declared.names.Set.{Set}
-use Rattle.collisions.proofs.Laws.Bits.{set_is, new_fits}
+use Rattle.collisions.proofs.Laws.Bits.{set_is}
 use Rattle.collisions.proofs.Laws.Entry.{insertable, name_inserted}
 use Rattle.collisions.proofs.Laws.Join.{name_joined}
-
-pub put_fits : {ws : List ℕ} {end : ℕ} {bs : List ℕ} → Ordered ws end bs → {at v : ℕ} (s : Set) → v ≡ set_bit s → at < end → at + v < 65536
-put_fits o s is l = rw is (new_fits (let z = o.low in omega arith) (set_is s))
 
 -- The name was read.
 module _ {ws : List ℕ} {end : ℕ} {bs : List ℕ} (o : Ordered ws end bs) (at : ℕ) {n k : ℕ} (e : n ≡ get_or ws at 0) {b : Bool} (a : IsAt ws bs n k b) where

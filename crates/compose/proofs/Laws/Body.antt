@@ -1,7 +1,7 @@
 -- The hub's fixed words, its new alternatives behind them, and the entry that closes its plan.
 use Prim.Native.Nat.{ℕ, ◌+◌, ◌*◌, ◌≤◌}
 use mathlib.Core.Path.{◌≡◌, refl, sym, ap, ◌∙◌, subst}
-use mathlib.Core.List.{List, [], ◌∷◌, ◌++◌, append-nil}
+use mathlib.Core.List.{List, [], ◌++◌, append-nil}
 use native.Mathlib.Omega.{arith}
 use lib.ListN.{length, get_or, length-append}
 use Rattle.grammar.specs.Tree.{inner_depth}
@@ -21,11 +21,6 @@ use Rattle.heads.specs.Front.{compose_at}
 use Rattle.heads.specs.Laws.Front.{front_wrote, front_laid, front_settled, front_all_in}
 use Rattle.written.specs.Planned.{drawn_list}
 use Rattle.compose.specs.Hub.{Moved, rule_head, closing, Closed, new_body, body_words, body_entries, HubFits, BodyDrawn, HubDrawn}
-
-pub rule_begun : (ws : List ℕ) (end at n : ℕ) {p : Pen} {b a : List ℕ} {x y z : ℕ} → x ≡ get_or ws at 0 → y ≡ get_or ws (at + 1) 0
-    → z ≡ get_or ws (at + 2) 0 → Wrote b a p.to (x ∷ y ∷ z ∷ n ∷ [])
-    → Moved (rule_head ws end at n) b a p (record { to = p.to + 4; trail = p.trail; counters = p.counters })
-rule_begun ws end at n e f g u = record { wrote = rw (← e, ← f, ← g) u; to = refl; trail = refl; counters = refl }
 
 -- Behind what was written the list is as it was.
 module _ {xs b m : List ℕ} {p q : Pen} {l : Sizes} (low : compose_at ≤ p.to) (h : Moved xs b m p q) (laid : Laid b l) where

@@ -17,7 +17,7 @@ use Rattle.grammar.specs.Laws.Stands.{stands_length}
 use Rattle.reference.specs.Numbers.{entry_words}
 use Rattle.reference.specs.Substitute.{standard}
 use Rattle.reference.specs.Run as R
-use Rattle.reference.specs.Run.{Outcome, outcome, untouched, delivered, filled, refused_with, are_lent, answer_to, refusal, answer}
+use Rattle.reference.specs.Run.{Outcome, outcome, untouched, delivered, are_lent, answer_to, refusal, answer}
 use Rattle.laws.specs.Demands.Kept.{EveryCall}
 use Rattle.laws.specs.Proved.Kept.{every_call_lem}
 use Rattle.run.specs.Ended.{AnswerIs}

@@ -30,7 +30,7 @@ use Rattle.writing.specs.declared.counters.Counters.{Counters}
 use Rattle.records.specs.Rules.{RowsOf}
 use Rattle.analysis.specs.Survey as survey
 use Rattle.sheet.specs.Answer as reader
-use Rattle.sheet.specs.Answer.{numbers_in, answer_of, parts_of, ReadAs}
+use Rattle.sheet.specs.Answer.{numbers_in, parts_of, ReadAs}
 use Rattle.sheet.specs.declared.answer.Reading.{Reading}
 use Rattle.words.specs.Kinds.{unit_number}
 use Rattle.words.specs.Refusal.{refusal_number}

@@ -46,7 +46,7 @@ use Rattle.run.specs.declared.state.State.{State}
 use Rattle.run.specs.Ended.{Front, AnswerIs}
 use Rattle.run.specs.Midst.{Midst}
 use Rattle.run.specs.Turn.{behind_plan, OneMore, Over, UpToDate, Advancing, AdvancedOf}
-use Rattle.run.proofs.Laws.Known.{so_far, midst_ended, now_valid, midst_short, midst_known}
+use Rattle.run.proofs.Laws.Known.{so_far, midst_ended, midst_known}
 use Rattle.run.proofs.Laws.Known.{advancing_applicable, advancing_entries, advancing_rules}
 use Rattle.run.proofs.Laws.Over.{stopped_answer}
 

@@ -119,9 +119,6 @@ module _ (bs work : List ℕ) {e : Refusal} (a : ReadAs (read_lent bs work) (Err
   pub is_refused : read_lent bs work ≡ refused (refusal_number e)
   is_refused = was_refused (read_lent bs work) (refusal_number e) (sym a.answer)
 
-  pub summary_refused : SummedAs (read_lent bs work) (Err e)
-  summary_refused = rw is_refused (record { summary = refl; number = refl; values = refl })
-
 -- a sheet that was read, as its walks need it
 module _ (bs work : List ℕ) {x : Reading} (a : ReadAs (read_lent bs work) (Ok x)) where
   was : WasSheet (read_lent bs work) x.parts

@@ -27,7 +27,7 @@ use Rattle.reference.specs.Substitute.{plain_head}
 use Rattle.reach.specs.Rows.{bit}
 use Rattle.analysis.specs.Names.{IsTarget}
 use Rattle.std.specs.Prelude as P
-use Rattle.std.specs.Prelude.{is_ok, Result, Ok}
+use Rattle.std.specs.Prelude.{is_ok, Result}
 use Rattle.std.specs.Cmp.{first_so, second_so}
 use Rattle.words.specs.Kinds.{Names, quantifier_number}
 use Rattle.words.specs.Laws.Kinds.{quantifier_named}
