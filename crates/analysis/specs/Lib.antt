@@ -2,3 +2,4 @@ pub mod Names
 pub mod Survey
 pub mod Facts
 pub mod Rounds
+pub mod One

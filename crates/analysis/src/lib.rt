@@ -9,5 +9,6 @@ pub mod known;
 pub mod leaf;
 pub mod names;
 pub mod rounds;
+pub mod ruled;
 pub mod survey;
 pub mod walk;

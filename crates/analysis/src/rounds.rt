@@ -2,20 +2,18 @@
 // stand (SPECIFICATION 6.4).
 ghost use Rattle.std.specs.Prelude.{◌≡◌, ◌<◌, ◌≤◌, length};
 ghost use Rattle.grammar.specs.Numbers.{rule_limit, work_bytes};
-ghost use Rattle.records.specs.Rules.{FoundRows};
 ghost use Rattle.analysis.specs.Names.{Tabled, table_with};
 ghost use Rattle.analysis.specs.Survey.{view_of};
 ghost use Rattle.analysis.specs.Rounds.{no_rows, Marked, Recording};
-ghost use Rattle.analysis.specs.Facts.{Standing, FactsFound};
+ghost use Rattle.analysis.specs.Facts.{FactsFound};
 ghost use Rattle.reach.specs.Rows.{Behind};
 ghost use Rattle.words.specs.Sheet.{text};
 
 use crate::known::Known;
 use crate::names::put_names;
+use crate::ruled::Ruled;
 use crate::survey::survey_rule;
 use reach::rows::{Row, add_if};
-use records::rules::Rules;
-use words::sheet::Sheet;
 
 // Rules that are nullable, and rules that cannot be inlined as satellites.
 #[derive(Clone, Copy, Debug, Default, PartialEq, Eq)]
@@ -68,16 +66,15 @@ fn mark(r: Round, i: usize, nullable: bool, stops: bool) -> Round
 }
 
 // Every rule surveyed.
-fn survey_all(s: &Sheet, rules: Rules, v: &Known, rows: &mut Rows) -> Round
-    requires bounds { v.now.n ≡ rules.n }
-    requires found_rows { FoundRows (text s.now) s.now.end rules }
-    ensures { Recording (view_of v.now) (text s.now) s.now.end rules.places
-        rows.old.calls rows.old.corners rules.n rows.new.calls rows.new.corners result }
+fn survey_all(g: &Ruled, v: &Known, rows: &mut Rows) -> Round
+    requires bounds { v.now.n ≡ g.now.rules.now.n }
+    ensures { Recording (view_of v.now) (text g.now.s.now) g.now.s.now.end g.now.rules.now.places
+        rows.old.calls rows.old.corners g.now.rules.now.n rows.new.calls rows.new.corners result }
 {
-    let places = rules.places;
+    let places = g.rules.places;
     let mut r = Round::default();
     for i in 0..v.n {
-        let t = survey_rule(s, v, places[i] as usize);
+        let t = survey_rule(g.s, v, places[i] as usize);
         let c = t.calls;
         let k = t.corners;
         rows.calls[i] = c;
@@ -89,15 +86,14 @@ fn survey_all(s: &Sheet, rules: Rules, v: &Known, rows: &mut Rows) -> Round
 }
 
 // Rounds until the nullable rules stand, by a table of the names.
-fn rounds(s: &Sheet, rules: Rules, past: bool, table: &[u8], rows: &mut Rows) -> Marks
-    requires bounds { Tabled rules.names rules.n table.now }
-    requires standing { Standing (text s.now) s.now.end rules }
-    ensures facts_found { FactsFound (text s.now) s.now.end rules past rows.new.calls rows.new.corners result }
-    ensures behind { Behind rules.n rows.old.calls rows.new.calls
-        × Behind rules.n rows.old.corners rows.new.corners }
+fn rounds(g: &Ruled, past: bool, table: &[u8], rows: &mut Rows) -> Marks
+    requires bounds { Tabled g.now.rules.now.names g.now.rules.now.n table.now }
+    ensures facts_found { FactsFound (text g.now.s.now) g.now.s.now.end g.now.rules.now past rows.new.calls rows.new.corners result }
+    ensures behind { Behind g.now.rules.now.n rows.old.calls rows.new.calls
+        × Behind g.now.rules.now.n rows.old.corners rows.new.corners }
 {
-    let names = rules.names;
-    let n = rules.n as usize;
+    let names = g.rules.names;
+    let n = g.rules.n as usize;
     let mut found = [0u64; Row::WORDS];
     let mut count: u32 = 0;
     for _ in 0..n {
@@ -108,7 +104,7 @@ fn rounds(s: &Sheet, rules: Rules, past: bool, table: &[u8], rows: &mut Rows) ->
             nullable: found,
             past,
         };
-        let r = survey_all(s, rules, &v, rows);
+        let r = survey_all(g, &v, rows);
         let marks = r.marks;
         if r.count == count {
             let stops = marks.stops;
@@ -128,7 +124,7 @@ fn rounds(s: &Sheet, rules: Rules, past: bool, table: &[u8], rows: &mut Rows) ->
         nullable: found,
         past,
     };
-    let r = survey_all(s, rules, &v, rows);
+    let r = survey_all(g, &v, rows);
     let marks = r.marks;
     let stops = marks.stops;
     Marks {
@@ -139,16 +135,15 @@ fn rounds(s: &Sheet, rules: Rules, past: bool, table: &[u8], rows: &mut Rows) ->
 
 // The rows of all rules. As many rounds as there are rules find all that is nullable; if one finds no more, it is the last.
 // The table of names is left in the work area.
-pub fn find_rows(s: &Sheet, rules: Rules, past: bool, rows: &mut Rows, work: &mut [u8]) -> Marks
+pub fn find_rows(g: &Ruled, past: bool, rows: &mut Rows, work: &mut [u8]) -> Marks
     requires bounds { work_bytes ≤ length work.old }
-    requires standing { Standing (text s.now) s.now.end rules }
-    ensures facts_found { FactsFound (text s.now) s.now.end rules past rows.new.calls rows.new.corners result }
-    ensures behind { Behind rules.n rows.old.calls rows.new.calls
-        × Behind rules.n rows.old.corners rows.new.corners }
-    ensures work_after { work.new ≡ table_with rules.names rules.n work.old }
+    ensures facts_found { FactsFound (text g.now.s.now) g.now.s.now.end g.now.rules.now past rows.new.calls rows.new.corners result }
+    ensures behind { Behind g.now.rules.now.n rows.old.calls rows.new.calls
+        × Behind g.now.rules.now.n rows.old.corners rows.new.corners }
+    ensures work_after { work.new ≡ table_with g.now.rules.now.names g.now.rules.now.n work.old }
 {
-    let names = rules.names;
-    let n = rules.n as usize;
+    let names = g.rules.names;
+    let n = g.rules.n as usize;
     put_names(&names, n, work);
-    rounds(s, rules, past, work, rows)
+    rounds(g, past, work, rows)
 }

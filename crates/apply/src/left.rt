@@ -10,7 +10,8 @@ use reach::rows::{Row, has};
 use records::rules::Rules;
 
 // Those from one place among the rules up to another that are not in the row.
-// Stays: this takes bytes and an end, since the room that a `Sheet` has behind its end is not asked for, and a type may not ask more.
+// Stays: this takes bytes and an end, and no `Ruled`, since the room that a `Sheet` has behind its end is not asked for, and a type may
+// not ask more.
 pub fn words_left(
     s: &[u8],
     end: usize,

@@ -7,6 +7,7 @@ ghost use Rattle.compose.specs.Compose.{Applies, ComposedAs};
 
 use crate::last::write_end;
 use crate::rules::compose_rules;
+use analysis::ruled::Ruled;
 use copies::pen::Pen;
 use drafts::draft::Draft;
 use plan::plan::Plan;
@@ -41,7 +42,11 @@ pub fn compose(
     let none = Rules::empty();
     let mut d = Draft { rules: none, pen };
     let sheet = Sheet { bytes: s, end };
-    compose_rules(&sheet, rules, p, work, trail, &mut d);
+    let g = Ruled {
+        s: &sheet,
+        rules: &rules,
+    };
+    compose_rules(&g, p, work, trail, &mut d);
     let behind = d.pen;
     let last = write_end(&sheet, to, work, behind);
     Composed {

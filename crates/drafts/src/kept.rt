@@ -1,15 +1,13 @@
 // The rules that stay, copied word for word.
 ghost use Rattle.std.specs.Prelude.{◌<◌, ◌≤◌};
 ghost use Rattle.grammar.specs.Numbers.{rule_limit};
-ghost use Rattle.analysis.specs.Facts.{Standing};
 ghost use Rattle.drafts.specs.Draft.{Open};
 ghost use Rattle.drafts.specs.Kept.{PlaceEnds, RulesFit, RulesAdded};
 ghost use Rattle.words.specs.Sheet.{text};
 
 use crate::draft::Draft;
+use analysis::ruled::Ruled;
 use reach::rows::{Row, has};
-use records::rules::Rules;
-use words::sheet::Sheet;
 use writing::copy::copy_words;
 
 // Where the i-th of n rules ends: where the next one begins, or the preserved ids.
@@ -25,24 +23,26 @@ pub fn rule_end(places: &[u32; Row::RULES], n: usize, i: usize, end: usize) -> u
 
 // Those from one place among the rules up to another that are not in the row.
 pub fn copy_rules(
-    s: &Sheet,
-    rules: Rules,
+    g: &Ruled,
     row: [u64; Row::WORDS],
     from: usize,
     until: usize,
     work: &mut [u8],
     d: &mut Draft,
 )
-    requires bounds { Standing (text s.now) s.now.end rules × (from ≤ until) × (until ≤ rules.n) }
-    requires fact { Open d.old work.old × (d.old.rules.n ≤ from) × RulesFit (text s.now) s.now.end rules row from until d.old }
-    ensures { RulesAdded (text s.now) s.now.end rules row from until work.old work.new d.old d.new }
+    requires bounds { (from ≤ until) × (until ≤ g.now.rules.now.n) }
+    requires fact { Open d.old work.old × (d.old.rules.n ≤ from)
+        × RulesFit (text g.now.s.now) g.now.s.now.end g.now.rules.now row from until d.old }
+    ensures { RulesAdded (text g.now.s.now) g.now.s.now.end g.now.rules.now row from until
+        work.old work.new d.old d.new }
 {
+    let rules = g.rules;
     let n = rules.n as usize;
     for i in from..until {
         if !has(row, i) {
             let at = rules.places[i] as usize;
-            let long = rule_end(&rules.places, n, i, s.end) - at;
-            copy_words(s.bytes, at, work, d.pen.to, long);
+            let long = rule_end(&rules.places, n, i, g.s.end) - at;
+            copy_words(g.s.bytes, at, work, d.pen.to, long);
             d.add_row(rules.ids[i], rules.names[i], long);
         }
     }

@@ -6,15 +6,14 @@ ghost use Rattle.std.specs.Prelude.{◌≡◌, ◌≤◌, length, replicate};
 ghost use Rattle.grammar.specs.Numbers.{work_bytes};
 ghost use Rattle.sheet.specs.Answer.{read_lent, work_after};
 ghost use Rattle.analysis.specs.Survey.{reading};
-ghost use Rattle.analysis.specs.Facts.{Standing};
 ghost use Rattle.analysis.specs.Rounds.{no_rows};
 ghost use Rattle.facts.specs.Told.{reading_of, RulesTold, Tells};
 ghost use Rattle.words.specs.Sheet.{text};
 
 use analysis::rounds::{Marks, Rows, find_rows};
+use analysis::ruled::Ruled;
 use reach::cycles::list_cycles;
 use reach::rows::Row;
-use records::rules::Rules;
 use sheet::read;
 use words::sheet::Sheet;
 use words::words::clear;
@@ -28,23 +27,21 @@ struct Told {
 
 // The facts and cycles of rules that stand in a sheet; the rows that are lent are zeros. The work area ends so too.
 fn tell(
-    s: &Sheet,
-    rules: Rules,
+    g: &Ruled,
     past: bool,
     rows: &mut Rows,
     cycles: &mut [[u64; Row::WORDS]; Row::RULES],
     work: &mut [u8],
 ) -> Told
     requires bounds { work_bytes ≤ length work.old }
-    requires standing { Standing (text s.now) s.now.end rules }
     requires none { (rows.old.calls ≡ no_rows) × (rows.old.corners ≡ no_rows) × (cycles.old ≡ no_rows) }
-    ensures rules_told { RulesTold (text s.now) s.now.end rules (reading past) result.marks result.cycles
+    ensures rules_told { RulesTold (text g.now.s.now) g.now.s.now.end g.now.rules.now (reading past) result.marks result.cycles
         rows.new.calls rows.new.corners cycles.new }
     ensures work_after { work.new ≡ replicate (length work.old) 0 }
 {
-    let marks = find_rows(s, rules, past, rows, work);
-    let ids = rules.ids;
-    let cycles = list_cycles(rows.corners, ids, rules.n as usize, cycles);
+    let marks = find_rows(g, past, rows, work);
+    let ids = g.rules.ids;
+    let cycles = list_cycles(rows.corners, ids, g.rules.n as usize, cycles);
     clear(work);
     Told { marks, cycles }
 }
@@ -77,8 +74,12 @@ pub fn find_facts(
             let rules = r.rules;
             let end = r.parts.rules_end();
             let s = Sheet { bytes: sheet, end };
+            let g = Ruled {
+                s: &s,
+                rules: &rules,
+            };
             let mut rows = Rows::empty();
-            let t = tell(&s, rules, textbook != 0, &mut rows, cycles, work);
+            let t = tell(&g, textbook != 0, &mut rows, cycles, work);
             let nullable = t.marks.nullable;
             let stops = t.marks.stops;
             *numbers = [0, rules.n, t.cycles];

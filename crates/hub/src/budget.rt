@@ -2,12 +2,11 @@
 ghost use Rattle.std.specs.Prelude.{◌+◌, ◌*◌, ◌<◌, ◌≤◌};
 ghost use Rattle.grammar.specs.Numbers.{rule_limit, most_words};
 ghost use Rattle.grammar.specs.Found.{FoundRule};
-ghost use Rattle.analysis.specs.Facts.{Standing};
 ghost use Rattle.hub.specs.Budget.{Counted, Summed, IsBudget};
 ghost use Rattle.words.specs.Sheet.{text};
 
+use analysis::ruled::Ruled;
 use reach::rows::{Row, has};
-use records::rules::Rules;
 use words::sheet::Sheet;
 use words::words::word;
 
@@ -24,26 +23,24 @@ fn count_if(s: &Sheet, at: usize, on: bool) -> usize
 }
 
 // How many the members have.
-fn alternatives(s: &Sheet, rules: Rules, members: [u64; Row::WORDS]) -> usize
-    requires bounds { (s.now.end ≤ most_words) × (rules.n ≤ rule_limit) }
-    requires standing { Standing (text s.now) s.now.end rules }
-    ensures { Summed (text s.now) s.now.end rules.places members rules.n result }
+fn alternatives(g: &Ruled, members: [u64; Row::WORDS]) -> usize
+    requires bounds { (g.now.s.now.end ≤ most_words) × (g.now.rules.now.n ≤ rule_limit) }
+    ensures { Summed (text g.now.s.now) g.now.s.now.end g.now.rules.now.places members g.now.rules.now.n result }
 {
-    let places = rules.places;
-    let n = rules.n as usize;
+    let places = g.rules.places;
+    let n = g.rules.n as usize;
     let mut sum = 0;
     for i in 0..n {
-        sum += count_if(s, places[i] as usize, has(members, i));
+        sum += count_if(g.s, places[i] as usize, has(members, i));
     }
     sum
 }
 
 // The square of the members' alternatives, and at least the floor.
-pub fn budget(s: &Sheet, rules: Rules, members: [u64; Row::WORDS], floor: usize) -> usize
-    requires bounds { s.now.end ≤ most_words }
-    requires standing { Standing (text s.now) s.now.end rules }
-    ensures { IsBudget (text s.now) s.now.end rules members floor result }
+pub fn budget(g: &Ruled, members: [u64; Row::WORDS], floor: usize) -> usize
+    requires bounds { g.now.s.now.end ≤ most_words }
+    ensures { IsBudget (text g.now.s.now) g.now.s.now.end g.now.rules.now members floor result }
 {
-    let n = alternatives(s, rules, members);
+    let n = alternatives(g, members);
     floor.max(n * n)
 }

@@ -2,16 +2,15 @@
 ghost use Rattle.std.specs.Prelude.{◌≡◌, ◌+◌, ◌<◌, ◌≤◌};
 ghost use Rattle.grammar.specs.Tree.{inner_depth};
 ghost use Rattle.grammar.specs.Found.{FoundElements, FoundAlternatives, FoundRule};
-ghost use Rattle.analysis.specs.Facts.{Standing};
 ghost use Rattle.hub.specs.Corner.{NameSettles, Settles, AnySettles, IsCandidate, Candidates};
 ghost use Rattle.words.specs.Kinds.{kind_number};
 ghost use Rattle.words.specs.Sheet.{text};
 
 use crate::cycle::Cycle;
 use analysis::names::scan;
+use analysis::ruled::Ruled;
 use ends::ends::alternative_end;
 use reach::rows::{Row, collect, has};
-use records::rules::Rules;
 use words::numbers::{Block, Kind};
 use words::sheet::Sheet;
 use words::walk::{alternative_head, element_head, leaf_end};
@@ -76,11 +75,10 @@ fn is_candidate(s: &Sheet, c: &Cycle, i: usize, at: usize) -> bool
 }
 
 // Every rule looked at.
-pub fn candidates(s: &Sheet, rules: Rules, c: &Cycle) -> [u64; Row::WORDS]
-    requires bounds { c.now.n ≡ rules.n }
-    requires standing { Standing (text s.now) s.now.end rules }
-    ensures { Candidates c.now (text s.now) s.now.end rules.places rules.n result }
+pub fn candidates(g: &Ruled, c: &Cycle) -> [u64; Row::WORDS]
+    requires bounds { c.now.n ≡ g.now.rules.now.n }
+    ensures { Candidates c.now (text g.now.s.now) g.now.s.now.end g.now.rules.now.places g.now.rules.now.n result }
 {
-    let places = rules.places;
-    collect(c.n, |i| is_candidate(s, c, i, places[i] as usize))
+    let places = g.rules.places;
+    collect(c.n, |i| is_candidate(g.s, c, i, places[i] as usize))
 }

@@ -2,15 +2,14 @@
 ghost use Rattle.std.specs.Prelude.{◌≡◌, ◌≤◌, length};
 ghost use Rattle.grammar.specs.Numbers.{rule_limit, work_bytes};
 ghost use Rattle.analysis.specs.Names.{table_with};
-ghost use Rattle.analysis.specs.Facts.{Standing, FactsFound};
+ghost use Rattle.analysis.specs.Facts.{FactsFound};
 ghost use Rattle.plan.specs.Ground.{KeptAt, KeptOf};
 ghost use Rattle.words.specs.Sheet.{text};
 
 use analysis::rounds::{Marks, Rows, find_rows};
+use analysis::ruled::Ruled;
 use hub::preserved::preserved_rows;
 use reach::rows::Row;
-use records::rules::Rules;
-use words::sheet::Sheet;
 
 // The marks of the rules, and the row of the preserved ones.
 #[derive(Clone, Copy, Debug, PartialEq, Eq)]
@@ -21,21 +20,13 @@ pub struct Ground {
 
 // What is found out about rules whose preserved ids stand from their end up to `to`; calls and left corners are put into the rows,
 // and the places of the names into the work area.
-pub fn find_out(
-    s: &Sheet,
-    to: usize,
-    rules: Rules,
-    past: bool,
-    rows: &mut Rows,
-    work: &mut [u8],
-) -> Ground
-    requires bounds { (work_bytes ≤ length work.old) × KeptAt s.now.bytes.now s.now.end to }
-    requires standing { Standing (text s.now) s.now.end rules }
-    ensures facts_found { FactsFound (text s.now) s.now.end rules past rows.new.calls rows.new.corners result.marks }
-    ensures kept_of { KeptOf (text s.now) s.now.end to rules result.kept }
-    ensures work_after { work.new ≡ table_with rules.names rules.n work.old }
+pub fn find_out(g: &Ruled, to: usize, past: bool, rows: &mut Rows, work: &mut [u8]) -> Ground
+    requires bounds { (work_bytes ≤ length work.old) × KeptAt g.now.s.now.bytes.now g.now.s.now.end to }
+    ensures facts_found { FactsFound (text g.now.s.now) g.now.s.now.end g.now.rules.now past rows.new.calls rows.new.corners result.marks }
+    ensures kept_of { KeptOf (text g.now.s.now) g.now.s.now.end to g.now.rules.now result.kept }
+    ensures work_after { work.new ≡ table_with g.now.rules.now.names g.now.rules.now.n work.old }
 {
-    let marks = find_rows(s, rules, past, rows, work);
-    let kept = preserved_rows(s.bytes, rules, s.end, to);
+    let marks = find_rows(g, past, rows, work);
+    let kept = preserved_rows(g.s.bytes, *g.rules, g.s.end, to);
     Ground { marks, kept }
 }

@@ -4,7 +4,6 @@ ghost use Rattle.std.specs.Prelude.{◌+◌, ◌<◌, ◌≤◌, length};
 ghost use Rattle.grammar.specs.Numbers.{work_bytes};
 ghost use Rattle.grammar.specs.Tree.{inner_depth};
 ghost use Rattle.grammar.specs.Found.{FoundRule};
-ghost use Rattle.analysis.specs.Facts.{Standing};
 ghost use Rattle.planned.specs.List.{Laid, AllIn};
 ghost use Rattle.plan.specs.Known.{CycleKnown, HubKnown};
 ghost use Rattle.plan.specs.Decision.{TakesArguments, PlanOf, PlanWith, PlanMade, PlanLast};
@@ -44,21 +43,20 @@ fn finish(
     work: &[u8],
     done: Done,
 ) -> Result<Plan, Unplanned>
-    requires bounds { Standing (text f.now.s.now) f.now.s.now.end f.now.rules × (hub < f.now.rules.n) }
-    requires laid { Laid work.now done.l × AllIn (text f.now.s.now) f.now.s.now.end inner_depth work.now done.l }
-    ensures { PlanLast (text f.now.s.now) f.now.s.now.end f.now.rules f.now.past f.now.rows.now.calls
+    requires inside { hub < f.now.g.now.rules.now.n }
+    requires laid { Laid work.now done.l × AllIn (text f.now.g.now.s.now) f.now.g.now.s.now.end inner_depth work.now done.l }
+    ensures { PlanLast (text f.now.g.now.s.now) f.now.g.now.s.now.end f.now.g.now.rules.now f.now.past f.now.rows.now.calls
         f.now.found.marks f.now.found.kept members hub done work.now result }
 {
     if done.steps == 0 {
         return Err(Unplanned::Declined(Clause::NoSteps));
     }
-    let rules = f.rules;
-    let n = rules.n as usize;
+    let n = f.g.rules.n as usize;
     let l = done.l;
     let ground = f.found;
     let nullable = ground.marks.nullable;
     let past = f.past;
-    let Some(planned) = judge(f.s, rules, nullable, past, members, hub, work, l) else {
+    let Some(planned) = judge(f.g, nullable, past, members, hub, work, l) else {
         return Err(Unplanned::Declined(Clause::NotDirectlyRewritable));
     };
     let kept = ground.kept;
@@ -80,23 +78,22 @@ fn make(
     work: &mut [u8],
 ) -> Result<Plan, Unplanned>
     requires bounds { work_bytes ≤ length work.old }
-    requires hub_known { HubKnown (text f.now.s.now) f.now.s.now.end f.now.rules f.now.past f.now.rows.now.calls
+    requires hub_known { HubKnown (text f.now.g.now.s.now) f.now.g.now.s.now.end f.now.g.now.rules.now f.now.past f.now.rows.now.calls
         f.now.found.marks f.now.found.kept members hub }
-    ensures { PlanMade (text f.now.s.now) f.now.s.now.end f.now.rules f.now.past f.now.rows.now.calls
+    ensures { PlanMade (text f.now.g.now.s.now) f.now.g.now.s.now.end f.now.g.now.rules.now f.now.past f.now.rows.now.calls
         f.now.found.marks f.now.found.kept members limits hub work.new result }
 {
-    let s = f.s;
-    let rules = f.rules;
-    let n = rules.n as usize;
-    let most = budget(s, rules, members, limits.floor);
-    let names = rules.names;
+    let g = f.g;
+    let n = g.rules.n as usize;
+    let most = budget(g, members, limits.floor);
+    let names = g.rules.names;
     let c = Cycle {
         names: &names,
         n,
         members,
         hub,
     };
-    let Some(done) = substitute(s, rules, &c, limits, most, work)? else {
+    let Some(done) = substitute(g.s, *g.rules, &c, limits, most, work)? else {
         return Err(Unplanned::Declined(Clause::NoSteps));
     };
     finish(f, members, hub, work, done)
@@ -121,15 +118,14 @@ fn with_hub(
     work: &mut [u8],
 ) -> Result<Plan, Unplanned>
     requires bounds { work_bytes ≤ length work.old }
-    requires inside { hub < f.now.rules.n }
-    requires cycle_known { CycleKnown (text f.now.s.now) f.now.s.now.end f.now.rules f.now.past f.now.rows.now.calls
+    requires inside { hub < f.now.g.now.rules.now.n }
+    requires cycle_known { CycleKnown (text f.now.g.now.s.now) f.now.g.now.s.now.end f.now.g.now.rules.now f.now.past f.now.rows.now.calls
         f.now.found.marks f.now.found.kept members }
-    ensures { PlanWith (text f.now.s.now) f.now.s.now.end f.now.rules f.now.past f.now.rows.now.calls
+    ensures { PlanWith (text f.now.g.now.s.now) f.now.g.now.s.now.end f.now.g.now.rules.now f.now.past f.now.rows.now.calls
         f.now.found.marks f.now.found.kept members limits hub work.new result }
 {
-    let rules = f.rules;
-    let places = rules.places;
-    if takes_arguments(f.s, places[hub] as usize) {
+    let places = f.g.rules.places;
+    if takes_arguments(f.g.s, places[hub] as usize) {
         return Err(Unplanned::Declined(Clause::HubWithArguments));
     }
     let stops = f.found.marks.stops;
@@ -147,16 +143,15 @@ pub fn plan_cycle(
     work: &mut [u8],
 ) -> Result<Plan, Unplanned>
     requires bounds { work_bytes ≤ length work.old }
-    requires cycle_known { CycleKnown (text f.now.s.now) f.now.s.now.end f.now.rules f.now.past f.now.rows.now.calls
+    requires cycle_known { CycleKnown (text f.now.g.now.s.now) f.now.g.now.s.now.end f.now.g.now.rules.now f.now.past f.now.rows.now.calls
         f.now.found.marks f.now.found.kept members }
-    ensures { PlanOf (text f.now.s.now) f.now.s.now.end f.now.rules f.now.past f.now.rows.now.calls
+    ensures { PlanOf (text f.now.g.now.s.now) f.now.g.now.s.now.end f.now.g.now.rules.now f.now.past f.now.rows.now.calls
         f.now.found.marks f.now.found.kept members limits work.new result }
 {
-    let rules = f.rules;
     let ground = f.found;
     let nullable = ground.marks.nullable;
     let kept = ground.kept;
-    let Some(hub) = choose_hub(f.s, rules, nullable, &f.rows.calls, members, kept) else {
+    let Some(hub) = choose_hub(f.g, nullable, &f.rows.calls, members, kept) else {
         return Err(Unplanned::Declined(Clause::NoHub));
     };
     with_hub(f, members, hub, limits, work)

@@ -66,15 +66,14 @@ fn try_cycles(
     work: &mut [u8],
 ) -> Found
     requires bounds { work_bytes ≤ length work.old }
-    requires closed_len { (length closed.now ≡ rule_limit) × (f.now.rules.n ≤ rule_limit) }
-    requires joined_known { JoinedKnown (text f.now.s.now) f.now.s.now.end f.now.rules f.now.past f.now.rows.now.calls
+    requires closed_len { (length closed.now ≡ rule_limit) × (f.now.g.now.rules.now.n ≤ rule_limit) }
+    requires joined_known { JoinedKnown (text f.now.g.now.s.now) f.now.g.now.s.now.end f.now.g.now.rules.now f.now.past f.now.rows.now.calls
         f.now.found.marks f.now.found.kept closed.now }
-    ensures { TriedOf (text f.now.s.now) f.now.s.now.end f.now.rules f.now.past f.now.rows.now.calls
+    ensures { TriedOf (text f.now.g.now.s.now) f.now.g.now.s.now.end f.now.g.now.rules.now f.now.past f.now.rows.now.calls
         f.now.found.marks f.now.found.kept closed.now limits work.new result }
 {
-    let rules = f.rules;
-    let n = rules.n as usize;
-    let ids = rules.ids;
+    let n = f.g.rules.n as usize;
+    let ids = f.g.rules.ids;
     let none = Found::none();
     let mut clauses = none.clauses;
     let mut left = loops(closed, n);
@@ -102,12 +101,11 @@ fn try_cycles(
 #[tactic(auto, using(crate::proofs::Laws::Cycles::found_of))]
 pub fn find_plan(f: &Facts, limits: Limits, work: &mut [u8]) -> Found
     requires bounds { work_bytes ≤ length work.old }
-    requires rules_known { RulesKnown (text f.now.s.now) f.now.s.now.end f.now.rules f.now.past f.now.rows.now.calls
+    requires rules_known { RulesKnown (text f.now.g.now.s.now) f.now.g.now.s.now.end f.now.g.now.rules.now f.now.past f.now.rows.now.calls
         f.now.rows.now.corners f.now.found.marks f.now.found.kept }
-    ensures { FoundOf (text f.now.s.now) f.now.s.now.end f.now.rules f.now.past f.now.rows.now.calls
+    ensures { FoundOf (text f.now.g.now.s.now) f.now.g.now.s.now.end f.now.g.now.rules.now f.now.past f.now.rows.now.calls
         f.now.rows.now.corners f.now.found.marks f.now.found.kept limits work.new result }
 {
-    let rules = f.rules;
-    let closed = joined(f.rows.corners, rules.n as usize);
+    let closed = joined(f.rows.corners, f.g.rules.n as usize);
     try_cycles(f, &closed, limits, work)
 }

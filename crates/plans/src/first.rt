@@ -1,22 +1,20 @@
 // The first cycle with a plan, and how it is told in numbers.
 ghost use Rattle.std.specs.Prelude.{◌≡◌, ◌≤◌, length};
 ghost use Rattle.grammar.specs.Numbers.{most_words, work_bytes};
-ghost use Rattle.analysis.specs.Facts.{Standing};
 ghost use Rattle.plan.specs.Ground.{KeptAt};
 ghost use Rattle.plans.specs.First.{FirstOf, search_numbers, search_cycle, search_row};
 ghost use Rattle.words.specs.Sheet.{text};
 
 use crate::nth::{Decision, capped};
 use analysis::rounds::Rows;
+use analysis::ruled::Ruled;
 use plan::facts::Facts;
 use plan::ground::find_out;
 use plan::plan::Plan;
 use plan::search::{Found, FoundPlan, find_plan};
 use reach::rows::Row;
-use records::rules::Rules;
 use turns::limits::Limits;
 use words::numbers::Refusal;
-use words::sheet::Sheet;
 
 // Numbers, the row of a cycle's members, and that of the rules that may go.
 #[derive(Clone, Copy, Debug, PartialEq, Eq)]
@@ -27,17 +25,15 @@ pub struct FirstTold {
 }
 
 // The first plan for rules that stand in a sheet, with their preserved ids behind them up to `to`.
-pub fn decide_first(s: &Sheet, to: usize, rules: Rules, past: bool, work: &mut [u8]) -> Found
-    requires bounds { (s.now.end ≤ most_words) × (work_bytes ≤ length work.old) × KeptAt s.now.bytes.now s.now.end to }
-    requires standing { Standing (text s.now) s.now.end rules }
-    ensures { FirstOf (text s.now) s.now.end to rules past work.new result }
+pub fn decide_first(g: &Ruled, to: usize, past: bool, work: &mut [u8]) -> Found
+    requires bounds { (g.now.s.now.end ≤ most_words) × (work_bytes ≤ length work.old) × KeptAt g.now.s.now.bytes.now g.now.s.now.end to }
+    ensures { FirstOf (text g.now.s.now) g.now.s.now.end to g.now.rules.now past work.new result }
 {
     let mut rows = Rows::empty();
-    let ground = find_out(s, to, rules, past, &mut rows, work);
+    let ground = find_out(g, to, past, &mut rows, work);
     let limits = Limits::standard();
     let facts = Facts {
-        s,
-        rules,
+        g,
         past,
         rows: &rows,
         found: ground,

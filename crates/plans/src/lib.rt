@@ -12,6 +12,7 @@ ghost use Rattle.plans.specs.Told.{NthTold, FirstTold};
 
 use crate::first::{decide_first, tell_search};
 use crate::nth::{decide_nth, leave, tell_nth};
+use analysis::ruled::Ruled;
 use sheet::read;
 use words::sheet::Sheet;
 
@@ -38,7 +39,11 @@ pub fn plan_nth(
             let end = r.parts.rules_end();
             let to = r.parts.preserved_end();
             let s = Sheet { bytes: sheet, end };
-            let t = tell_nth(decide_nth(&s, to, r.rules, textbook != 0, nth, work));
+            let g = Ruled {
+                s: &s,
+                rules: &r.rules,
+            };
+            let t = tell_nth(decide_nth(&g, to, textbook != 0, nth, work));
             let told = t.numbers;
             let row = t.row;
             leave(told, work);
@@ -75,7 +80,11 @@ pub fn first_plan(
             let end = r.parts.rules_end();
             let to = r.parts.preserved_end();
             let s = Sheet { bytes: sheet, end };
-            let found = decide_first(&s, to, r.rules, textbook != 0, work);
+            let g = Ruled {
+                s: &s,
+                rules: &r.rules,
+            };
+            let found = decide_first(&g, to, textbook != 0, work);
             let declines = found.clauses;
             let answer = found.answer;
             let t = tell_search(found.declined, answer);

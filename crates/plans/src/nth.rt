@@ -1,21 +1,19 @@
 // The decision for one of the cycles, and how it is told in numbers.
 ghost use Rattle.std.specs.Prelude.{◌≡◌, ◌≤◌, length};
 ghost use Rattle.grammar.specs.Numbers.{most_words, work_bytes};
-ghost use Rattle.analysis.specs.Facts.{Standing};
 ghost use Rattle.plan.specs.Ground.{KeptAt};
 ghost use Rattle.plans.specs.Nth.{NthOf, nth_numbers, nth_row, capped, decision_numbers, decision_row, left_by};
 ghost use Rattle.words.specs.Sheet.{text};
 
 use analysis::rounds::Rows;
+use analysis::ruled::Ruled;
 use plan::facts::Facts;
 use plan::ground::find_out;
 use plan::plan::{Plan, plan_cycle};
 use reach::cycles::list_cycles;
 use reach::rows::Row;
-use records::rules::Rules;
 use turns::limits::Limits;
 use turns::turn::Unplanned;
-use words::sheet::Sheet;
 use words::words::clear;
 
 // How many cycles there are, and the decision; none where there is no such cycle.
@@ -65,16 +63,15 @@ impl From<Decision> for u32 {
 }
 
 // The decision for the nth cycle of rules that stand in a sheet, with their preserved ids behind them up to `to`.
-pub fn decide_nth(s: &Sheet, to: usize, rules: Rules, past: bool, nth: u32, work: &mut [u8]) -> Nth
-    requires bounds { (s.now.end ≤ most_words) × (work_bytes ≤ length work.old) × KeptAt s.now.bytes.now s.now.end to }
-    requires standing { Standing (text s.now) s.now.end rules }
-    ensures { NthOf (text s.now) s.now.end to rules past nth work.new result }
+pub fn decide_nth(g: &Ruled, to: usize, past: bool, nth: u32, work: &mut [u8]) -> Nth
+    requires bounds { (g.now.s.now.end ≤ most_words) × (work_bytes ≤ length work.old) × KeptAt g.now.s.now.bytes.now g.now.s.now.end to }
+    ensures { NthOf (text g.now.s.now) g.now.s.now.end to g.now.rules.now past nth work.new result }
 {
     let mut rows = Rows::empty();
     let mut cycles = [[0u64; Row::WORDS]; Row::RULES];
-    let ground = find_out(s, to, rules, past, &mut rows, work);
-    let ids = rules.ids;
-    let n = list_cycles(rows.corners, ids, rules.n as usize, &mut cycles);
+    let ground = find_out(g, to, past, &mut rows, work);
+    let ids = g.rules.ids;
+    let n = list_cycles(rows.corners, ids, g.rules.n as usize, &mut cycles);
     if n <= nth {
         return Nth {
             cycles: n,
@@ -84,8 +81,7 @@ pub fn decide_nth(s: &Sheet, to: usize, rules: Rules, past: bool, nth: u32, work
     let members = cycles[nth as usize];
     let limits = Limits::standard();
     let facts = Facts {
-        s,
-        rules,
+        g,
         past,
         rows: &rows,
         found: ground,

@@ -2,7 +2,6 @@
 ghost use Rattle.std.specs.Prelude.{◌≡◌, ◌<◌, ◌≤◌, length};
 ghost use Rattle.grammar.specs.Numbers.{rule_limit, work_bytes};
 ghost use Rattle.analysis.specs.Names.{table_with};
-ghost use Rattle.analysis.specs.Facts.{Standing};
 ghost use Rattle.renew.specs.Renewed.{BitPut, HubSurveyed, Renewable, RenewedOf};
 ghost use Rattle.words.specs.Sheet.{text};
 
@@ -10,11 +9,10 @@ use crate::places::rules_less;
 use analysis::known::Known;
 use analysis::names::put_names;
 use analysis::rounds::{Marks, Rows};
+use analysis::ruled::Ruled;
 use analysis::survey::survey_rule;
 use plan::ground::Ground;
 use reach::rows::{Row, add_if, without};
-use records::rules::Rules;
-use words::sheet::Sheet;
 
 // What is known of rules, and the hub's place among them.
 #[derive(Clone, Copy, Debug, PartialEq, Eq)]
@@ -34,24 +32,22 @@ fn put_bit(row: [u64; Row::WORDS], j: usize, on: bool) -> [u64; Row::WORDS]
 
 // The rule at a place surveyed anew; the result are the marks then. The table of names is left in the work area.
 fn survey_hub(
-    s: &Sheet,
-    rules: Rules,
+    g: &Ruled,
     hub: usize,
     past: bool,
     marks: Marks,
     rows: &mut Rows,
     work: &mut [u8],
 ) -> Marks
-    requires bounds { (work_bytes ≤ length work.old) × (hub < rules.n) }
-    requires standing { Standing (text s.now) s.now.end rules }
-    ensures hub_surveyed { HubSurveyed (text s.now) s.now.end rules hub past marks.nullable
+    requires bounds { (work_bytes ≤ length work.old) × (hub < g.now.rules.now.n) }
+    ensures hub_surveyed { HubSurveyed (text g.now.s.now) g.now.s.now.end g.now.rules.now hub past marks.nullable
         rows.old.calls rows.old.corners marks.stops rows.new.calls rows.new.corners result.stops }
     ensures same_nullable { result.nullable ≡ marks.nullable }
-    ensures work_after { work.new ≡ table_with rules.names rules.n work.old }
+    ensures work_after { work.new ≡ table_with g.now.rules.now.names g.now.rules.now.n work.old }
 {
-    let names = rules.names;
-    let places = rules.places;
-    let n = rules.n as usize;
+    let names = g.rules.names;
+    let places = g.rules.places;
+    let n = g.rules.n as usize;
     let nullable = marks.nullable;
     put_names(&names, n, work);
     let known = Known {
@@ -61,7 +57,7 @@ fn survey_hub(
         nullable,
         past,
     };
-    let v = survey_rule(s, &known, places[hub] as usize);
+    let v = survey_rule(g.s, &known, places[hub] as usize);
     let c = v.calls;
     let k = v.corners;
     rows.calls[hub] = c;
@@ -72,8 +68,7 @@ fn survey_hub(
 
 // What is known of the rules after a plan, by what was known before it: n rules, of which those in a row are gone.
 pub fn renew(
-    s: &Sheet,
-    rules: Rules,
+    g: &Ruled,
     n: usize,
     before: Renewed,
     gone: [u64; Row::WORDS],
@@ -82,15 +77,15 @@ pub fn renew(
     work: &mut [u8],
 ) -> Renewed
     requires bounds { work_bytes ≤ length work.old }
-    requires renewable { Renewable (text s.now) s.now.end rules n before.hub gone past rows.old.calls rows.old.corners
+    requires renewable { Renewable (text g.now.s.now) g.now.s.now.end g.now.rules.now n before.hub gone past rows.old.calls rows.old.corners
         before.found.marks before.found.kept }
-    ensures renewed_of { RenewedOf (text s.now) s.now.end rules n before.hub gone past
+    ensures renewed_of { RenewedOf (text g.now.s.now) g.now.s.now.end g.now.rules.now n before.hub gone past
         rows.old.calls rows.old.corners before.found.marks before.found.kept rows.new.calls rows.new.corners result }
-    ensures work_after { work.new ≡ table_with rules.names rules.n work.old }
+    ensures work_after { work.new ≡ table_with g.now.rules.now.names g.now.rules.now.n work.old }
 {
     let rest = rules_less(gone, before, n, rows);
     let known = rest.found;
-    let marks = survey_hub(s, rules, rest.hub, past, known.marks, rows, work);
+    let marks = survey_hub(g, rest.hub, past, known.marks, rows, work);
     let kept = known.kept;
     Renewed {
         found: Ground { marks, kept },

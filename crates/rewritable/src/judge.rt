@@ -5,7 +5,6 @@ ghost use Rattle.grammar.specs.Numbers.{rule_limit};
 ghost use Rattle.grammar.specs.Tree.{inner_depth};
 ghost use Rattle.analysis.specs.Names.{Tabled};
 ghost use Rattle.analysis.specs.Survey.{view_of};
-ghost use Rattle.analysis.specs.Facts.{Standing};
 ghost use Rattle.planned.specs.Layout.{meaning, settled};
 ghost use Rattle.planned.specs.List.{Laid, Located, ListedIn, AllIn};
 ghost use Rattle.rewritable.specs.Judge.{VerdictOf, JudgedOf, JudgedFound};
@@ -14,10 +13,10 @@ ghost use Rattle.words.specs.Sheet.{text};
 use crate::items::{may_be_rewritten, starts_with_call};
 use crate::walk::walk_alternative;
 use analysis::known::Known;
+use analysis::ruled::Ruled;
 use planned::list::{Listed, Sizes};
 use planned::read::{Cursor, read_settled};
 use reach::rows::{Row, is_empty, meet, union};
-use records::rules::Rules;
 use words::numbers::Block;
 use words::sheet::Sheet;
 
@@ -89,8 +88,7 @@ fn judge_list(
 
 // The settled alternatives of the list, by the rules that stand in the sheet.
 pub fn judge(
-    s: &Sheet,
-    rules: Rules,
+    g: &Ruled,
     nullable: [u64; Row::WORDS],
     past: bool,
     members: [u64; Row::WORDS],
@@ -98,18 +96,17 @@ pub fn judge(
     work: &[u8],
     l: Sizes,
 ) -> Option<[u64; Row::WORDS]>
-    requires bounds { Standing (text s.now) s.now.end rules }
-    requires inside { hub < rules.n }
-    requires laid { Laid work.now l × AllIn (text s.now) s.now.end inner_depth work.now l }
-    ensures { JudgedFound (text s.now) s.now.end rules nullable past members hub work.now l result }
+    requires inside { hub < g.now.rules.now.n }
+    requires laid { Laid work.now l × AllIn (text g.now.s.now) g.now.s.now.end inner_depth work.now l }
+    ensures { JudgedFound (text g.now.s.now) g.now.s.now.end g.now.rules.now nullable past members hub work.now l result }
 {
-    let names = rules.names;
+    let names = g.rules.names;
     let v = Known {
         names: &names,
-        n: rules.n as usize,
-        table: &s.bytes[..0],
+        n: g.rules.n as usize,
+        table: &g.s.bytes[..0],
         nullable,
         past,
     };
-    judge_list(s, &v, Block::DEPTH, members, hub, work, l)
+    judge_list(g.s, &v, Block::DEPTH, members, hub, work, l)
 }

@@ -11,6 +11,7 @@ ghost use Rattle.run.specs.Turn.{Small, UpToDate, Advancing, AdvancedOf, TurnedO
 
 use crate::state::State;
 use analysis::rounds::Rows;
+use analysis::ruled::Ruled;
 use apply::apply::{Applied, apply};
 use plan::facts::Facts;
 use plan::plan::Plan;
@@ -43,14 +44,17 @@ fn bring_up(
     let plans = st.plans + 1;
     let steps = st.steps + p.steps as u32;
     let found = st.found;
-    let rules = a.rules;
     let gone = p.removable;
     let s = Sheet {
         bytes: res,
         end: a.end,
     };
+    let g = Ruled {
+        s: &s,
+        rules: &a.rules,
+    };
     let before = Renewed { found, hub: p.hub };
-    let r = renew(&s, rules, n, before, gone, past, rows, work);
+    let r = renew(&g, n, before, gone, past, rows, work);
     State {
         at: a,
         found: r.found,
@@ -103,15 +107,17 @@ pub fn take_turn(
         × (length trail.new ≡ length trail.old) × (length work.new ≡ length work.old) }
 {
     let at = st.at;
-    let rules = at.rules;
     let ground = st.found;
     let s = Sheet {
         bytes: res,
         end: at.end,
     };
-    let facts = Facts {
+    let g = Ruled {
         s: &s,
-        rules,
+        rules: &at.rules,
+    };
+    let facts = Facts {
+        g: &g,
         past,
         rows,
         found: ground,

@@ -9,6 +9,7 @@ ghost use Rattle.run.specs.Turn.{Small, RunOf};
 use crate::state::{Ended, State};
 use crate::turn::take_turn;
 use analysis::rounds::Rows;
+use analysis::ruled::Ruled;
 use apply::apply::Applied;
 use plan::ground::find_out;
 use turns::limits::Limits;
@@ -39,7 +40,11 @@ pub fn run_unit(
         bytes: res,
         end: before.end,
     };
-    let ground = find_out(&s, before.to, before.rules, past, &mut rows, work);
+    let g = Ruled {
+        s: &s,
+        rules: &before.rules,
+    };
+    let ground = find_out(&g, before.to, past, &mut rows, work);
     let mut st = State::begin(before, ground);
     while let Some(next) = take_turn(res, trail, work, &mut rows, limits, past, room, st)? {
         st = next;

@@ -1,22 +1,18 @@
 use Rattle.std.proofs.Common.{rules}
 use Rattle.facts.proofs.find_facts.Goals as goal
-use Rattle.facts.proofs.Laws.Told.{read_room, tellings}
+use Rattle.facts.proofs.Laws.Told.{read_room, read_rules, tellings}
 
 pub invariant_of-s : goal.invariant_of-s
 invariant_of-s c = record { room = rw c.rules_end-end.ensures (read_room _ _ c.in-Ok.ensures.read_as) }
 
--- src/lib.rt:83:17
 pub tell-t-requires-clause-bounds : goal.tell-t-requires-clause-bounds
 tell-t-requires-clause-bounds c = search (rules, tellings)
 
--- src/lib.rt:83:17
-pub tell-t-requires-clause-standing : goal.tell-t-requires-clause-standing
-tell-t-requires-clause-standing c = rw c.rules_end-end.ensures (search (rules, tellings))
+pub invariant_of-g : goal.invariant_of-g
+invariant_of-g c = record { standing = rw c.rules_end-end.ensures (read_rules _ _ c.in-Ok.ensures.read_as) }
 
--- src/lib.rt:55:1
 pub returns-in-Ok-clause-tells : goal.returns-in-Ok-clause-tells
 returns-in-Ok-clause-tells c = let told = rw c.rules_end-end.ensures at c.tell-t.ensures.rules_told in search (rules, tellings)
 
--- src/lib.rt:55:1
 pub returns-in-Ok-clause-work_after : goal.returns-in-Ok-clause-work_after
 returns-in-Ok-clause-work_after c = search (rules, tellings)

@@ -7,14 +7,16 @@ use Rattle.plans.proofs.Laws.Told.{first_sheet}
 pub invariant_of-s : goal.invariant_of-s
 invariant_of-s c = record { room = rw c.rules_end-end.ensures (facts.read_room _ _ c.in-Ok.ensures.read_as) }
 
-pub decide_first-found-requires-clause-bounds : goal.decide_first-found-requires-clause-bounds
-decide_first-found-requires-clause-bounds c =
+pub decide_first-found-requires : goal.decide_first-found-requires
+decide_first-found-requires c =
     let o = c.in-Ok.ensures in
     rw c.rules_end-end.ensures
-    (read_small _ _ o.read_as, facts.read_work _ _ o.read_as o.work_after, read_kept _ _ o.read_as c.preserved_end-to.ensures)
+    (record {
+      bounds = (read_small _ _ o.read_as, facts.read_work _ _ o.read_as o.work_after, read_kept _ _ o.read_as c.preserved_end-to.ensures);
+    })
 
-pub decide_first-found-requires-clause-standing : goal.decide_first-found-requires-clause-standing
-decide_first-found-requires-clause-standing c = rw c.rules_end-end.ensures (facts.read_rules _ _ c.in-Ok.ensures.read_as)
+pub invariant_of-g : goal.invariant_of-g
+invariant_of-g c = record { standing = rw c.rules_end-end.ensures (facts.read_rules _ _ c.in-Ok.ensures.read_as) }
 
 pub returns-in-Ok-clause-first_told : goal.returns-in-Ok-clause-first_told
 returns-in-Ok-clause-first_told c =

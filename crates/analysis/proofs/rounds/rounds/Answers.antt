@@ -1,5 +1,6 @@
-use Rattle.std.proofs.Common.{rules, refl}
+use Rattle.std.proofs.Common.{rules, refl, sym}
 use Rattle.analysis.proofs.rounds.rounds.Goals as goal
+use Rattle.analysis.proofs.Laws.Standing.{names_long}
 use Rattle.analysis.proofs.Laws.Rounded.{finding, find_stands, find_more, find_last}
 use native.Mathlib.Omega.{arith}
 
@@ -14,3 +15,9 @@ loop-preserved c = (find_more c.loop.invariant.0 refl c.survey_all-r.ensures (om
 
 pub returns-clause-facts_found : goal.returns-clause-facts_found
 returns-clause-facts_found c = find_last c.loop.invariant.0 refl c.survey_all-r-2.ensures (omega arith)
+
+pub slice_bounds-v-end : goal.slice_bounds-v-end
+slice_bounds-v-end c = sym (names_long c.args.g.now.standing)
+
+pub slice_bounds-v-end-2 : goal.slice_bounds-v-end-2
+slice_bounds-v-end-2 c = sym (names_long c.args.g.now.standing)

@@ -23,7 +23,7 @@ pub copy_rules-requires-2-clause-fact : goal.copy_rules-requires-2-clause-fact
 copy_rules-requires-2-clause-fact c = (
   search (rules, fronts, front_open, last_open),
   search (rules, fronts, front_open, last_open),
-  last_fits c.requires.new_rules_fit c.requires.bounds.1 c.requires.fact.0 c.requires.laid.0 c.copy_rules.ensures c.add_hub.ensures,
+  last_fits c.requires.new_rules_fit c.requires.inside c.requires.fact.0 c.requires.laid.0 c.copy_rules.ensures c.add_hub.ensures,
 )
 
 -- src/rules.rt:50:1

@@ -6,8 +6,8 @@ use Rattle.hub.proofs.Laws.Able.{candidates_of}
 pub collect-requires-clause-test : goal.collect-requires-clause-test
 collect-requires-clause-test c =
     λ i l.
-    let found = place_found c.requires.standing.rows l c.requires.bounds refl in
-    let room = place_room c.requires.standing.rows l c.requires.bounds refl in
+    let found = place_found c.args.g.now.standing.rows l c.requires.bounds refl in
+    let room = place_room c.args.g.now.standing.rows l c.requires.bounds refl in
     search rules
 
 pub returns : goal.returns

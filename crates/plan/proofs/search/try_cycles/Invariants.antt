@@ -8,4 +8,4 @@ abbrev pub invariant-loop-k : goal.invariant-loop-k
 invariant-loop-k l =
     let g = l.f.found in
     (length l.work ≡ length l.initial.work)
-    × Trying (text l.f.s.now) l.f.s.now.end l.f.rules l.f.past l.f.rows.now.calls g.marks g.kept l.closed l.limits l.n l.k l.left l.clauses
+    × Trying (text l.f.g.now.s.now) l.f.g.now.s.now.end l.f.g.now.rules.now l.f.past l.f.rows.now.calls g.marks g.kept l.closed l.limits l.n l.k l.left l.clauses

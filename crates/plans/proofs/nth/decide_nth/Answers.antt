@@ -14,7 +14,7 @@ plan_cycle-decision-requires-clause-cycle_known c =
     let known = c.find_out-ground.ensures.facts_found in
     let kept = c.find_out-ground.ensures.kept_of in
     let cycles = c.list_cycles-n.ensures in
-    search (rules, nths, known, kept, c.requires.bounds.0, cycles, c.requires.standing)
+    search (rules, nths, known, kept, c.requires.bounds.0, cycles, c.args.g.now.standing)
 
 -- src/nth.rt:49:1
 pub returns : goal.returns

@@ -1,21 +1,21 @@
 use Rattle.std.proofs.Common.{rules, refl, ap, ◌∙◌, Ok}
 use Rattle.std.proofs.lemmas.Result.{err_from_is_err_and}
 use Rattle.run.proofs.turn.take_turn.Goals as goal
-use Rattle.run.proofs.Laws.Known.{midst_room}
+use Rattle.run.proofs.Laws.Known.{midst_room, midst_known}
 use Rattle.run.proofs.Laws.Turned.{turnings, turn_none, turn_large, turn_advancing, turn_planned, turn_refused}
 
 pub invariant_of-s : goal.invariant_of-s
 invariant_of-s c = record { room = midst_room c.requires.going.midst }
 
--- src/turn.rt:142:9
+pub invariant_of-g : goal.invariant_of-g
+invariant_of-g c = record { standing = (midst_known c.requires.going.midst).known.standing }
+
 pub find_plan-found-requires-clause-bounds : goal.find_plan-found-requires-clause-bounds
 find_plan-found-requires-clause-bounds c = search (rules, turnings, turn_advancing)
 
--- src/turn.rt:142:9
 pub find_plan-found-requires-clause-rules_known : goal.find_plan-found-requires-clause-rules_known
 find_plan-found-requires-clause-rules_known c = search (rules, turnings)
 
--- src/turn.rt:159:13
 pub advance-requires-clause-advancing : goal.advance-requires-clause-advancing
 advance-requires-clause-advancing c = search (rules, turnings, turn_advancing)
 

@@ -1,19 +1,18 @@
 use Rattle.std.proofs.Common.{refl, rules, arith}
 use Rattle.std.proofs.lemmas.Result.{err_from_is_err_and}
 use Rattle.run.proofs.unit.run_unit.Goals as goal
-use Rattle.run.proofs.Laws.Start.{begins}
+use Rattle.run.proofs.Laws.Start.{begins, begun_standing}
 use Rattle.run.proofs.Laws.Loop.{loops, looping_start, looping_more}
 
 pub invariant_of-s : goal.invariant_of-s
 invariant_of-s c = record { room = search (rules, loops, begins) }
 
 -- src/unit.rt:42:9
-pub find_out-ground-requires-clause-bounds : goal.find_out-ground-requires-clause-bounds
-find_out-ground-requires-clause-bounds c = search (rules, loops, begins)
+pub find_out-ground-requires : goal.find_out-ground-requires
+find_out-ground-requires c = search (rules, loops, begins)
 
--- src/unit.rt:42:9
-pub find_out-ground-requires-clause-standing : goal.find_out-ground-requires-clause-standing
-find_out-ground-requires-clause-standing c = search (rules, loops, begins)
+pub invariant_of-g : goal.invariant_of-g
+invariant_of-g c = record { standing = begun_standing c.requires.begun }
 
 -- src/unit.rt:46:5
 pub loop-next-init : goal.loop-next-init
