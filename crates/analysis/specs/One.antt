@@ -1,5 +1,5 @@
 -- The rules that stand in a sheet are one list: what stands there is read in one way alone.
-use Rattle.std.specs.Prelude.{ℕ, zero, suc, ◌≤◌, ◌≡◌, List, [], ◌∷◌, Bool, true, length}
+use Rattle.std.specs.Prelude.{ℕ, suc, ◌≡◌, List, [], ◌∷◌, Bool, true, length}
 use Rattle.std.specs.Coded.{×_prop, le_prop, Coded-set, coded_ℕ, coded_bool, coded_list}
 use Rattle.std.proofs.Common.{sym, ap, ◌∙◌}
 use mathlib.Core.HLevel.{is_prop→PathP}
