@@ -7,6 +7,3 @@ pub returns-in_err-read-clause-answered : goal.returns-in_err-read-clause-answer
 returns-in_err-read-clause-answered c =
     let p = err_from_is_err_and c.from_residual.result c.from_residual.ensures.1 in
     rw (p.1, p.2) (search (rules, readings, c.in_err-read.ensures.read_as))
-
-pub deliver_sheet-requires : goal.deliver_sheet-requires
-deliver_sheet-requires c = let a = c.in_ok-read.ensures.read_as in search (rules, readings)

@@ -1,5 +1,4 @@
 use Rattle.std.proofs.Common.{refl, rules, arith}
-use Rattle.std.proofs.lemmas.Result.{err_from_is_err_and}
 use Rattle.run.proofs.unit.run_unit.Goals as goal
 use Rattle.run.proofs.Laws.Start.{begins, begun_standing}
 use Rattle.run.proofs.Laws.Loop.{loops, looping_start, looping_more}
@@ -24,11 +23,6 @@ loop-next-init c =
       refl,
       refl,
     )
-
-pub returns-in_err-next-clause-run_of : goal.returns-in_err-next-clause-run_of
-returns-in_err-next-clause-run_of c =
-    let p = err_from_is_err_and c.from_residual.result c.from_residual.ensures.1 in
-    rw (p.1, p.2) (search (rules, loops, c.in_err-next.ensures.turned_of))
 
 -- src/unit.rt:46:5
 pub loop-next-smaller : goal.loop-next-smaller
