@@ -11,6 +11,7 @@ pub fn read_input(from: &mut impl Read, bytes: &mut [u8]) -> io::Result<usize>
     ensures { IfOk result (λ n. IsPrefixLen n bytes.new) }
 {
     let mut n: usize = 0;
+    // Stays: a read says how many bytes it gave, so that there is no range to go over.
     while n < bytes.len() {
         let more = from.read(&mut bytes[n..])?;
         if more == 0 {

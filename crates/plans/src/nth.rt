@@ -94,7 +94,7 @@ pub fn decide_nth(g: &Ruled, to: usize, past: bool, nth: u32, work: &mut [u8]) -
 }
 
 // A number as one of 32 bits; a larger one is told as the largest.
-// Stays: what it gives is the definition's `capped`, under the same name.
+// Stays: six numbers are told so, and `u32::try_from(n).unwrap_or(u32::MAX)` in each of the six places would be no plainer.
 pub fn capped(n: usize) -> u32
     ensures { result ≡ capped n }
 {

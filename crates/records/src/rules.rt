@@ -76,6 +76,7 @@ pub fn read_rules(s: &[u8], end: usize) -> Option<Rules>
     let lent = Records { bytes: s, end };
     let mut rules = Rules::empty();
     let mut at: usize = 0;
+    // Stays: each rule says where the next one begins, and the end of all of them ends the loop.
     while at != end {
         let n = rules.n;
         if n == Rules::LIMIT {

@@ -9,8 +9,8 @@ use crate::numbers::Kind;
 use crate::sheet::Sheet;
 use crate::words::word;
 
-// That a record is found at a place is a clause, here and in all that walks.
-// Stays: that fact is a clause and no ghost field. A walk goes from place to place, so each call would make a value of sheet, depth and
+// That a record is found at a place, and what its head is, are clauses, here and in all that walks.
+// Stays: these are no ghost fields. A walk goes from place to place, so each call would make a value of sheet, depth and
 // place, and show of it what it shows for the clause.
 
 // Where an element's payload begins, and its kind.
