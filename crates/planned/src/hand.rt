@@ -71,7 +71,7 @@ fn push_absent(work: &mut [u8], l: Sizes, x: Listed, index: usize) -> Sizes
     let ne = x.ne - 1;
     let r = taller(l, ne, x.no);
     copy_without(work, x.e, r.tope, x.ne, index);
-    finish(work, x.slot, x.origin, ne, x.no, x.o, r.topa, r.topo);
+    finish(work, Listed { ne, ..x }, r.topa, r.topo);
     r
 }
 

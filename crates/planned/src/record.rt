@@ -10,6 +10,8 @@ use crate::halves::{half, move_halves, put_half};
 use crate::list::{Listed, Sizes};
 
 // The record whose head is the a-th, with its elements and options from two places on.
+// Stays: where a record comes is three numbers. They are an end of the list (`Sizes`), a position in it (`Cursor`) or the top that is
+// made, and each caller has them as fields of another type.
 pub fn record_at(work: &[u8], a: usize, e: usize, o: usize) -> Listed
     requires { RecordRoom work.now a e o }
     ensures { RecordIs work.now a e o result }
@@ -37,22 +39,13 @@ pub fn put_head(work: &mut [u8], a: usize, slot: u16, origin: u16, ne: usize, no
     put_half(work, i + 3, no as u16);
 }
 
-// Options and head of the a-th record, behind its elements: the options that stand from a place on come from `o` on.
-pub fn finish(
-    work: &mut [u8],
-    slot: u16,
-    origin: u16,
-    ne: usize,
-    no: usize,
-    from: usize,
-    a: usize,
-    o: usize,
-)
-    requires { Finishable work.old ne no from a o }
-    ensures { Finished work.old work.new slot origin ne no from a o }
+// Options and head of a record as the a-th, behind its elements: its options, which stand from `x.o` on, come from `o` on.
+pub fn finish(work: &mut [u8], x: Listed, a: usize, o: usize)
+    requires { Finishable work.old x.ne x.no x.o a o }
+    ensures { Finished work.old work.new x.slot x.origin x.ne x.no x.o a o }
 {
-    move_halves(work, from, Sizes::FIRST_OPTION + o, no);
-    put_head(work, a, slot, origin, ne, no);
+    move_halves(work, x.o, Sizes::FIRST_OPTION + o, x.no);
+    put_head(work, a, x.slot, x.origin, x.ne, x.no);
 }
 
 // n halves, further in front, without the one at an index.
@@ -71,5 +64,5 @@ pub fn write_record(work: &mut [u8], x: Listed, a: usize, e: usize, o: usize)
     ensures { Wrote work.old work.new x a e o }
 {
     move_halves(work, x.e, e, x.ne);
-    finish(work, x.slot, x.origin, x.ne, x.no, x.o, a, o);
+    finish(work, x, a, o);
 }
