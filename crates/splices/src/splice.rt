@@ -139,7 +139,7 @@ fn put_all(
 }
 
 // How many alternatives, elements and options a splice comes to.
-#[derive(Clone, Copy, Debug, PartialEq, Eq)]
+#[derive(Clone, Copy, Debug, Default, PartialEq, Eq)]
 pub struct Size {
     pub a: usize,
     pub e: usize,

@@ -129,7 +129,7 @@ pub fn splice_size(
     requires found_rule { FoundRule (text s.now) s.now.end at × (at + 4 ≤ s.now.end) }
     ensures { RuleSized (text s.now) s.now.end inner_depth at work.now h quiet result }
 {
-    let mut z = Size { a: 0, e: 0, o: 0 };
+    let mut z = Size::default();
     let n = word(s.bytes, at + 3);
     let mut p = at + 4;
     for _ in 0..n {

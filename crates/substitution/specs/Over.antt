@@ -4,7 +4,7 @@ use Rattle.grammar.specs.Tree.{Alternative, inner_depth}
 use Rattle.grammar.specs.Found.{AlternativeSpans}
 use Rattle.reference.specs.Substitute.{Decided, decided, Planned}
 use Rattle.reference.specs.Substitute as R
-use Rattle.reference.specs.Plan.{as_it_is}
+use Rattle.reference.specs.Plan.{as_it_is, as_they_are}
 use Rattle.analysis.specs.Facts.{Among}
 use Rattle.hub.specs.Grounds.{rules_of}
 use Rattle.planned.specs.Layout.{meaning}
@@ -16,11 +16,10 @@ use Rattle.steps.specs.Decide.{DeclinedBy}
 use Rattle.steps.specs.Step.{step_by}
 use Rattle.substitution.specs.Size.{RuleCounted}
 use Rattle.turns.specs.Ground.{Ground, task_of}
-use Rattle.turns.specs.Turns.{Task, Replaced, IsSettled}
-use Rattle.substitution.specs.Run.{MadeOf}
+use Rattle.turns.specs.Turns.{Task, Replaced, IsSettled, substitution}
+use Rattle.substitution.specs.Run.{MadeTo}
 use Rattle.steps.specs.declared.cycle.Cycle.{Cycle}
 use Rattle.steps.specs.declared.corner.Place.{Place}
-use Rattle.turns.specs.declared.limits.Limits.{Limits}
 use Rattle.steps.specs.declared.decide.Clause.{Clause}
 use Rattle.steps.specs.declared.decide.Clause.TheVariants.{Budget}
 use Rattle.turns.specs.declared.turn.Unplanned.{Unplanned}
@@ -29,7 +28,7 @@ use Rattle.substitution.specs.declared.turning.Done.{Done}
 
 -- The hub's own list has too many alternatives or options. It cannot have too many elements where so many may be as a sheet
 -- has words.
-pub record HubBeyond (ws : List ℕ) (end : ℕ) (places : List ℕ) (c : Cycle) (limits : Limits) : Type 0 where
+pub record HubBeyond (ws : List ℕ) (end : ℕ) (places : List ℕ) (c : Cycle) (limits : R.Limits) : Type 0 where
   pub size : Size
   pub counted : RuleCounted ws end (get_or places c.hub 0) size
   pub beyond : (limits.alternatives < size.a) ⊎ (limits.options < size.o)
@@ -89,4 +88,6 @@ module _ (ws : List ℕ) (end : ℕ) (names places : List ℕ) (c : Cycle) (left
 
   -- The whole, by any limits that the hub's own list is beyond.
   pub record Unstored (bs : List ℕ) (r : Result (Option Done) Unplanned) : Type 0 where
-    pub is : (limits : Limits) → HubBeyond ws end places c limits → MadeOf ws end names places c limits left bs r
+    pub is : (limits : R.Limits) → HubBeyond ws end places c limits → (b : Ground ws end names places c)
+        → (a : Among (rules_of ws end b.rules b.standing) c.hub)
+        → MadeTo ws end bs (substitution (task_of b limits) left 0 (as_they_are a.rule.body)) r

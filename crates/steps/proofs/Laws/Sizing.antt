@@ -107,6 +107,10 @@ many_low d (a ∷ as') s =
     let t = many_low d as' f.2 in
     omega arith
 
+-- A size that is 0 in each count is the size of no alternatives.
+pub no_size_is : {z : Size} → z.a ≡ 0 → z.e ≡ 0 → z.o ≡ 0 → z ≡ record { a = 0; e = 0; o = 0 }
+no_size_is p q r i = record { a = p i; e = q i; o = r i }
+
 module _ (ws : List ℕ) (end d : ℕ) (bs : List ℕ) (h : Listed) (quiet : Bool) where
   -- A loop over n alternatives, of which i are done.
   pub record Sizing (n at i p : ℕ) (z : Size) : Type 0 where
@@ -122,11 +126,11 @@ module _ (ws : List ℕ) (end d : ℕ) (bs : List ℕ) (h : Listed) (quiet : Boo
   none_done : (n : ℕ) → n - 0 ≡ n
   none_done n = omega arith
 
-  pub sizing_all : {n at : ℕ} → FoundAlternatives ws end d n at → at ≤ end → end ≤ most_words
-      → Sizing n at 0 at (record { a = 0; e = 0; o = 0 })
-  sizing_all {n} f l small =
+  pub sizing_all : {n at : ℕ} {z : Size} → FoundAlternatives ws end d n at → at ≤ end → end ≤ most_words
+      → z.a ≡ 0 → z.e ≡ 0 → z.o ≡ 0 → Sizing n at 0 at z
+  sizing_all {n} f l small x y v =
       record {
-        rest = λ r s. rw (none_done n) at s;
+        rest = λ r s. rw (none_done n, no_size_is x y v) at s;
         found = rw (none_done n) f;
         within = l;
         few =

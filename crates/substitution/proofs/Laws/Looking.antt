@@ -144,7 +144,7 @@ module _ {ws : List ℕ} {end : ℕ} {places : List ℕ} {c : Cycle} (s : RulesS
         }
 
 -- The limits, by the rule that stands there.
-beyond_hub : {ws : List ℕ} {end : ℕ} {names places : List ℕ} {c : Cycle} {limits : Limits} (b : Ground ws end names places c)
+beyond_hub : {ws : List ℕ} {end : ℕ} {names places : List ℕ} {c : Cycle} {limits : R.Limits} (b : Ground ws end names places c)
     → HubBeyond ws end places c limits → (a : Among (rules_of ws end b.rules b.standing) c.hub)
     → (limits.alternatives < length (as_they_are a.rule.body)) ⊎ (limits.options < options_all (as_they_are a.rule.body))
 beyond_hub b h a =
@@ -158,10 +158,7 @@ module _ {ws : List ℕ} {end : ℕ} {names places : List ℕ} {c : Cycle} {left
   left_none l = omega arith
 
   pub looking_idle : n ≤ i → Unstored ws end names places c left before (Ok None)
-  looking_idle e =
-      record {
-        is = λ limits h. record { is = λ b a. behind_none g.found.trees (g.found.count ∙ left_none e) (g.so b (limits_of limits) a) };
-      }
+  looking_idle e = record { is = λ limits h b a. behind_none g.found.trees (g.found.count ∙ left_none e) (g.so b limits a) }
 
   module _ (less : i < n) where
     some : n - i ≡ 0 → ⊥
@@ -195,12 +192,9 @@ module _ {ws : List ℕ} {end : ℕ} {names places : List ℕ} {c : Cycle} {left
       pub looking_ends : {m : Unplanned} → k ≡ Err m → Unstored ws end names places c left after (Err m)
       looking_ends {m} e =
           record {
-            is = λ limits h.
-                record {
-                  is = λ b a.
-                      behind_ends ahead.first ahead.more (now_at b (limits_of limits) a) m
-                      (rw e at (w.is b (limits_of limits) ahead.first ahead.next ahead.spans)) (beyond_hub b h a);
-                };
+            is = λ limits h b a.
+                behind_ends ahead.first ahead.more (now_at b limits a) m
+                (rw e at (w.is b limits ahead.first ahead.next ahead.spans)) (beyond_hub b h a);
           }
 
       pub looking_more : {there : ℕ} {u : Unit {0}} → k ≡ Ok u → AlternativeWalked skipping ws end inner_depth p tt there tt
@@ -230,21 +224,22 @@ pub ruleset hubs = (hub_in, hub_room)
 pub ruleset looking = (looking_all, looking_idle, looking_found, looking_ends, looking_more, looking_long)
 
 -- For the caller: the hub's own list is beyond the limits, and so what was made is the definition's.
-pub hub_beyond : {ws : List ℕ} {end : ℕ} {places : List ℕ} {c : Cycle} {limits : Limits} {at : ℕ} {z : Size} {r : Bool} → RuleCounted ws end at z
-    → at ≡ get_or places c.hub 0 → r ≡ within_limits limits z → r ≡ false → most_words ≤ limits.elements → HubBeyond ws end places c limits
-hub_beyond {ws} {end} {places} {c} {limits} {at} {z} k e f g l =
-    record { size = z; counted = rw e at k; beyond = which (leb z.a limits.alternatives) refl (sym f ∙ g) }
-  where
-    which : (x : Bool) → leb z.a limits.alternatives ≡ x → (x && (leb z.e limits.elements && leb z.o limits.options)) ≡ false
-        → (limits.alternatives < z.a) ⊎ (limits.options < z.o)
-    which false x h = inl (leb-false z.a limits.alternatives x)
-    which true x h =
-        inr
-        (leb-false z.o limits.options
-        (rw (le-leb z.e limits.elements (let m = k.few in omega arith)) at h))
+module _ {ws : List ℕ} {end : ℕ} {places : List ℕ} {c : Cycle} {at : ℕ} {z : Size} {x : Bool} where
+  hub_beyond : (limits : Limits) → RuleCounted ws end at z → at ≡ get_or places c.hub 0 → x ≡ within_limits limits z → x ≡ false
+      → most_words ≤ limits.elements → HubBeyond ws end places c (limits_of limits)
+  hub_beyond limits k e f g l = record { size = z; counted = rw e at k; beyond = which (leb z.a limits.alternatives) refl (sym f ∙ g) }
+    where
+      which : (y : Bool) → leb z.a limits.alternatives ≡ y → (y && (leb z.e limits.elements && leb z.o limits.options)) ≡ false
+          → (limits.alternatives < z.a) ⊎ (limits.options < z.o)
+      which false y h = inl (leb-false z.a limits.alternatives y)
+      which true y h =
+          inr
+          (leb-false z.o limits.options
+          (rw (le-leb z.e limits.elements (let m = k.few in omega arith)) at h))
 
-pub unstored_made : {ws : List ℕ} {end : ℕ} {names places : List ℕ} {c : Cycle} {left : ℕ} {bs : List ℕ} {r : Result (Option Done) Unplanned} {limits : Limits}
-    → Unstored ws end names places c left bs r → HubBeyond ws end places c limits → MadeOf ws end names places c limits left bs r
-unstored_made {limits = limits} u h = u.is limits h
+  pub unstored_made : {names : List ℕ} {limits : Limits} {left : ℕ} {bs : List ℕ} {r : Result (Option Done) Unplanned}
+      → Unstored ws end names places c left bs r → RuleCounted ws end at z → at ≡ get_or places c.hub 0 → x ≡ within_limits limits z
+      → x ≡ false → most_words ≤ limits.elements → MadeOf ws end names places c limits left bs r
+  unstored_made {limits = limits} u k e f g l = record { is = u.is (limits_of limits) (hub_beyond limits k e f g l) }
 
-pub ruleset unstored = (hub_beyond, unstored_made)
+pub ruleset unstored = (unstored_made)

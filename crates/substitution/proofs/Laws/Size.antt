@@ -18,6 +18,7 @@ use Rattle.grammar.specs.Laws.Opened.{Opened, opened_leaf, opened_block, opened,
 use Rattle.reference.specs.Plan.{as_it_is, as_they_are}
 use Rattle.ends.specs.Ends.{skipping}
 use Rattle.splices.specs.declared.splice.Size.{Size}
+use Rattle.steps.proofs.Laws.Sizing.{no_size_is}
 use Rattle.steps.specs.Decide.{SmallSize, IsCounted}
 use Rattle.substitution.specs.Size.{CountedTo, ManyCounted, RuleCounted}
 
@@ -76,10 +77,16 @@ pub record Counting (ws : List ℕ) (end d n at i p : ℕ) (z : Size) : Type 0 w
 none_done : (n : ℕ) → n - 0 ≡ n
 none_done n = omega arith
 
-pub counting_all : (d : ℕ) {ws : List ℕ} {end n at : ℕ} → FoundAlternatives ws end d n at → at ≤ end → end ≤ most_words
-    → Counting ws end d n at 0 at (record { a = 0; e = 0; o = 0 })
-counting_all d {n = n} f l small =
-    record { rest = λ r s. rw (none_done n) at s; found = rw (none_done n) f; within = l; few = omega arith; low = small }
+pub counting_all : (d : ℕ) {ws : List ℕ} {end n at : ℕ} {z : Size} → FoundAlternatives ws end d n at → at ≤ end → end ≤ most_words
+    → z.a ≡ 0 → z.e ≡ 0 → z.o ≡ 0 → Counting ws end d n at 0 at z
+counting_all d {n = n} f l small x y v =
+    record {
+      rest = λ r s. rw (none_done n, no_size_is x y v) at s;
+      found = rw (none_done n) f;
+      within = l;
+      few = omega arith;
+      low = small;
+    }
 
 module _ {ws : List ℕ} {end d n at i p : ℕ} {z : Size} (g : Counting ws end d n at i p z) where
   pub counting_small : SmallSize z

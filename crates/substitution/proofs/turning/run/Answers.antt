@@ -23,3 +23,6 @@ stored-requires-clause-shut c =
 pub stored-requires-clause-going : goal.stored-requires-clause-going
 stored-requires-clause-going c =
     let z = rw c.most.ensures at c.is_within.ensures in search (rules, beginning, unstored, begun_ready, begun_going)
+
+pub returns : goal.returns
+returns c = let z = rw c.most.ensures at c.is_within.ensures in search (rules, unstored)
