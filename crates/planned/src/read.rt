@@ -21,7 +21,7 @@ pub fn item(work: &[u8], x: Listed, i: usize) -> Item
 }
 
 // A position among the settled alternatives.
-#[derive(Clone, Copy, Debug, PartialEq, Eq)]
+#[derive(Clone, Copy, Debug, Default, PartialEq, Eq)]
 pub struct Cursor {
     pub a: usize,
     pub e: usize,
@@ -32,7 +32,7 @@ impl Cursor {
     pub fn front() -> Cursor
         ensures { AtFront result }
     {
-        Cursor { a: 0, e: 0, o: 0 }
+        Cursor::default()
     }
 }
 

@@ -10,8 +10,8 @@ use crate::halves::{half, move_halves, put_half};
 use crate::list::{Listed, Sizes};
 
 // The record whose head is the a-th, with its elements and options from two places on.
-// Stays: where a record comes is three numbers. They are the ends of a list (`Sizes`, which has three of them) or a position in it
-// (`Cursor`), and each caller has them as other fields.
+// Stays: where a record comes is three numbers. `read_settled` has them as a `Cursor`; `take_top`, `settle` and the splits have them as
+// an end of a list, three of the six fields of `Sizes`, out of which each would make a value for this one call.
 pub fn record_at(work: &[u8], a: usize, e: usize, o: usize) -> Listed
     requires { RecordRoom work.now a e o }
     ensures { RecordIs work.now a e o result }

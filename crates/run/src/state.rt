@@ -6,7 +6,7 @@ use apply::apply::Applied;
 use plan::ground::Ground;
 
 // How many entries the trail has.
-#[derive(Clone, Copy, Debug, PartialEq, Eq)]
+#[derive(Clone, Copy, Debug, Default, PartialEq, Eq)]
 pub struct Trail {
     pub entries: usize,
 }
@@ -15,7 +15,7 @@ impl Trail {
     pub fn empty() -> Trail
         ensures { result.entries ≡ 0 }
     {
-        Trail { entries: 0 }
+        Trail::default()
     }
 }
 

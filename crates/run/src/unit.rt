@@ -46,7 +46,7 @@ pub fn run_unit(
     };
     let ground = find_out(&g, before.to, past, &mut rows, work);
     let mut st = State::begin(before, ground);
-    // Stays: the turns have no number that anything reads. A turn says whether there is another.
+    // Stays: how many turns there are is known only when one finds no plan. A turn says whether there is another.
     while let Some(next) = take_turn(res, trail, work, &mut rows, limits, past, room, st)? {
         st = next;
     }

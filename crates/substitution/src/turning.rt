@@ -62,7 +62,7 @@ fn stored(
         budget work.new result }
 {
     let mut st = first;
-    // Stays: the turns have no number that anything reads. They end when nothing is left to look at.
+    // Stays: how many turns there are is known only at the end, when nothing is left to look at.
     while has_next(st) {
         st = take_turn(task, work, st)?;
     }
