@@ -1,5 +1,6 @@
 -- The rules of a sheet as the reader's arrays hold them.
-use Rattle.std.specs.Prelude.{ℕ, ◌+◌, ◌-◌, ◌≤◌, ◌≡◌, List, [], ◌∷◌, ◌++◌, length, set, replicate, Bool, true, false, Option, Some, is_some}
+use Rattle.std.specs.Prelude.{ℕ, ◌+◌, ◌-◌, ◌≤◌, ◌≡◌}
+use Rattle.std.specs.Prelude.{List, [], ◌∷◌, ◌++◌, length, set, replicate, Bool, true, false, Option, Some, is_some}
 use Rattle.grammar.specs.Tree.{Rule, body_depth}
 use Rattle.grammar.specs.Encode.{encode_rule, encode_block}
 use Rattle.grammar.specs.Numbers.{rule_limit}

@@ -1,7 +1,7 @@
 -- The loop over plans (SPECIFICATION 5), with refusals 7 to 9 in the order in which they are met, and the whole outcome of
 -- a call (3, 4).
-use Rattle.std.specs.Prelude.{ℕ, zero, suc, ◌+◌, ◌-◌, ◌*◌, List, [], ◌∷◌, ◌++◌, map, Bool, true, false, ◌&&◌, length, replicate, leb, ltb}
-use Rattle.std.specs.Prelude.{eqb}
+use Rattle.std.specs.Prelude.{ℕ, zero, suc, ◌+◌, ◌-◌, ◌*◌}
+use Rattle.std.specs.Prelude.{List, [], ◌∷◌, ◌++◌, map, Bool, true, false, ◌&&◌, length, replicate, leb, ltb, eqb}
 pub use Rattle.grammar.specs.Tree.{inner_depth}
 use Rattle.grammar.specs.Tree.{Rule, body_depth, Counters, Sheet}
 use Rattle.grammar.specs.Numbers.{most_words, parser, result_bytes, trail_bytes, work_bytes, bad_length, short_buffer, plan_too_large}

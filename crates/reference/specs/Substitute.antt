@@ -1,6 +1,6 @@
 -- The planner's answers and limits, and the substitution, one alternative after the other (SPECIFICATION 8).
-use Rattle.std.specs.Prelude.{ℕ, zero, suc, ◌*◌, max, List, [], ◌∷◌, ◌++◌, map, Bool, true, false, ◌&&◌, ◌||◌, not, length, take, drop, leb}
-use Rattle.std.specs.Prelude.{eqb}
+use Rattle.std.specs.Prelude.{ℕ, zero, suc, ◌*◌, max}
+use Rattle.std.specs.Prelude.{List, [], ◌∷◌, ◌++◌, map, Bool, true, false, ◌&&◌, ◌||◌, not, length, take, drop, leb, eqb}
 use Rattle.std.proofs.Math.Option.{Option, none, some}
 use Rattle.grammar.specs.Tree.{OptionDecl, ElementHead, Call, Element, leaf, block, AlternativeOf, Block, RuleOf, with_quantifier}
 use Rattle.grammar.specs.Lists.{member, nothing, keep, first, total, meet}

@@ -1,5 +1,6 @@
 -- How an option meets others: by the first of its name.
-use Rattle.std.specs.Prelude.{ℕ, zero, suc, ◌+◌, ◌-◌, ◌*◌, ◌<◌, ◌≤◌, ◌≡◌, List, [], ◌∷◌, Bool, true, false, length, get_or, drop, eqb}
+use Rattle.std.specs.Prelude.{ℕ, zero, suc, ◌+◌, ◌-◌, ◌*◌, ◌<◌, ◌≤◌, ◌≡◌}
+use Rattle.std.specs.Prelude.{List, [], ◌∷◌, Bool, true, false, length, get_or, drop, eqb}
 use Rattle.std.proofs.Math.Option.{Option, none, some}
 use Rattle.grammar.specs.Tree.{OptionDecl, Block, AlternativeOf}
 use Rattle.grammar.specs.Lists.{first}

@@ -1,5 +1,6 @@
 -- What is decided of a step before anything is written: a decline and its clause, or what would be pushed.
-use Rattle.std.specs.Prelude.{ℕ, suc, ◌+◌, ◌<◌, ◌≤◌, ◌^◌, ◌≡◌, List, [], ◌++◌, map, Bool, true, false, length, take, drop, Result, Ok, Err}
+use Rattle.std.specs.Prelude.{ℕ, suc, ◌+◌, ◌<◌, ◌≤◌, ◌^◌, ◌≡◌}
+use Rattle.std.specs.Prelude.{List, [], ◌++◌, map, Bool, true, false, length, take, drop, Result, Ok, Err}
 use Rattle.grammar.specs.Tree.{OptionDecl, Element, Block, AlternativeOf, RuleOf}
 use Rattle.grammar.specs.Lists.{total, each, all, AllOf}
 use Rattle.grammar.specs.Stands.{Spans}

@@ -10,8 +10,8 @@ use crate::sheet::Sheet;
 use crate::words::word;
 
 // That a record is found at a place, and what its head is, are clauses, here and in all that walks.
-// Stays: these are no ghost fields. A walk goes from place to place, so each call would make a value of sheet, depth and
-// place, and show of it what it shows for the clause.
+// Stays: these are no ghost fields. A walk goes from place to place, so each call would make a value of sheet, place and
+// depth or head, and show of it what it shows for the clause.
 
 // Where an element's payload begins, and its kind.
 #[derive(Clone, Copy, Debug, PartialEq, Eq)]
