@@ -1,4 +1,4 @@
--- Names up to a number (SPECIFICATION 2.15, 4.4): the test of a tree with another test of a name.
+-- Names up to a number (SPECIFICATION 1.18, 2.15, 4.4): the test of a tree with another test of a name.
 use Rattle.std.specs.Prelude.{ℕ, zero, suc, ◌≤◌, ◌≡◌, List, Bool, true, ◌&&◌, length, leb}
 use Rattle.grammar.specs.Numbers.{rule_limit, most_name, one_or_more_nongreedy, non_local, most_rule_flags, most_alternative_flag}
 use Rattle.grammar.specs.Lists.{all, rising}
