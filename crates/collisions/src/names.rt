@@ -13,7 +13,7 @@ use words::words::word;
 
 // A sheet, and a work area that has places of it in the order of their names.
 // Stays: who puts names or walks asks for that order in a clause. A walk hands its visitor the sheet at each step, and the planned
-// list, which is read between two names, stands in the same area; so this value is made for one look.
+// list, which is read between two names, stands in the same area; so this value is made where a name is looked for.
 #[derive(Clone, Copy, Debug, PartialEq, Eq)]
 pub struct Names<'a> {
     pub s: &'a Sheet<'a>,

@@ -11,8 +11,8 @@ use sheet::answer::rules_end;
 use words::sheet::Sheet;
 
 // The line of a refusal.
-// Stays: the refusal is told by its number. The line is promised for every number, and with the enum the function would ask more of its
-// callers than it did.
+// Stays: the refusal is told by its number. The line is promised for every number, and with the enum the function would ask for one of
+// nine.
 pub fn list_refused(number: u32, text: &mut [u8]) -> usize
     ensures { Filled text.old text.new result (listed_refusal number) most_text }
 {

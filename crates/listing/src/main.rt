@@ -24,6 +24,7 @@ fn fail(rt: &impl Eprint, what: &str, error: Error) {
     let _ = rt.eprintln(format_args!("{what}: {error}"));
 }
 
+// What a refusal means (SPECIFICATION 4), in one sentence.
 // Stays: these sentences are no `Display` for `Refusal`. A library of the project names nothing of std but its ops, and here the trait
 // asks for one more type around the refusal, while they are told in one place.
 fn meaning(refusal: Refusal) -> &'static str {
