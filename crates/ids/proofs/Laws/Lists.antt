@@ -13,6 +13,7 @@ use Rattle.std.specs.Cmp.{first_so, second_so}
 use Rattle.std.proofs.lemmas.Bool.{or_right}
 use Rattle.grammar.specs.Words.{words, word_of}
 use Rattle.grammar.specs.Lists.{rising, member, distinct}
+use Rattle.grammar.specs.Laws.Parse.{never}
 use Rattle.grammar.specs.Laws.Words.{length_words, four}
 use Rattle.ids.specs.Distinct.{Injective, Judged}
 
@@ -96,7 +97,7 @@ member_at y (x ∷ ys) (suc j) h e = or_right (eqb y x) (member y ys) (member_at
 
 member_place : (y : ℕ) (ys : List ℕ) → member y ys ≡ true → (j : ℕ) × (j < length ys) × (get_or ys j 0 ≡ y)
 unfolding member
-member_place y [] e = absurd (let z : ◌≡◌ {A = ℕ} 0 1 = cc in omega arith)
+member_place y [] e = never cc
 member_place y (x ∷ ys) e = go (eqb y x) refl (member_place y ys)
   where
     go : (b : Bool) → eqb y x ≡ b → (member y ys ≡ true → (j : ℕ) × (j < length ys) × (get_or ys j 0 ≡ y))
@@ -133,7 +134,7 @@ unfolding distinct
 distinct_head y ys e = go (member y ys) refl
   where
     go : (b : Bool) → member y ys ≡ b → (member y ys ≡ false) × (distinct ys ≡ true)
-    go true t = absurd (let f : false ≡ true = rw t at e in let z : ◌≡◌ {A = ℕ} 0 1 = cc in omega arith)
+    go true t = never (let f : false ≡ true = rw t at e in cc)
     go false t = (t, rw t at e)
 
 distinct_apart : (ys : List ℕ) → distinct ys ≡ true → Apart ys
@@ -147,7 +148,7 @@ distinct_apart (y ∷ ys) d zero (suc j) ai ib aj jb e =
     let z : ◌≡◌ {A = ℕ} 0 1 = cc in
     omega arith)
 distinct_apart (y ∷ ys) d (suc i) zero ai ib aj jb e =
-    absurd (let m = member_at y ys i (omega arith) e in let n = (distinct_head y ys d).0 in let z : ◌≡◌ {A = ℕ} 0 1 = cc in omega arith)
+    never (let m = member_at y ys i (omega arith) e in let n = (distinct_head y ys d).0 in cc)
 distinct_apart (y ∷ ys) d (suc i) (suc j) ai ib aj jb e =
     ap suc (distinct_apart ys (distinct_head y ys d).1 i j (omega arith) (omega arith) (omega arith) (omega arith) e)
 
