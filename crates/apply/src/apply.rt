@@ -57,9 +57,9 @@ fn words_after(s: &Sheet, to: usize, rules: Rules, p: Plan, work: &[u8], m: Meas
 }
 
 // The new sheet of n words, composed and copied; the trail has so many entries then.
-// Stays: result, trail and work area are three parameters, here and in `run`. Tried was a struct of them that is lent, with clauses as
-// `Drawing` has. Two fields of it are wanted at once here, in `apply` and in `take_turn`, which Rattle's borrow checker does not cover
-// behind a reference, so no proof was made. By value, callers that go on with the buffers would take it apart and make it anew.
+// Stays: result, trail and work area are three parameters, here, in `run` and in `pass`. Tried was a struct of them that is lent, with
+// clauses as `Drawing` has. Two fields of it are wanted at once here, in `apply` and in `take_turn`, which Rattle's borrow checker does
+// not cover behind a reference, so no proof was made. By value, callers that go on with the buffers would take it apart and make it anew.
 fn put(
     res: &mut [u8],
     trail: &mut [u8],

@@ -14,7 +14,8 @@ use words::numbers::{Block, RuleFlags};
 use words::words::word;
 
 // One row of each array for each rule, zeros behind; a place is counted in words.
-// Stays: SPECIFICATION 17.5 has three arrays and their number. That they are the rules of a sheet is a fact of both, and none of theirs.
+// Stays: SPECIFICATION 17.5 has three arrays and their number. That they are the rules of a sheet is a fact of rules
+// and sheet, and so a field of `Ruled` (analysis).
 #[derive(Clone, Copy, Debug, PartialEq, Eq)]
 pub struct Rules {
     pub ids: [u32; 128],
