@@ -1,4 +1,4 @@
--- The numbers of the reasons that entries of the trail tell (SPECIFICATION 12.1), and what taking an id of a sort gives.
+-- The numbers of the reasons that entries of the trail tell (SPECIFICATION 12.1), and the counter of a sort.
 use Rattle.std.specs.Prelude.{ℕ}
 use Rattle.reference.specs.Numbers.{rule_boundary, block_boundary}
 use Rattle.writing.specs.declared.counters.Counters.{Counters}

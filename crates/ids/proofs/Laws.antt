@@ -1,7 +1,6 @@
 -- The laws that the answers cite, each in the shape of the facts that the code has at one of its returns.
-pub mod Distinct
-pub mod Apart
 pub mod Lists
+pub mod Sorted
 pub mod Ids
 pub mod Seeing
 pub mod Track

@@ -1,3 +1,3 @@
-pub mod Distinct
+pub mod Chunks
 pub mod Ids
 pub mod Survey

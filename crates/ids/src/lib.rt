@@ -1,7 +1,6 @@
 // The ids in a sheet: whether they are distinct (SPECIFICATION 4.5) and below their counters (4.6).
 #![tactic(auto)]
 
-mod distinct;
 pub mod ids;
 pub mod lists;
 pub mod survey;

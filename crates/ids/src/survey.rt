@@ -48,6 +48,8 @@ impl Track {
     }
 }
 
+// How many alternatives and elements there are, and the ids of each sort.
+// Stays: the fields are by sort, as those of `Counters` (writing), which says why.
 #[derive(Clone, Copy, Debug, PartialEq, Eq, Default)]
 pub struct Survey {
     pub alternatives: u32,

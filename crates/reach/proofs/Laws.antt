@@ -6,6 +6,7 @@ pub mod Reach
 pub mod Filled
 pub mod Trim
 pub mod Cycles
+pub mod Least
 pub mod Graph
 pub mod Listed
 pub mod Given

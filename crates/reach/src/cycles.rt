@@ -1,6 +1,6 @@
 // The cycles of a grammar, by least id (SPECIFICATION 6.7, 6.8). They are gone through so: `loops` of what is joined is left; the
 // `first` that is left names a cycle, whose members are `around` it; `minus` these, the later cycles are left.
-ghost use Rattle.std.specs.Prelude.{◌≡◌, ◌+◌, ◌<◌, ◌≤◌, length};
+ghost use Rattle.std.specs.Prelude.{◌≡◌, ◌≤◌, length};
 ghost use Rattle.grammar.specs.Numbers.{rule_limit};
 ghost use Rattle.reach.specs.Cycles.{Joined, IsNext};
 ghost use Rattle.reach.specs.Listed.{AllLeft, GivesNext, AheadOf, CyclesIn};
@@ -21,33 +21,12 @@ pub fn joined(corners: [[u64; Row::WORDS]; Row::RULES], n: usize) -> [[u64; Row:
     closed(edges, n)
 }
 
-// The better of rule i and the best in front of it.
-fn better(
-    ids: &[u32; Row::RULES],
-    left: [u64; Row::WORDS],
-    best: Option<usize>,
-    i: usize,
-) -> Option<usize>
-    requires best { IsNext ids.now left i best }
-    requires i_lt { i < rule_limit }
-    ensures { IsNext ids.now left (i + 1) result }
-{
-    if has(left, i) && best.is_none_or(|b| ids[i] < ids[b]) {
-        return Some(i);
-    }
-    best
-}
-
 // The rule with the least id in a row, or none.
 pub fn first(ids: [u32; Row::RULES], left: [u64; Row::WORDS], n: usize) -> Option<usize>
     requires { n ≤ rule_limit }
     ensures { IsNext ids left n result × GivesNext ids left n result }
 {
-    let mut best = None;
-    for i in 0..n {
-        best = better(&ids, left, best, i);
-    }
-    best
+    (0..n).filter(|&i| has(left, i)).min_by_key(|&i| ids[i])
 }
 
 // The members of a cycle and those of all behind it.

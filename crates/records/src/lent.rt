@@ -1,5 +1,7 @@
 // What is read.
-ghost use Rattle.std.specs.Prelude.{◌*◌, ◌≤◌, length};
+ghost use Rattle.std.specs.Prelude.{◌≡◌, ◌*◌, ◌≤◌, length};
+ghost use Rattle.grammar.specs.Words.{words};
+ghost use Rattle.grammar.specs.Read.{room};
 
 // A sheet's bytes, and the word at which its rules end, up to which there are bytes.
 // Stays: this is no `Sheet`, since what is read here needs no room for a trailer behind its end.
@@ -8,4 +10,13 @@ pub struct Records<'a> {
     pub bytes: &'a [u8],
     pub end: usize,
     ghost within: { 4 * end ≤ length bytes.now },
+}
+
+impl Records<'_> {
+    // n words stand between a place and the end.
+    pub fn has_room(&self, n: usize, at: usize) -> bool
+        ensures { result ≡ room (words self.now.bytes.now) self.now.end n at }
+    {
+        n <= self.end.saturating_sub(at)
+    }
 }

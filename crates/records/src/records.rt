@@ -30,7 +30,7 @@ fn named_at(s: &Records, n: usize, at: usize) -> Option<usize>
     requires { 1 ≤ n }
     ensures { result ≡ step_of (named (text s.now) s.now.end n at) }
 {
-    if s.end.saturating_sub(at) < n {
+    if !s.has_room(n, at) {
         return None;
     }
     is_name(word(s.bytes, at)).then_some(at + n)
@@ -67,7 +67,7 @@ fn options_at(s: &Records, n: u32, at: usize) -> Option<usize>
 fn reference_at(s: &Records, at: usize) -> Option<usize>
     ensures { result ≡ step_of (reference_at (text s.now) s.now.end at) }
 {
-    if s.end.saturating_sub(at) < 2 {
+    if !s.has_room(2, at) {
         return None;
     }
     if ReferenceKind::try_from(word(s.bytes, at)).is_err() {
@@ -90,7 +90,7 @@ fn references_at(s: &Records, n: u32, at: usize) -> Option<usize>
 fn body_at(s: &Records, at: usize) -> Option<usize>
     ensures { result ≡ step_of (body_at (text s.now) s.now.end action_of at) }
 {
-    if s.end.saturating_sub(at) < 2 {
+    if !s.has_room(2, at) {
         return None;
     }
     references_at(s, word(s.bytes, at + 1), at + 2)
@@ -164,7 +164,7 @@ fn payload_at(s: &Records, depth: u32, kind: Kind, at: usize) -> Option<usize>
 fn element_at(s: &Records, depth: u32, at: usize) -> Option<usize>
     ensures { result ≡ step_of (element_at (text s.now) s.now.end (block_at (text s.now) s.now.end depth) at) }
 {
-    if s.end.saturating_sub(at) < 6 {
+    if !s.has_room(6, at) {
         return None;
     }
     let kind = Kind::try_from(word(s.bytes, at + 2) % Kind::END).ok()?;
@@ -190,7 +190,7 @@ fn elements_at(s: &Records, depth: u32, n: u32, at: usize) -> Option<usize>
 fn alternative_at(s: &Records, depth: u32, at: usize) -> Option<usize>
     ensures { result ≡ step_of (alternative_at (text s.now) s.now.end (block_at (text s.now) s.now.end depth) at) }
 {
-    if s.end.saturating_sub(at) < 5 {
+    if !s.has_room(5, at) {
         return None;
     }
     if AlternativeFlag::MOST < word(s.bytes, at + 2) {
@@ -221,7 +221,7 @@ pub fn block_at(s: &Records, depth: u32, at: usize) -> Option<usize>
     if depth == 0 {
         return None;
     }
-    if s.end.saturating_sub(at) < 1 {
+    if !s.has_room(1, at) {
         return None;
     }
     alternatives_at(s, depth - 1, word(s.bytes, at), at + 1)

@@ -14,7 +14,8 @@ use words::numbers::{Block, RuleFlags};
 use words::words::word;
 
 // One row of each array for each rule, zeros behind; a place is counted in words.
-// Stays: SPECIFICATION 17.5 has three arrays and their number. That they are the rules of a sheet is a fact of both, and none of theirs.
+// Stays: SPECIFICATION 17.5 has three arrays and their number. That they are the rules of a sheet is a fact of rules
+// and sheet, and so a field of `Ruled` (analysis).
 #[derive(Clone, Copy, Debug, PartialEq, Eq)]
 pub struct Rules {
     pub ids: [u32; 128],
@@ -55,7 +56,7 @@ pub fn add(rules: &mut Rules, id: u32, name: u32, place: u32)
 fn rule_at(s: &Records, at: usize) -> Option<usize>
     ensures { result ≡ step_of (rule_at (text s.now) s.now.end (block_at (text s.now) s.now.end body_depth) at) }
 {
-    if s.end.saturating_sub(at) < 3 {
+    if !s.has_room(3, at) {
         return None;
     }
     if RuleFlags::MOST < word(s.bytes, at + 2) {
@@ -80,9 +81,6 @@ pub fn read_rules(s: &[u8], end: usize) -> Option<Rules>
     while at != end {
         let n = rules.n;
         if n == Rules::LIMIT {
-            return None;
-        }
-        if end.saturating_sub(at) < 3 {
             return None;
         }
         let p = rule_at(&lent, at)?;

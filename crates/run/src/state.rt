@@ -6,6 +6,7 @@ use apply::apply::Applied;
 use plan::ground::Ground;
 
 // How many entries the trail has.
+// Stays: SPECIFICATION 17.4 has the empty trail as a constructor of its type, though a run begins with its number alone.
 #[derive(Clone, Copy, Debug, Default, PartialEq, Eq)]
 pub struct Trail {
     pub entries: usize,

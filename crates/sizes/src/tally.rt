@@ -16,6 +16,7 @@ use words::walk::Head;
 use words::words::word;
 
 // How many ids of each sort.
+// Stays: the fields are by sort, as those of `Counters` (writing), which says why.
 #[derive(Clone, Copy, Debug, Default, PartialEq, Eq)]
 pub struct Tally {
     pub alternatives: usize,

@@ -4,6 +4,8 @@ ghost use Rattle.writing.specs.Taken.{following, Took};
 
 use words::numbers::Sort;
 
+// Stays: SPECIFICATION 17.3 has a struct of the five counters, and the definition's has these names. A type that is generic in what it
+// has of each sort, for `Tally` and `Measure` (sizes) and `Survey` (ids) too, would be opened by each law that sets them beside these.
 #[derive(Clone, Copy, Debug, PartialEq, Eq)]
 pub struct Counters {
     pub alternative: u32,
@@ -22,7 +24,7 @@ pub struct Taken {
 
 // A fresh id: the counter, which becomes the number behind it. Behind the last there is none, and a counter stays there: who hands
 // out ids sees to it that it is not reached (SPECIFICATION 4.8).
-fn moved_on(counter: &mut u32) -> u32
+fn take_from(counter: &mut u32) -> u32
     ensures { (result ≡ counter.old) × (counter.new ≡ following counter.old) }
 {
     let id = *counter;
@@ -36,11 +38,11 @@ impl Counters {
         ensures { Took sort self result.id result.counters }
     {
         let id = match sort {
-            Sort::Alternative => moved_on(&mut self.alternative),
-            Sort::Element => moved_on(&mut self.element),
-            Sort::Label => moved_on(&mut self.label),
-            Sort::Action => moved_on(&mut self.action),
-            Sort::Predicate => moved_on(&mut self.predicate),
+            Sort::Alternative => take_from(&mut self.alternative),
+            Sort::Element => take_from(&mut self.element),
+            Sort::Label => take_from(&mut self.label),
+            Sort::Action => take_from(&mut self.action),
+            Sort::Predicate => take_from(&mut self.predicate),
         };
         Taken { id, counters: self }
     }

@@ -11,6 +11,7 @@ use Rattle.grammar.specs.Tree.{body_depth}
 use Rattle.grammar.specs.Ids.{rule_ids, rule_names, is_distinct}
 use Rattle.grammar.specs.Lists.{distinct}
 use Rattle.grammar.specs.Corners.{Corners}
+use Rattle.grammar.specs.Laws.Parse.{never}
 use Rattle.grammar.specs.Laws.Whole.{valid_parts}
 use Rattle.reference.specs.Analysis.{grammar_of, left_corner_cycles}
 use Rattle.records.specs.Rules.{row}
@@ -84,7 +85,7 @@ module _ {bs work : List ℕ} {end : ℕ} {rules : Rules} (w : WasRead bs work e
   unfolding read_stands
   tells_sheet {c} {m} {count} {n} {cs} {ks} {ys} t e =
       record {
-        refusal = λ k f. absurd (let z = w.is in let u : ◌≡◌ {A = ℕ} 0 1 = cc in omega arith);
+        refusal = λ k f. never (let z = w.is in cc);
         sheet = λ s f.
             let same : w.tree ≡ s = let z = w.is in cc in
             subst (λ x. TellsSheet c x.rules (0 ∷ n ∷ count ∷ []) marks cs ks ys) same
@@ -128,7 +129,7 @@ module _ (bs work : List ℕ) {x : Refusal} (a : ReadAs (read_lent bs work) (Err
           corners_none = y;
           cycles_none = z;
         };
-        sheet = λ s g. absurd (let u : ◌≡◌ {A = ℕ} 0 1 = cc in omega arith);
+        sheet = λ s g. never cc;
       }
 
 module _ (bs work : List ℕ) {r : Reading} (a : ReadAs (read_lent bs work) (Ok r)) where

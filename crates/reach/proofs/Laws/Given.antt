@@ -9,7 +9,7 @@ use native.Mathlib.Omega.{arith}
 use borrow.Author.Tests.{lt-ltb, not-true}
 use Rattle.grammar.specs.Laws.Lists.{in_member, member_in}
 use Rattle.grammar.specs.Lists.{each, member}
-use Rattle.grammar.specs.Laws.Parse.{either}
+use Rattle.grammar.specs.Laws.Parse.{either, never}
 use Rattle.reference.specs.Analysis.{Row, reach, component, is_cycle, cycles_from}
 use Rattle.graph.specs.Members.{each_in}
 use Rattle.graph.specs.Order.{Rising}
@@ -37,7 +37,7 @@ record Front (closed : List Row) (c : List ℕ) (cs : List (List ℕ)) : Type 0 
 front : (closed : List Row) (is : List ℕ) → Rising is → (c : List ℕ) (cs : List (List ℕ)) → c ∷ cs ≡ cycles_from closed is
     → Front closed c cs
 unfolding cycles_from
-front closed [] r c cs e = absurd (let z : ◌≡◌ {A = ℕ} 0 1 = cc in omega arith)
+front closed [] r c cs e = never cc
 front closed (i ∷ is) r c cs e =
     either (is_cycle i (component closed i))
     (λ t.

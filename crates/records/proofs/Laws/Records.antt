@@ -42,28 +42,27 @@ module _ (i n : ℕ) {b : Bool} (e : b ≡ is_name n) where
 pub ruleset labels = (name_low, name_decides, label_named, label_none, label_unnamed)
 
 -- the fixed words have no room
-module _ (ws : List ℕ) (end at : ℕ) {l : ℕ} (e : l ≡ end - at) where
-  pub named_short : {n : ℕ} → l < n → None ≡ step_of (named ws end n at)
-  named_short {n} h = simp (lt-leb n (end - at) (omega arith))
+module _ (ws : List ℕ) (end at : ℕ) where
+  pub named_short : {n : ℕ} → end - at < n → None ≡ step_of (named ws end n at)
+  named_short {n} h = simp (lt-leb n (end - at) h)
 
-  pub reference_short : l < 2 → None ≡ step_of (reference_at ws end at)
+  pub reference_short : end - at < 2 → None ≡ step_of (reference_at ws end at)
   unfolding reference_at
-  reference_short h = simp (lt-leb 2 (end - at) (omega arith))
+  reference_short h = simp (lt-leb 2 (end - at) h)
 
-  pub body_short : l < 2 → None ≡ step_of (body_at ws end action_of at)
+  pub body_short : end - at < 2 → None ≡ step_of (body_at ws end action_of at)
   unfolding body_at
-  body_short h = simp (lt-leb 2 (end - at) (omega arith))
+  body_short h = simp (lt-leb 2 (end - at) h)
 
 pub ruleset shorts = (named_short, reference_short, body_short)
 
 -- the fixed words have room, and the name decides
-module _ (ws : List ℕ) (end at : ℕ) {l : ℕ} (e : l ≡ end - at) where
-  module _ {w : ℕ} (f : w ≡ get_or ws at 0) {b : Bool} (g : b ≡ is_name w) {n : ℕ} (h : n ≤ l) where
-    pub named_good : b ≡ true → Some (at + n) ≡ step_of (named ws end n at)
-    named_good t = simp (le-leb n (end - at) (omega arith), ← f, ← g, t)
+module _ (ws : List ℕ) (end at : ℕ) {w : ℕ} (f : w ≡ get_or ws at 0) {b : Bool} (g : b ≡ is_name w) {n : ℕ} (h : n ≤ end - at) where
+  pub named_good : b ≡ true → Some (at + n) ≡ step_of (named ws end n at)
+  named_good t = simp (le-leb n (end - at) h, ← f, ← g, t)
 
-    pub named_bad : b ≡ false → None ≡ step_of (named ws end n at)
-    named_bad t = simp (le-leb n (end - at) (omega arith), ← f, ← g, t)
+  pub named_bad : b ≡ false → None ≡ step_of (named ws end n at)
+  named_bad t = simp (le-leb n (end - at) h, ← f, ← g, t)
 
 -- what is made of the name moves nothing
 given_step : {A B : Type 0} (b : Bool) (x : A) (y : B) (p : ℕ) → step_of (given b λ _. got x p) ≡ step_of (given b λ _. got y p)
@@ -85,29 +84,29 @@ module _ (ws : List ℕ) (end at : ℕ) {r : Option ℕ} where
 
 pub ruleset names = (named_good, named_bad, option_named, call_named, token_named)
 
-module _ (ws : List ℕ) (end at : ℕ) {l : ℕ} (e : l ≡ end - at) (h : 2 ≤ l) where
+module _ (ws : List ℕ) (end at : ℕ) (h : 2 ≤ end - at) where
   module _ {k : ℕ} (p : k ≡ get_or ws at 0) (u : Result ReferenceKind Unnamed) (m : Names reference_number k u) where
     kind_is : leb (get_or ws at 0) non_local ≡ is_ok u
     kind_is = rw (← p) (sym (reference_named k u m))
 
     pub reference_kind : is_err u ≡ true → None ≡ step_of (reference_at ws end at)
     unfolding reference_at
-    reference_kind k = simp (le-leb 2 (end - at) (omega arith), kind_is, no_ok u k)
+    reference_kind k = simp (le-leb 2 (end - at) h, kind_is, no_ok u k)
 
   module _ {k : ℕ} (p : k ≡ get_or ws at 0) (u : Result ReferenceKind Unnamed) (m : Names reference_number k u) (q : is_err u ≡ false) {w : ℕ} (f : w ≡ get_or ws (at + 1) 0) {b : Bool} (g : b ≡ is_name w) where
     pub reference_good : b ≡ true → Some (at + 2) ≡ step_of (reference_at ws end at)
     unfolding reference_at
-    reference_good t = simp (le-leb 2 (end - at) (omega arith), kind_is p u m, an_ok u q, ← f, ← g, t)
+    reference_good t = simp (le-leb 2 (end - at) h, kind_is p u m, an_ok u q, ← f, ← g, t)
 
     pub reference_bad : b ≡ false → None ≡ step_of (reference_at ws end at)
     unfolding reference_at
-    reference_bad t = simp (le-leb 2 (end - at) (omega arith), kind_is p u m, an_ok u q, ← f, ← g, t)
+    reference_bad t = simp (le-leb 2 (end - at) h, kind_is p u m, an_ok u q, ← f, ← g, t)
 
   pub body_more : {n : ℕ} {r : Option ℕ} → n ≡ get_or ws (at + 1) 0 → r ≡ step_of (many (reference_at ws end) n (at + 2))
       → r ≡ step_of (body_at ws end action_of at)
   unfolding body_at
   body_more {n} f g =
-      simp (le-leb 2 (end - at) (omega arith), ← f)
+      simp (le-leb 2 (end - at) h, ← f)
       (g ∙ sym (then_same (many (reference_at ws end) n (at + 2)) (action_of (get_or ws at 0))))
 
 pub ruleset references = (reference_kind, reference_good, reference_bad, body_more)

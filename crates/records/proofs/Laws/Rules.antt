@@ -14,13 +14,12 @@ use Rattle.grammar.specs.Read.{rule_at, block_at, rules_at}
 use Rattle.grammar.specs.Numbers.{rule_limit}
 use Rattle.grammar.specs.Ids.{rule_ids, rule_names}
 use Rattle.grammar.specs.Laws.Stands.{stands_length, stands_head}
-use Rattle.grammar.specs.Laws.Parse.{yields_got}
+use Rattle.grammar.specs.Laws.Parse.{never, yields_got}
 use Rattle.grammar.specs.Laws.Sound.{rule_sound, block_sound}
 use Rattle.std.specs.Prelude.{Option, Some, None}
 use Rattle.records.specs.declared.rules.Rules.{Rules}
 use Rattle.records.specs.Step.{step_of}
 use Rattle.records.specs.Rules.{row, places_from, RowsOf, IsEmpty, IsWith, RulesRead, is_got}
-use Rattle.records.proofs.Laws.Trees.{rule_short}
 use Rattle.records.specs.Laws.Places.{places_length, places_more}
 
 pub record SoFar (ws : List ℕ) (end at : ℕ) (rules : Rules) : Type 0 where
@@ -91,12 +90,12 @@ none_so_far ws end e =
     }
 
 bad_got : {A : Type 0} (g : Got A) → step_of g ≡ None → g ≡ bad
-bad_got (got a q) e = absurd (let z : ◌≡◌ {A = ℕ} 0 1 = cc in omega arith)
+bad_got (got a q) e = never cc
 bad_got bad e = refl
 
 next_got : {A : Type 0} (g : Got A) (p : ℕ) → step_of g ≡ Some p → (a : A) × (g ≡ got a p)
 next_got (got a q) p e = let z : q ≡ p = cc in (a, ap (got a) z)
-next_got bad p e = absurd (let z : ◌≡◌ {A = ℕ} 0 1 = cc in omega arith)
+next_got bad p e = never cc
 
 then_then : {A : Type 0} (g : Got (List A)) (r : A) (rs : List A)
     → ((g then λ xs q. got (r ∷ xs) q) then λ xs q. got (rs ++ xs) q) ≡ (g then λ xs q. got (rs ++ (r ∷ []) ++ xs) q)
@@ -136,9 +135,6 @@ module _ {ws : List ℕ} {end at : ℕ} {rules : Rules} (f : SoFar ws end at rul
           (step_open m
           ∙ ap (λ g. g then λ r p. rules_at ws end m p then λ rs q. got (r ∷ rs) q)
           (bad_got (rule_at ws end (block_at ws end body_depth) at) (sym e ∙ t))))
-
-      pub short_bad : {l : ℕ} → l ≡ end - at → l < 3 → rules_at ws end rule_limit 0 ≡ bad
-      short_bad e t = rule_bad (rule_short ws end at (block_at ws end body_depth) e t) refl
 
       pub more_so_far : {s : Option ℕ} {p w v : ℕ} {more : Rules} → s ≡ step_of (rule_at ws end (block_at ws end body_depth) at) → s ≡ Some p
           → w ≡ get_or ws at 0 → v ≡ get_or ws (at + 1) 0 → IsWith rules w v at more → SoFar ws end p more
@@ -188,7 +184,7 @@ pub read_none : (ws : List ℕ) (end : ℕ) → rules_at ws end rule_limit 0 ≡
 read_none ws end e =
     record {
       good = sym (ap is_got e);
-      rows = λ o rs q w f. absurd (let z : ◌≡◌ {A = ℕ} 0 1 = cc in omega arith);
+      rows = λ o rs q w f. never cc;
     }
 
-pub ruleset reads = (none_so_far, full_bad, rule_bad, short_bad, more_so_far, read_all, read_none)
+pub ruleset reads = (none_so_far, full_bad, rule_bad, more_so_far, read_all, read_none)

@@ -5,13 +5,14 @@ use mathlib.Core.List.{List, ◌∷◌}
 use native.Mathlib.Omega.{arith}
 use native.Mathlib.Numerals.{unary_clauses}
 use Rattle.grammar.specs.Parse.{Got, got, bad, ◌then◌, many}
+use Rattle.grammar.specs.Laws.Parse.{never}
 use Rattle.std.specs.Prelude.{Option, Some, None, option_and_then}
 use Rattle.records.specs.Step.{repeated, step_of}
 
 module _ {A B : Type 0} where
   -- what is bad stays bad
   pub then_bad : (g : Got A) (f : A → ℕ → Got B) → step_of g ≡ None → step_of (g then f) ≡ None
-  then_bad (got a p) f e = absurd (let z : ◌≡◌ {A = ℕ} 0 1 = cc in omega arith)
+  then_bad (got a p) f e = never cc
   then_bad bad f e = refl
 
   -- so does what is bad behind whatever is found
@@ -23,7 +24,7 @@ module _ {A B : Type 0} where
   pub then_next : (g : Got A) (f : A → ℕ → Got B) (p : ℕ) (r : Option ℕ) → step_of g ≡ Some p → ((a : A) → step_of (f a p) ≡ r)
       → step_of (g then f) ≡ r
   then_next (got a q) f p r e h = let z : q ≡ p = cc in rw z (h a)
-  then_next bad f p r e h = absurd (let z : ◌≡◌ {A = ℕ} 0 1 = cc in omega arith)
+  then_next bad f p r e h = never cc
 
   -- a result put together at the end moves nothing
   pub then_same : (g : Got A) (f : A → B) → step_of (g then λ a q. got (f a) q) ≡ step_of g

@@ -5,13 +5,15 @@ use mathlib.Core.List.{List}
 use mathlib.Core.Bool.{Bool, true, false}
 use native.Mathlib.Omega.{arith}
 use native.Mathlib.Numerals.{sub-one}
+use lib.Dec.{leb}
 use lib.ListN.{get_or}
-use borrow.Author.Tests.{le-leb, lt-leb, ne_eqb}
+use borrow.Author.Tests.{le-leb, lt-leb, leb-true, leb-false, ne_eqb}
 use Rattle.grammar.specs.Tree.{Element, ElementHead, leaf, block, AlternativeOf, RuleOf}
 use Rattle.grammar.specs.Parse.{Got, many}
 use Rattle.grammar.specs.Numbers.{most_rule_flags, most_alternative_flag, block_kind, kind_end}
 use Rattle.grammar.specs.Read.{is_name, is_label, label_of, is_head, option_at, leaf_at, head_at, payload_at, element_at, alternative_at}
 use Rattle.grammar.specs.Read.{block_at, rule_at}
+use Rattle.grammar.specs.Laws.Parse.{either, never}
 use Rattle.std.specs.Prelude.{Option, Some, None, Result, Ok, Err, is_err}
 use Rattle.std.specs.Result.{result_ok}
 use Rattle.words.specs.declared.numbers.Quantifier.{Quantifier}
@@ -26,10 +28,10 @@ use Rattle.records.proofs.Laws.Steps.{then_bad, then_none, then_next, then_same}
 -- the kind that a number names, or none
 some_kind : {n : ℕ} (u : Result Kind Unnamed) → Names kind_number n u → {k : Kind} → Some k ≡ result_ok u → kind_number k ≡ n
 some_kind (Ok x) m {k} o = let z : k ≡ x = cc in rw z m
-some_kind (Err x) m o = absurd (let z : ◌≡◌ {A = ℕ} 0 1 = cc in omega arith)
+some_kind (Err x) m o = never cc
 
 no_kind : {n : ℕ} (u : Result Kind Unnamed) → Names kind_number n u → None ≡ result_ok u → (a : Kind) → kind_number a ≡ n → ⊥
-no_kind (Ok x) m o = λ a e. let z : ◌≡◌ {A = ℕ} 0 1 = cc in omega arith
+no_kind (Ok x) m o = λ a e. never cc
 no_kind (Err x) m o = m.1
 
 leaf_none : (ws : List ℕ) (end at k : ℕ) → ((a : Kind) → kind_number a ≡ k → ⊥) → step_of (leaf_at ws end k at) ≡ None
@@ -95,9 +97,9 @@ module _ (ws : List ℕ) (end at : ℕ) where
         (then_bad {B = Element B} (leaf_at ws end k p) _ (leaf_none ws end p k none))
 
     -- an element with no room for its fixed words, with a bad head, with a good one
-    pub element_short : {l : ℕ} → l ≡ end - at → l < 6 → None ≡ step_of (element_at ws end blk at)
+    pub element_short : end - at < 6 → None ≡ step_of (element_at ws end blk at)
     unfolding element_at head_at is_head
-    element_short e h = simp (lt-leb 6 (end - at) (omega arith))
+    element_short h = simp (lt-leb 6 (end - at) h)
 
     pub element_bad : {r : Option ℕ} → r ≡ None → None ≡ step_of (head_at ws end at) → r ≡ step_of (element_at ws end blk at)
     unfolding element_at
@@ -121,86 +123,89 @@ module _ (ws : List ℕ) (end at : ℕ) where
           λ h p. payload_none h p (get_or ws (at + 2) 0 % kind_end) (rw i at (no_kind u m o)))
 
     -- an alternative with no room, with a bad flag, with bad options, with good ones
-    module _ {l : ℕ} (e : l ≡ end - at) where
-      pub alternative_short : l < 5 → None ≡ step_of (alternative_at ws end blk at)
+    pub alternative_short : end - at < 5 → None ≡ step_of (alternative_at ws end blk at)
+    unfolding alternative_at
+    alternative_short h = simp (lt-leb 5 (end - at) h)
+
+    pub alternative_flag : {w : ℕ} → 5 ≤ end - at → w ≡ get_or ws (at + 2) 0 → most_alternative_flag < w → None ≡ step_of (alternative_at ws end blk at)
+    unfolding alternative_at
+    alternative_flag h f k = simp (le-leb 5 (end - at) h, lt-leb (get_or ws (at + 2) 0) most_alternative_flag (omega arith))
+
+    module _ (h : 5 ≤ end - at) {w : ℕ} (f : w ≡ get_or ws (at + 2) 0) (k : w ≤ most_alternative_flag)
+        {n : ℕ} (o : n ≡ get_or ws (at + 3) 0) where
+      pub alternative_bad : {r : Option ℕ} → r ≡ None → None ≡ step_of (many (option_at ws end) n (at + 5))
+          → r ≡ step_of (alternative_at ws end blk at)
       unfolding alternative_at
-      alternative_short h = simp (lt-leb 5 (end - at) (omega arith))
+      alternative_bad t g =
+          t
+          ∙
+          simp (le-leb 5 (end - at) h, le-leb (get_or ws (at + 2) 0) most_alternative_flag (omega arith), ← o)
+          (sym (then_bad (many (option_at ws end) n (at + 5)) _ (sym g)))
 
-      pub alternative_flag : {w : ℕ} → 5 ≤ l → w ≡ get_or ws (at + 2) 0 → most_alternative_flag < w → None ≡ step_of (alternative_at ws end blk at)
+      pub alternative_more : {m p : ℕ} {r : Option ℕ} → Some p ≡ step_of (many (option_at ws end) n (at + 5)) → m ≡ get_or ws (at + 4) 0
+          → r ≡ step_of (many (element_at ws end blk) m p) → r ≡ step_of (alternative_at ws end blk at)
       unfolding alternative_at
-      alternative_flag h f k = simp (le-leb 5 (end - at) (omega arith), lt-leb (get_or ws (at + 2) 0) most_alternative_flag (omega arith))
+      alternative_more {m} {p} {r} g u v =
+          simp (le-leb 5 (end - at) h, le-leb (get_or ws (at + 2) 0) most_alternative_flag (omega arith), ← o)
+          (sym
+          (then_next (many (option_at ws end) n (at + 5)) _ p r (sym g)
+          λ os.
+          then_same {B = AlternativeOf B} (many (element_at ws end blk) (get_or ws (at + 4) 0) p)
+          (λ es. record { id = get_or ws at 0; carried = get_or ws (at + 1) 0; flag = get_or ws (at + 2) 0; options = os; elements = es })
+          ∙ sym (rw u at v)))
 
-      module _ (h : 5 ≤ l) {w : ℕ} (f : w ≡ get_or ws (at + 2) 0) (k : w ≤ most_alternative_flag)
-          {n : ℕ} (o : n ≡ get_or ws (at + 3) 0) where
-        pub alternative_bad : {r : Option ℕ} → r ≡ None → None ≡ step_of (many (option_at ws end) n (at + 5))
-            → r ≡ step_of (alternative_at ws end blk at)
-        unfolding alternative_at
-        alternative_bad t g =
-            t
-            ∙
-            simp (le-leb 5 (end - at) (omega arith), le-leb (get_or ws (at + 2) 0) most_alternative_flag (omega arith), ← o)
-            (sym (then_bad (many (option_at ws end) n (at + 5)) _ (sym g)))
+    pub rule_short : end - at < 3 → None ≡ step_of (rule_at ws end blk at)
+    unfolding rule_at
+    rule_short h = simp (lt-leb 3 (end - at) h)
 
-        pub alternative_more : {m p : ℕ} {r : Option ℕ} → Some p ≡ step_of (many (option_at ws end) n (at + 5)) → m ≡ get_or ws (at + 4) 0
-            → r ≡ step_of (many (element_at ws end blk) m p) → r ≡ step_of (alternative_at ws end blk at)
-        unfolding alternative_at
-        alternative_more {m} {p} {r} g u v =
-            simp (le-leb 5 (end - at) (omega arith), le-leb (get_or ws (at + 2) 0) most_alternative_flag (omega arith), ← o)
-            (sym
-            (then_next (many (option_at ws end) n (at + 5)) _ p r (sym g)
-            λ os.
-            then_same {B = AlternativeOf B} (many (element_at ws end blk) (get_or ws (at + 4) 0) p)
-            (λ es. record { id = get_or ws at 0; carried = get_or ws (at + 1) 0; flag = get_or ws (at + 2) 0; options = os; elements = es })
-            ∙ sym (rw u at v)))
+    pub rule_room : {p : ℕ} → Some p ≡ step_of (rule_at ws end blk at) → 3 ≤ end - at
+    rule_room s =
+        either (leb 3 (end - at)) (leb-true 3 (end - at)) (λ e. never (let z = s ∙ sym (rule_short (leb-false 3 (end - at) e)) in cc))
 
-      pub rule_short : l < 3 → None ≡ step_of (rule_at ws end blk at)
+    module _ (h : 3 ≤ end - at) where
+      pub rule_flags : {w : ℕ} → w ≡ get_or ws (at + 2) 0 → most_rule_flags < w → None ≡ step_of (rule_at ws end blk at)
       unfolding rule_at
-      rule_short h = simp (lt-leb 3 (end - at) (omega arith))
+      rule_flags {w} f k = go (is_name (get_or ws (at + 1) 0)) refl
+        where
+          go : (b : Bool) → is_name (get_or ws (at + 1) 0) ≡ b → None ≡ step_of (rule_at ws end blk at)
+          go true t = simp (le-leb 3 (end - at) h, t, lt-leb (get_or ws (at + 2) 0) most_rule_flags (omega arith))
+          go false t = simp (le-leb 3 (end - at) h, t)
 
-      module _ (h : 3 ≤ l) where
-        pub rule_flags : {w : ℕ} → w ≡ get_or ws (at + 2) 0 → most_rule_flags < w → None ≡ step_of (rule_at ws end blk at)
+      module _ {n : ℕ} (f : n ≡ get_or ws (at + 1) 0) {b : Bool} (g : b ≡ is_name n) where
+        pub rule_name : b ≡ false → None ≡ step_of (rule_at ws end blk at)
         unfolding rule_at
-        rule_flags {w} f k = go (is_name (get_or ws (at + 1) 0)) refl
-          where
-            go : (b : Bool) → is_name (get_or ws (at + 1) 0) ≡ b → None ≡ step_of (rule_at ws end blk at)
-            go true t = simp (le-leb 3 (end - at) (omega arith), t, lt-leb (get_or ws (at + 2) 0) most_rule_flags (omega arith))
-            go false t = simp (le-leb 3 (end - at) (omega arith), t)
+        rule_name t = simp (le-leb 3 (end - at) h, ← f, ← g, t)
 
-        module _ {n : ℕ} (f : n ≡ get_or ws (at + 1) 0) {b : Bool} (g : b ≡ is_name n) where
-          pub rule_name : b ≡ false → None ≡ step_of (rule_at ws end blk at)
-          unfolding rule_at
-          rule_name t = simp (le-leb 3 (end - at) (omega arith), ← f, ← g, t)
-
-          pub rule_more : {w : ℕ} {r : Option ℕ} → b ≡ true → w ≡ get_or ws (at + 2) 0 → w ≤ most_rule_flags → r ≡ step_of (blk (at + 3))
-              → r ≡ step_of (rule_at ws end blk at)
-          unfolding rule_at
-          rule_more t u k v =
-              simp (
-                le-leb 3 (end - at) (omega arith),
-                ← f,
-                ← g,
-                t,
-                le-leb (get_or ws (at + 2) 0) most_rule_flags (omega arith),
-              )
-              (v
-              ∙ sym
-              (then_same {B = RuleOf B} (blk (at + 3))
-              λ b. record { id = get_or ws at 0; name = n; flags = get_or ws (at + 2) 0; body = b }))
+        pub rule_more : {w : ℕ} {r : Option ℕ} → b ≡ true → w ≡ get_or ws (at + 2) 0 → w ≤ most_rule_flags → r ≡ step_of (blk (at + 3))
+            → r ≡ step_of (rule_at ws end blk at)
+        unfolding rule_at
+        rule_more t u k v =
+            simp (
+              le-leb 3 (end - at) h,
+              ← f,
+              ← g,
+              t,
+              le-leb (get_or ws (at + 2) 0) most_rule_flags (omega arith),
+            )
+            (v
+            ∙ sym
+            (then_same {B = RuleOf B} (blk (at + 3))
+            λ b. record { id = get_or ws at 0; name = n; flags = get_or ws (at + 2) 0; body = b }))
 
   pub block_none : {d : ℕ} → d ≡ 0 → None ≡ step_of (block_at ws end d at)
   unfolding block_at
   block_none e = rw e
 
-  pub block_short : (d : ℕ) {l : ℕ} → (d ≡ 0 → ⊥) → l ≡ end - at → l < 1 → None ≡ step_of (block_at ws end d at)
+  pub block_short : (d : ℕ) → (d ≡ 0 → ⊥) → end - at < 1 → None ≡ step_of (block_at ws end d at)
   unfolding block_at
-  block_short zero z e h = absurd (z refl)
-  block_short (suc d) z e h = simp (lt-leb 1 (end - at) (omega arith))
+  block_short zero z h = absurd (z refl)
+  block_short (suc d) z h = simp (lt-leb 1 (end - at) h)
 
-  pub block_more : (d : ℕ) {l n : ℕ} {r : Option ℕ} → (d ≡ 0 → ⊥) → l ≡ end - at → 1 ≤ l → n ≡ get_or ws at 0
+  pub block_more : (d : ℕ) {n : ℕ} {r : Option ℕ} → (d ≡ 0 → ⊥) → 1 ≤ end - at → n ≡ get_or ws at 0
       → r ≡ step_of (many (alternative_at ws end (block_at ws end (d - 1))) n (at + 1)) → r ≡ step_of (block_at ws end d at)
   unfolding block_at
-  block_more zero z e h f g = absurd (z refl)
-  block_more (suc d) z e h f g = simp (le-leb 1 (end - at) (omega arith), ← f) (simp sub-one at g)
+  block_more zero z h f g = absurd (z refl)
+  block_more (suc d) z h f g = simp (le-leb 1 (end - at) h, ← f) (simp sub-one at g)
 
 pub ruleset heads = (quantifier_bad, quantifier_good, head_bad, head_good)
 

@@ -1,10 +1,9 @@
+use Rattle.std.proofs.Common.{refl, ap, ◌∙◌}
+use Rattle.std.specs.Prelude.{map}
+use Rattle.grammar.specs.Lists.{rising}
+use Rattle.ids.specs.Chunks.{chunk_word}
 use Rattle.ids.proofs.lists.is_rising.Goals as goal
-use Rattle.ids.proofs.Laws.Lists.{rising_stop, rising_more}
+use Rattle.ids.proofs.Laws.Sorted.{chunk_words}
 
-pub returns-then-word : goal.returns-then-word
-returns-then-word c =
-    rising_stop _ _ c.loop-i.invariant c.loop-i.auto.i c.loop-i-test.true c.word.ensures c.word-in-loop-i.ensures c.if-word.true
-
-pub loop-i-preserved : goal.loop-i-preserved
-loop-i-preserved c =
-    rising_more _ _ c.loop-i.invariant c.loop-i.auto.i c.loop-i-test.true c.word.ensures c.word-in-loop-i.ensures c.if-word.false
+pub returns : goal.returns
+returns c = c.rises.ensures ∙ ap rising (ap (map chunk_word) c.as_chunks.ensures.front ∙ chunk_words _ c.args.s.now refl)
