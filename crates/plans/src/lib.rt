@@ -15,7 +15,7 @@ use crate::first::{choice_in, decide_first, members_in};
 use crate::nth::decide_nth;
 use crate::told::{leave, tell};
 use analysis::ruled::Ruled;
-use sheet::read;
+use sheet::{read, refusal_numbers};
 use words::sheet::Sheet;
 
 // The decision for the nth cycle of a sheet, in numbers; 0 is the cycle with the least id. The reading of left corners is the
@@ -34,7 +34,7 @@ pub fn plan_nth(
 {
     match read(sheet, work) {
         Err(refusal) => {
-            *numbers = [u32::from(refusal), 0, 0, 0, 0, 0, 0, 0];
+            *numbers = refusal_numbers(refusal);
             *removable = [0; 2];
         }
         Ok(r) => {
@@ -77,7 +77,7 @@ pub fn first_plan(
 {
     match read(sheet, work) {
         Err(refusal) => {
-            *numbers = [u32::from(refusal), 0, 0, 0, 0, 0, 0, 0];
+            *numbers = refusal_numbers(refusal);
             *cycle = [0; 2];
             *removable = [0; 2];
             *clauses = [0; 128];
