@@ -14,7 +14,7 @@ use analysis::rounds::{Marks, Rows, find_rows};
 use analysis::ruled::Ruled;
 use reach::cycles::list_cycles;
 use reach::rows::Row;
-use sheet::read;
+use sheet::{read, refusal_numbers};
 use words::sheet::Sheet;
 use words::words::clear;
 
@@ -65,7 +65,7 @@ pub fn find_facts(
     *cycles = [[0; Row::WORDS]; Row::RULES];
     match read(sheet, work) {
         Err(refusal) => {
-            *numbers = [u32::from(refusal), 0, 0];
+            *numbers = refusal_numbers(refusal);
             *marks = [0; 4];
             *calls = [[0; Row::WORDS]; Row::RULES];
             *corners = [[0; Row::WORDS]; Row::RULES];

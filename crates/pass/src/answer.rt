@@ -2,6 +2,7 @@
 ghost use Rattle.std.specs.Prelude.{◌≡◌};
 ghost use Rattle.pass.specs.Handed.{numbers};
 
+use sheet::refusal_numbers;
 use words::numbers::Refusal;
 
 // Plans and steps, and how many bytes of the result and of the trail are taken.
@@ -18,7 +19,7 @@ pub fn told(answer: Result<Totals, Refusal>) -> [u32; 5]
     ensures { result ≡ numbers answer }
 {
     match answer {
-        Err(refusal) => [u32::from(refusal), 0, 0, 0, 0],
+        Err(refusal) => refusal_numbers(refusal),
         Ok(t) => [0, t.plans, t.steps, t.result, t.trail],
     }
 }

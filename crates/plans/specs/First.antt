@@ -14,12 +14,15 @@ use Rattle.analysis.specs.Survey.{reading}
 use Rattle.analysis.specs.Facts.{Standing}
 use Rattle.hub.specs.Preserved.{between}
 use Rattle.steps.specs.Decide.{DeclinedByNumber}
+use Rattle.turns.specs.declared.turn.Unplanned.{Unplanned}
+use Rattle.turns.specs.declared.turn.Unplanned.TheVariants.{Overfull}
+use Rattle.plan.specs.declared.plan.Plan.{Plan}
 use Rattle.plan.specs.declared.search.FoundPlan.{FoundPlan}
 use Rattle.words.specs.declared.numbers.Refusal.{Refusal}
 use Rattle.words.specs.declared.numbers.Refusal.TheVariants.{PlanTooLarge}
 use Rattle.plan.specs.declared.search.Found.{Found}
 use Rattle.plan.specs.Decision.{PlanAs}
-use Rattle.plans.specs.Nth.{capped, cycles_of}
+use Rattle.plans.specs.Nth.{cycles_of, choice_numbers, choice_row}
 
 module _ (limits : Limits) (ws : List ℕ) (end : ℕ) (ids : List ℕ) (n : ℕ) (bs : List ℕ) (c : Corners) (rs : List Rule)
     (preserved : List ℕ) where
@@ -66,12 +69,15 @@ pub record FirstOf (ws : List ℕ) (end to : ℕ) (rules : Rules) (past : Bool) 
   pub is : (s : Standing ws end rules)
       → FirstAs standard ws end rules.ids rules.n bs (reading past) s.rows.found.trees (between ws end to) r
 
--- In numbers: no refusal, so many cycles were declined, which answer it is; of a plan the hub's place, steps and alternatives.
+-- What a search comes to, as a choice among the cycles: the decision for the last one that was tried; none where each was declined.
+abbrev pub choice_in : Result (Option FoundPlan) Refusal → Option (Result Plan Unplanned)
+choice_in (Ok None) = None
+choice_in (Ok (Some p)) = Some (Ok p.plan)
+choice_in (Err e) = Some (Err Overfull)
+
+-- In the numbers of that choice, with how many cycles were declined in the place of how many there are.
 abbrev pub search_numbers : ℕ → Result (Option FoundPlan) Refusal → List ℕ
-search_numbers k (Ok None) = 0 ∷ k ∷ 3 ∷ 0 ∷ 0 ∷ 0 ∷ 0 ∷ 0 ∷ []
-search_numbers k (Ok (Some p)) =
-    0 ∷ k ∷ 0 ∷ capped p.plan.hub ∷ 0 ∷ capped p.plan.steps ∷ capped p.plan.l.outa ∷ 0 ∷ []
-search_numbers k (Err e) = 0 ∷ k ∷ 2 ∷ 0 ∷ 0 ∷ 0 ∷ 0 ∷ 0 ∷ []
+search_numbers k r = choice_numbers k (choice_in r)
 
 -- The members of the cycle, and the rules that may go.
 abbrev pub search_cycle : Result (Option FoundPlan) Refusal → List ℕ
@@ -80,6 +86,4 @@ search_cycle (Ok (Some p)) = p.members
 search_cycle (Err e) = 0 ∷ 0 ∷ []
 
 abbrev pub search_row : Result (Option FoundPlan) Refusal → List ℕ
-search_row (Ok None) = 0 ∷ 0 ∷ []
-search_row (Ok (Some p)) = p.plan.removable
-search_row (Err e) = 0 ∷ 0 ∷ []
+search_row r = choice_row (choice_in r)

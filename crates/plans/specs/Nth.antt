@@ -1,5 +1,5 @@
 -- The decision for the nth cycle against the definition (SPECIFICATION 5 to 10), and its numbers.
-use Rattle.std.specs.Prelude.{ℕ, ◌<◌, ◌≤◌, ◌-◌, min, ◌≡◌, List, [], ◌∷◌, Bool, true, false, length, get_or, replicate, eqb}
+use Rattle.std.specs.Prelude.{ℕ, ◌<◌, ◌≤◌, ◌-◌, min, ◌≡◌, List, [], ◌∷◌, Bool, length, get_or, replicate}
 use Rattle.std.specs.Prelude.{Option, Some, None, Result, Ok, Err}
 use Rattle.grammar.specs.Numbers.{word_end}
 use Rattle.grammar.specs.Tree.{Rule, body_depth, inner_depth}
@@ -17,8 +17,8 @@ use Rattle.turns.specs.declared.turn.Unplanned.TheVariants.{Declined, Overfull}
 use Rattle.plan.specs.declared.plan.Plan.{Plan}
 use Rattle.plan.specs.Decision.{DecidedAs}
 use Rattle.plans.specs.declared.nth.Nth.{Nth}
-use Rattle.plans.specs.declared.nth.Decision.{Decision}
-use Rattle.plans.specs.declared.nth.Decision.TheVariants as V
+use Rattle.plans.specs.declared.told.Ending.{Ending}
+use Rattle.plans.specs.declared.told.Ending.TheVariants as E
 
 -- The definition's cycles of rules, by least id.
 abbrev pub cycles_of : Corners → List Rule → List (List ℕ)
@@ -48,19 +48,19 @@ pub record NthOf (ws : List ℕ) (end to : ℕ) (rules : Rules) (past : Bool) (n
 abbrev pub capped : ℕ → ℕ
 capped n = min n (word_end - 1)
 
--- The number that tells what is decided.
-abbrev pub decision_number : Decision → ℕ
-decision_number V.Planned = 0
-decision_number V.Declined = 1
-decision_number V.TooLarge = 2
-decision_number V.NoCycle = 3
+-- The number that tells how a decision ends.
+abbrev pub ending_number : Ending → ℕ
+ending_number E.Planned = 0
+ending_number E.Declined = 1
+ending_number E.TooLarge = 2
+ending_number E.NoCycle = 3
 
--- In numbers: no refusal, so many cycles, which decision it is; of a plan the hub's place, steps and alternatives, of a decline
+-- In numbers: no refusal, so many cycles, how the decision ends; of a plan the hub's place, steps and alternatives, of a decline
 -- its clause.
 abbrev pub decision_numbers : ℕ → Result Plan Unplanned → List ℕ
-decision_numbers k (Ok p) = 0 ∷ k ∷ 0 ∷ capped p.hub ∷ 0 ∷ capped p.steps ∷ capped p.l.outa ∷ 0 ∷ []
-decision_numbers k (Err (Declined c)) = 0 ∷ k ∷ 1 ∷ 0 ∷ clause_number (clause_of c) ∷ 0 ∷ 0 ∷ 0 ∷ []
-decision_numbers k (Err Overfull) = 0 ∷ k ∷ 2 ∷ 0 ∷ 0 ∷ 0 ∷ 0 ∷ 0 ∷ []
+decision_numbers k (Ok p) = 0 ∷ k ∷ ending_number E.Planned ∷ capped p.hub ∷ 0 ∷ capped p.steps ∷ capped p.l.outa ∷ 0 ∷ []
+decision_numbers k (Err (Declined c)) = 0 ∷ k ∷ ending_number E.Declined ∷ 0 ∷ clause_number (clause_of c) ∷ 0 ∷ 0 ∷ 0 ∷ []
+decision_numbers k (Err Overfull) = 0 ∷ k ∷ ending_number E.TooLarge ∷ 0 ∷ 0 ∷ 0 ∷ 0 ∷ 0 ∷ []
 
 -- The rules that may go.
 abbrev pub decision_row : Result Plan Unplanned → List ℕ
@@ -68,7 +68,7 @@ decision_row (Ok p) = p.removable
 decision_row (Err e) = 0 ∷ 0 ∷ []
 
 abbrev pub choice_numbers : ℕ → Option (Result Plan Unplanned) → List ℕ
-choice_numbers k None = 0 ∷ k ∷ 3 ∷ 0 ∷ 0 ∷ 0 ∷ 0 ∷ 0 ∷ []
+choice_numbers k None = 0 ∷ k ∷ ending_number E.NoCycle ∷ 0 ∷ 0 ∷ 0 ∷ 0 ∷ 0 ∷ []
 choice_numbers k (Some d) = decision_numbers k d
 
 abbrev pub choice_row : Option (Result Plan Unplanned) → List ℕ
@@ -81,6 +81,8 @@ nth_numbers r = choice_numbers r.cycles r.choice
 abbrev pub nth_row : Nth → List ℕ
 nth_row r = choice_row r.choice
 
--- What is left in the work area, by what the numbers say was decided: the list of a plan; else zeros.
-unfoldable pub left_by : (numbers list : List ℕ) → List ℕ
-left_by numbers list = elim (eqb (get_or numbers 2 0) 0) [ true ↦ list | false ↦ replicate (length list) 0 ]
+-- What is left in the work area, by what was decided: the list of a plan; else zeros.
+abbrev pub left_by : Option (Result Plan Unplanned) → List ℕ → List ℕ
+left_by (Some (Ok p)) list = list
+left_by (Some (Err e)) list = replicate (length list) 0
+left_by None list = replicate (length list) 0

@@ -1,11 +1,10 @@
-// The first cycle with a plan, and how it is told in numbers.
+// The first cycle with a plan.
 ghost use Rattle.std.specs.Prelude.{◌≡◌, ◌≤◌, length};
 ghost use Rattle.grammar.specs.Numbers.{most_words, work_bytes};
 ghost use Rattle.plan.specs.Ground.{KeptAt};
-ghost use Rattle.plans.specs.First.{FirstOf, search_numbers, search_cycle, search_row};
+ghost use Rattle.plans.specs.First.{FirstOf, choice_in, search_cycle};
 ghost use Rattle.words.specs.Sheet.{text};
 
-use crate::nth::{Decision, capped};
 use analysis::rounds::Rows;
 use analysis::ruled::Ruled;
 use plan::facts::Facts;
@@ -14,17 +13,12 @@ use plan::plan::Plan;
 use plan::search::{Found, FoundPlan, find_plan};
 use reach::rows::Row;
 use turns::limits::Limits;
+use turns::turn::Unplanned;
 use words::numbers::Refusal;
 
-// Numbers, the row of a cycle's members, and that of the rules that may go.
-#[derive(Clone, Copy, Debug, PartialEq, Eq)]
-pub struct FirstTold {
-    pub numbers: [u32; 8],
-    pub cycle: [u64; Row::WORDS],
-    pub row: [u64; Row::WORDS],
-}
-
 // The first plan for rules that stand in a sheet, with their preserved ids behind them up to `to`.
+// Stays: it opens as `decide_nth` does. A function for that would hand back a `Facts` that borrows the rows, and state in its clauses
+// what `find_out` states: it would be longer than the two statements that it spares each of its callers.
 pub fn decide_first(g: &Ruled, to: usize, past: bool, work: &mut [u8]) -> Found
     requires bounds { (g.now.s.now.end ≤ most_words) × (work_bytes ≤ length work.old) × KeptAt g.now.s.now.bytes.now g.now.s.now.end to }
     ensures { FirstOf (text g.now.s.now) g.now.s.now.end to g.now.rules.now past work.new result }
@@ -41,40 +35,23 @@ pub fn decide_first(g: &Ruled, to: usize, past: bool, work: &mut [u8]) -> Found
     find_plan(&facts, limits, work)
 }
 
-// A search in numbers, where so many cycles were declined.
-pub fn tell_search(declined: u32, answer: Result<Option<FoundPlan>, Refusal>) -> FirstTold
-    ensures { (result.numbers ≡ search_numbers declined answer) × (result.cycle ≡ search_cycle answer) × (result.row ≡ search_row answer) }
+// What a search comes to, as a choice: the decision for the last cycle that was tried; none where each was declined.
+pub fn choice_in(answer: Result<Option<FoundPlan>, Refusal>) -> Option<Result<Plan, Unplanned>>
+    ensures { result ≡ choice_in answer }
 {
     match answer {
-        Ok(Some(f)) => {
-            let p = f.plan;
-            let l = p.l;
-            let cycle = f.members;
-            let row = p.removable;
-            FirstTold {
-                numbers: [
-                    0,
-                    declined,
-                    u32::from(Decision::Planned),
-                    capped(p.hub),
-                    0,
-                    capped(p.steps),
-                    capped(l.outa),
-                    0,
-                ],
-                cycle,
-                row,
-            }
-        }
-        Err(_) => FirstTold {
-            numbers: [0, declined, u32::from(Decision::TooLarge), 0, 0, 0, 0, 0],
-            cycle: [0; Row::WORDS],
-            row: [0; Row::WORDS],
-        },
-        Ok(None) => FirstTold {
-            numbers: [0, declined, u32::from(Decision::NoCycle), 0, 0, 0, 0, 0],
-            cycle: [0; Row::WORDS],
-            row: [0; Row::WORDS],
-        },
+        Ok(Some(f)) => Some(Ok(f.plan)),
+        Ok(None) => None,
+        Err(_) => Some(Err(Unplanned::Overfull)),
+    }
+}
+
+// The row of the members of the cycle that has a plan.
+pub fn members_in(answer: Result<Option<FoundPlan>, Refusal>) -> [u64; Row::WORDS]
+    ensures { result ≡ search_cycle answer }
+{
+    match answer {
+        Ok(Some(f)) => f.members,
+        _ => [0; Row::WORDS],
     }
 }

@@ -4,16 +4,18 @@
 
 mod first;
 mod nth;
+mod told;
 
 ghost use Rattle.std.specs.Prelude.{◌≡◌, length};
 ghost use Rattle.sheet.specs.Answer.{read_lent, work_after};
 ghost use Rattle.facts.specs.Told.{reading_of};
 ghost use Rattle.plans.specs.Told.{NthTold, FirstTold};
 
-use crate::first::{decide_first, tell_search};
-use crate::nth::{decide_nth, leave, tell_nth};
+use crate::first::{choice_in, decide_first, members_in};
+use crate::nth::decide_nth;
+use crate::told::{leave, tell};
 use analysis::ruled::Ruled;
-use sheet::read;
+use sheet::{read, refusal_numbers};
 use words::sheet::Sheet;
 
 // The decision for the nth cycle of a sheet, in numbers; 0 is the cycle with the least id. The reading of left corners is the
@@ -32,7 +34,7 @@ pub fn plan_nth(
 {
     match read(sheet, work) {
         Err(refusal) => {
-            *numbers = [u32::from(refusal), 0, 0, 0, 0, 0, 0, 0];
+            *numbers = refusal_numbers(refusal);
             *removable = [0; 2];
         }
         Ok(r) => {
@@ -43,10 +45,12 @@ pub fn plan_nth(
                 s: &s,
                 rules: &r.rules,
             };
-            let t = tell_nth(decide_nth(&g, to, textbook != 0, nth, work));
+            let decided = decide_nth(&g, to, textbook != 0, nth, work);
+            let choice = decided.choice;
+            let t = tell(decided.cycles, choice);
             let told = t.numbers;
             let row = t.row;
-            leave(told, work);
+            leave(choice, work);
             *numbers = told;
             *removable = row;
         }
@@ -55,6 +59,8 @@ pub fn plan_nth(
 
 // The first cycle of a sheet that has a plan, in numbers, and the clauses by which the cycles in front of it were declined; else
 // as above.
+// Stays: what was read is opened as above. Each of its values borrows the one in front, so that a function for them would take what
+// follows as a closure, and state of any closure what it may ask and what it answers.
 pub fn first_plan(
     sheet: &[u8],
     work: &mut [u8],
@@ -71,7 +77,7 @@ pub fn first_plan(
 {
     match read(sheet, work) {
         Err(refusal) => {
-            *numbers = [u32::from(refusal), 0, 0, 0, 0, 0, 0, 0];
+            *numbers = refusal_numbers(refusal);
             *cycle = [0; 2];
             *removable = [0; 2];
             *clauses = [0; 128];
@@ -87,13 +93,13 @@ pub fn first_plan(
             let found = decide_first(&g, to, textbook != 0, work);
             let declines = found.clauses;
             let answer = found.answer;
-            let t = tell_search(found.declined, answer);
+            let choice = choice_in(answer);
+            let t = tell(found.declined, choice);
             let told = t.numbers;
-            let members = t.cycle;
             let row = t.row;
-            leave(told, work);
+            leave(choice, work);
             *numbers = told;
-            *cycle = members;
+            *cycle = members_in(answer);
             *removable = row;
             *clauses = declines;
         }

@@ -1,5 +1,5 @@
 // How much a sheet holds.
-ghost use Rattle.std.specs.Prelude.{◌≡◌, ◌∷◌, replicate};
+ghost use Rattle.std.specs.Prelude.{◌≡◌};
 ghost use Rattle.grammar.specs.Words.{words};
 ghost use Rattle.grammar.specs.Found.{FoundRules};
 ghost use Rattle.sheet.specs.Answer.{numbers_in};
@@ -33,13 +33,6 @@ pub fn counted(s: &[u8], parts: Parts, n: u32) -> Sizes
         elements: v.elements,
         preserved: parts.count,
     }
-}
-
-// A refusal's number, and zeros.
-pub fn refusal_numbers(number: u32) -> [u32; 12]
-    ensures { result ≡ number ∷ replicate 11 0 }
-{
-    [number, 0, 0, 0, 0, 0, 0, 0, 0, 0, 0, 0]
 }
 
 // 0, and the parts and sizes of a sheet.

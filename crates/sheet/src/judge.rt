@@ -13,7 +13,7 @@ ghost use Rattle.words.specs.Sheet.{text};
 
 use ids::ids::collect;
 use ids::lists::{is_distinct, put_row};
-use ids::survey::{Survey, survey_all};
+use ids::survey::{Survey, Track, survey_all};
 use records::rules::Rules;
 use words::numbers::{Refusal, Sort};
 use words::sheet::Sheet;
@@ -40,12 +40,12 @@ fn rows_are_distinct(rules: Rules, work: &mut [u8]) -> bool
 
 // Whether no two ids of one sort are equal: those that rise are not, the others are collected and parted.
 #[tactic(auto, using(ids::proofs::Laws::Lists::words_take))]
-fn sort_is_distinct(s: &Sheet, n: u32, sort: Sort, falls: bool, work: &mut [u8]) -> bool
+fn sort_is_distinct(s: &Sheet, n: u32, sort: Sort, track: Track, work: &mut [u8]) -> bool
     requires bounds { 4 * s.now.end + 4 ≤ length work.old }
-    requires found_rules { FoundRules (text s.now) s.now.end n 0 × RisesApart (text s.now) s.now.end n (sort_number sort) falls }
+    requires found_rules { FoundRules (text s.now) s.now.end n 0 × RisesApart (text s.now) s.now.end n (sort_number sort) track.falls }
     ensures { SortDistinct (text s.now) s.now.end n (sort_number sort) result }
 {
-    if !falls {
+    if !track.falls {
         return true;
     }
     let k = collect(s, n, sort, work);
@@ -58,9 +58,9 @@ fn parts_are_distinct(s: &Sheet, n: u32, v: Survey, work: &mut [u8]) -> bool
     requires found_rules { FoundRules (text s.now) s.now.end n 0 × Surveyed (text s.now) s.now.end n v }
     ensures { PartsDistinct (text s.now) s.now.end n result }
 {
-    sort_is_distinct(s, n, Sort::Label, v.label.falls, work)
-        && sort_is_distinct(s, n, Sort::Action, v.action.falls, work)
-        && sort_is_distinct(s, n, Sort::Predicate, v.predicate.falls, work)
+    sort_is_distinct(s, n, Sort::Label, v.label, work)
+        && sort_is_distinct(s, n, Sort::Action, v.action, work)
+        && sort_is_distinct(s, n, Sort::Predicate, v.predicate, work)
 }
 
 fn bodies_are_distinct(s: &Sheet, n: u32, v: Survey, work: &mut [u8]) -> bool
@@ -68,8 +68,8 @@ fn bodies_are_distinct(s: &Sheet, n: u32, v: Survey, work: &mut [u8]) -> bool
     requires found_rules { FoundRules (text s.now) s.now.end n 0 × Surveyed (text s.now) s.now.end n v }
     ensures { BodiesDistinct (text s.now) s.now.end n result }
 {
-    sort_is_distinct(s, n, Sort::Alternative, v.alternative.falls, work)
-        && sort_is_distinct(s, n, Sort::Element, v.element.falls, work)
+    sort_is_distinct(s, n, Sort::Alternative, v.alternative, work)
+        && sort_is_distinct(s, n, Sort::Element, v.element, work)
         && parts_are_distinct(s, n, v, work)
 }
 

@@ -4,6 +4,7 @@
 pub mod answer;
 mod counts;
 mod judge;
+mod refused;
 
 ghost use Rattle.std.specs.Prelude.{◌≡◌};
 ghost use Rattle.sheet.specs.Answer.{ReadAs, read_lent, work_after};
@@ -12,7 +13,8 @@ ghost use Rattle.sheet.specs.Sizes.{SummedAs, numbers_of, ids_of, names_of, plac
 use answer::{examine, is_length};
 pub use answer::{Parts, Reading};
 pub use counts::Sizes;
-use counts::{counted, refusal_numbers, sheet_numbers};
+use counts::{counted, sheet_numbers};
+pub use refused::refusal_numbers;
 use words::numbers::{Refusal, Work};
 use words::words::clear;
 
@@ -59,7 +61,7 @@ pub fn read_sheet(
 {
     match read(sheet, work) {
         Err(refusal) => {
-            *numbers = refusal_numbers(u32::from(refusal));
+            *numbers = refusal_numbers(refusal);
             *ids = [0; 128];
             *names = [0; 128];
             *places = [0; 128];

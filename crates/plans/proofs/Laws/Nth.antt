@@ -1,5 +1,5 @@
 -- The decision for the nth of the rows that are listed is the definition's for the nth cycle.
-use Prim.Native.Nat.{ℕ, suc, ◌-◌, ◌<◌, ◌≤◌}
+use Prim.Native.Nat.{ℕ, suc, ◌<◌, ◌≤◌}
 use mathlib.Core.Path.{◌≡◌, refl, sym, subst}
 use mathlib.Core.List.Memᴰ
 use mathlib.Core.List.{List, [], Memᴰ}
@@ -7,7 +7,7 @@ use mathlib.Core.Bool.{Bool}
 use native.Mathlib.Omega.{arith}
 use lib.ListN.{length, get_or, take, drop}
 use lib.Seq.{split_at, length-take-le}
-use Rattle.grammar.specs.Numbers.{most_words, word_end}
+use Rattle.grammar.specs.Numbers.{most_words}
 use Rattle.grammar.specs.Tree.{Rule, body_depth, inner_depth}
 use Rattle.reference.specs.Analysis.{grammar_of}
 use Rattle.reference.specs.Plan.{plan_cycle}
@@ -28,13 +28,7 @@ use Rattle.plan.specs.Known.{CycleKnown}
 use Rattle.plan.specs.Decision.{DecidedAs, PlanOf}
 use Rattle.hub.proofs.Laws.Cycle.{listed_cycle}
 use Rattle.plan.specs.Ground.{KeptOf}
-use Rattle.plans.specs.Nth.{capped, cycles_of, NthOf}
-
-pub capped_low : (n : ℕ) → n < word_end - 1 → n ≡ capped n
-capped_low n l = omega arith
-
-pub capped_high : (n : ℕ) → word_end - 1 ≤ n → word_end - 1 ≡ capped n
-capped_high n l = omega arith
+use Rattle.plans.specs.Nth.{cycles_of, NthOf}
 
 module _ {ws : List ℕ} {end to : ℕ} {rules : Rules} {past : Bool} {calls corners : List (List ℕ)} {marks : Marks} {kept : List ℕ}
     (f : FactsFound ws end rules past calls corners marks) (k : KeptOf ws end to rules kept) (small : end ≤ most_words) where
@@ -107,4 +101,4 @@ module _ {ws : List ℕ} {end to : ℕ} {rules : Rules} {past : Bool} {calls cor
                 };
           }
 
-pub ruleset nths = (capped_low, capped_high, nth_none, nth_known, nth_some)
+pub ruleset nths = (nth_none, nth_known, nth_some)

@@ -2,11 +2,9 @@
 use Prim.Native.Nat.{ℕ, ◌+◌}
 use mathlib.Core.Path.{◌≡◌, refl, sym, ap, ◌∙◌, subst}
 use mathlib.Core.List.{List}
-use mathlib.Core.Bool.{Bool, true, false}
+use mathlib.Core.Bool.{Bool}
 use native.Mathlib.Omega.{arith}
 use lib.ListN.{length, get_or, replicate, length-replicate}
-use lib.Dec.{eqb}
-use borrow.Author.Tests.{eqb-true}
 use Rattle.grammar.specs.Words.{words}
 use Rattle.grammar.specs.Tree.{Rule}
 use Rattle.grammar.specs.Ids.{rule_ids}
@@ -26,7 +24,7 @@ use Rattle.plan.specs.declared.search.FoundPlan.{FoundPlan}
 use Rattle.plans.specs.declared.nth.Nth.{Nth}
 use Rattle.plans.specs.Nth.{ChoiceAs, NthAs, NthOf, choice_numbers, nth_numbers, nth_row, left_by}
 use Rattle.plans.specs.Told.{Cleared, NthToldOf, NthTold, FirstToldOf, FirstTold}
-use Rattle.plans.specs.First.{SearchAs, FirstAs, FirstOf, search_numbers, search_cycle, search_row}
+use Rattle.plans.specs.First.{SearchAs, FirstAs, FirstOf, choice_in, search_numbers, search_cycle, search_row}
 use Rattle.plan.specs.declared.search.Found.{Found}
 use Rattle.reference.specs.Substitute.{standard}
 use Rattle.plans.proofs.Laws.Ground.{read_end, read_preserved}
@@ -53,53 +51,43 @@ found_moved {ws} {e₁} {e₂} {i₁} {i₂} {n₁} {n₂} {bs} {c} {r₁} {r₂
     (subst (λ z. FirstAs standard ws e₁ i₁ n₁ bs c r₁ z r) f x))))
 
 -- Where the work area is left so, there are zeros without a plan,
-left_cleared : (list : List ℕ) {after numbers : List ℕ} → after ≡ left_by numbers list → Cleared after numbers
-unfolding left_by
-left_cleared list {after} {numbers} e = record { is = λ z. go z (eqb (get_or numbers 2 0) 0) refl e }
-  where
-    go : (get_or numbers 2 0 ≡ 0 → ⊥) → (b : Bool) → eqb (get_or numbers 2 0) 0 ≡ b
-        → after ≡ elim b [ true ↦ list | false ↦ replicate (length list) 0 ] → after ≡ replicate (length after) 0
-    go z true x l = absurd (z (eqb-true _ _ x))
-    go z false x l = l ∙ ap (λ n. replicate n 0) (sym (ap length l ∙ length-replicate (length list) 0))
+left_zeros : (list : List ℕ) {after : List ℕ} → after ≡ replicate (length list) 0 → after ≡ replicate (length after) 0
+left_zeros list e = e ∙ ap (λ n. replicate n 0) (sym (ap length e ∙ length-replicate (length list) 0))
+
+left_cleared : (list : List ℕ) (k : ℕ) (x : Option (Result Plan Unplanned)) {after numbers : List ℕ} → numbers ≡ choice_numbers k x
+    → after ≡ left_by x list → Cleared after numbers
+left_cleared list k None f e = record { is = λ z. left_zeros list e }
+left_cleared list k (Some (Ok p)) f e = record { is = λ z. absurd (z (ap (λ l. get_or l 2 0) f)) }
+left_cleared list k (Some (Err x)) f e = record { is = λ z. left_zeros list e }
 
 -- and what is decided stays so.
 module _ (ws : List ℕ) (end : ℕ) (ids : List ℕ) (n : ℕ) (list : List ℕ) {after : List ℕ} (c : Corners) (rs : List Rule) (ps : List ℕ) where
-  choice_left : (nth k : ℕ) (x : Option (Result Plan Unplanned)) → after ≡ left_by (choice_numbers k x) list → ChoiceAs ws end ids n list c rs ps nth x
+  choice_left : (nth : ℕ) (x : Option (Result Plan Unplanned)) → after ≡ left_by x list → ChoiceAs ws end ids n list c rs ps nth x
       → ChoiceAs ws end ids n after c rs ps nth x
-  unfolding left_by
-  choice_left nth k None e h = h
-  choice_left nth k (Some (Ok p)) e h = subst (λ b. ChoiceAs ws end ids n b c rs ps nth (Some (Ok p))) (sym e) h
-  choice_left nth k (Some (Err (Declined m))) e h = record { low = h.low; is = h.is }
-  choice_left nth k (Some (Err Overfull)) e h = record { low = h.low; is = h.is }
+  choice_left nth None e h = h
+  choice_left nth (Some (Ok p)) e h = subst (λ b. ChoiceAs ws end ids n b c rs ps nth (Some (Ok p))) (sym e) h
+  choice_left nth (Some (Err (Declined m))) e h = record { low = h.low; is = h.is }
+  choice_left nth (Some (Err Overfull)) e h = record { low = h.low; is = h.is }
 
-  nth_left : {nth : ℕ} {t : Nth} {numbers : List ℕ} → numbers ≡ nth_numbers t → after ≡ left_by numbers list
-      → NthAs ws end ids n list c rs ps nth t → NthAs ws end ids n after c rs ps nth t
-  nth_left {nth} {t} f e h =
-      record {
-        cycles = h.cycles;
-        choice = choice_left nth t.cycles t.choice (e ∙ ap (λ l. left_by l list) f) h.choice;
-      }
+  nth_left : {nth : ℕ} {t : Nth} → after ≡ left_by t.choice list → NthAs ws end ids n list c rs ps nth t
+      → NthAs ws end ids n after c rs ps nth t
+  nth_left {nth} {t} e h = record { cycles = h.cycles; choice = choice_left nth t.choice e h.choice }
 
-  search_left : (place : ℕ) (x : Result (Option FoundPlan) Refusal) → after ≡ left_by (search_numbers place x) list → SearchAs standard ws end ids n list c rs ps place x
+  search_left : (place : ℕ) (x : Result (Option FoundPlan) Refusal) → after ≡ left_by (choice_in x) list
+      → SearchAs standard ws end ids n list c rs ps place x
       → SearchAs standard ws end ids n after c rs ps place x
-  unfolding left_by
   search_left place (Ok None) e h = record { all = h.all; is = h.is }
   search_left place (Ok (Some p)) e h = subst (λ b. SearchAs standard ws end ids n b c rs ps place (Ok (Some p))) (sym e) h
   search_left place (Err f) e h = record { low = h.low; over = h.over; is = h.is; refusal = h.refusal }
 
-  first_left : {t : Found} {numbers : List ℕ} → numbers ≡ search_numbers t.declined t.answer → after ≡ left_by numbers list
-      → FirstAs standard ws end ids n list c rs ps t → FirstAs standard ws end ids n after c rs ps t
-  first_left {t} f e h =
-      record {
-        answer = search_left t.declined t.answer (e ∙ ap (λ l. left_by l list) f) h.answer;
-        declines = h.declines;
-        behind = h.behind;
-      }
+  first_left : {t : Found} → after ≡ left_by (choice_in t.answer) list → FirstAs standard ws end ids n list c rs ps t
+      → FirstAs standard ws end ids n after c rs ps t
+  first_left {t} e h = record { answer = search_left t.declined t.answer e h.answer; declines = h.declines; behind = h.behind }
 
 module _ (bs work : List ℕ) {r : Reading} (a : ReadAs (read_lent bs work) (Ok r)) {to : ℕ} (e : to ≡ r.parts.preserved + r.parts.count) where
   pub nth_sheet : {past : Bool} {nth : ℕ} {t : Nth} {list after numbers removable : List ℕ}
       → NthOf (words bs) r.parts.preserved to r.rules past nth list t → numbers ≡ nth_numbers t → removable ≡ nth_row t
-      → after ≡ left_by numbers list
+      → after ≡ left_by t.choice list
       → NthTold (reading past) nth bs (read_lent bs work) (work_after bs work) after numbers removable
   unfolding read_stands
   nth_sheet {past} {nth} {t} {list} {after} {numbers} {removable} d f g l =
@@ -108,8 +96,8 @@ module _ (bs work : List ℕ) {r : Reading} (a : ReadAs (read_lent bs work) (Ok 
         answer = t;
         numbers_are = f;
         removable_is = g;
-        cleared = left_cleared list l;
-        is = nth_left _ _ _ _ list _ _ _ f l
+        cleared = left_cleared list t.cycles t.choice f l;
+        is = nth_left _ _ _ _ list _ _ _ l
             (moved (read_end bs work a) (w.rows.rows.ids ∙ ap (λ rs. row (rule_ids rs)) w.trees)
             (all_rules w.rows ∙ ap length w.trees) w.trees (read_preserved bs work a e) (d.is (read_stands w)));
       } in
@@ -122,7 +110,7 @@ module _ (bs work : List ℕ) {r : Reading} (a : ReadAs (read_lent bs work) (Ok 
 
   pub first_sheet : {past : Bool} {t : Found} {list after numbers cycle removable clauses : List ℕ}
       → FirstOf (words bs) r.parts.preserved to r.rules past list t → numbers ≡ search_numbers t.declined t.answer
-      → cycle ≡ search_cycle t.answer → removable ≡ search_row t.answer → clauses ≡ t.clauses → after ≡ left_by numbers list
+      → cycle ≡ search_cycle t.answer → removable ≡ search_row t.answer → clauses ≡ t.clauses → after ≡ left_by (choice_in t.answer) list
       → FirstTold (reading past) bs (read_lent bs work) (work_after bs work) after numbers cycle removable clauses
   unfolding read_stands
   first_sheet {past} {t} {list} {after} {numbers} {cycle} {removable} {clauses} d f x g y l =
@@ -133,8 +121,8 @@ module _ (bs work : List ℕ) {r : Reading} (a : ReadAs (read_lent bs work) (Ok 
         cycle_is = x;
         removable_is = g;
         clauses_are = y;
-        cleared = left_cleared list l;
-        is = first_left _ _ _ _ list _ _ _ f l
+        cleared = left_cleared list t.declined (choice_in t.answer) f l;
+        is = first_left _ _ _ _ list _ _ _ l
             (found_moved (read_end bs work a) (w.rows.rows.ids ∙ ap (λ rs. row (rule_ids rs)) w.trees)
             (all_rules w.rows ∙ ap length w.trees) w.trees (read_preserved bs work a e) (d.is (read_stands w)));
       } in

@@ -20,5 +20,7 @@ invariant_of-g c = record { standing = rw c.rules_end-end.ensures (facts.read_ru
 
 pub returns-in-Ok-clause-first_told : goal.returns-in-Ok-clause-first_told
 returns-in-Ok-clause-first_told c =
-    let t = c.tell_search-t.ensures in
-    first_sheet _ _ c.in-Ok.ensures.read_as c.preserved_end-to.ensures (rw c.rules_end-end.ensures at c.decide_first-found.ensures) t.0 t.1 t.2 refl c.leave.ensures
+    let t = c.tell-t.ensures in
+    let x = c.choice_in-choice.ensures in
+    first_sheet _ _ c.in-Ok.ensures.read_as c.preserved_end-to.ensures (rw c.rules_end-end.ensures at c.decide_first-found.ensures)
+    (rw x at t.0) c.members_in.ensures (rw x at t.1) refl (rw x at c.leave.ensures)

@@ -6,8 +6,8 @@ use Rattle.plans.proofs.Laws.Told.{nth_sheet}
 pub invariant_of-s : goal.invariant_of-s
 invariant_of-s c = record { room = rw c.rules_end-end.ensures (facts.read_room _ _ c.in-Ok.ensures.read_as) }
 
-pub decide_nth-requires : goal.decide_nth-requires
-decide_nth-requires c =
+pub decide_nth-decided-requires : goal.decide_nth-decided-requires
+decide_nth-decided-requires c =
     let o = c.in-Ok.ensures in
     rw c.rules_end-end.ensures
     (record {
@@ -19,5 +19,5 @@ invariant_of-g c = record { standing = rw c.rules_end-end.ensures (facts.read_ru
 
 pub returns-in-Ok-clause-nth_told : goal.returns-in-Ok-clause-nth_told
 returns-in-Ok-clause-nth_told c =
-    let t = c.tell_nth-t.ensures in
-    nth_sheet _ _ c.in-Ok.ensures.read_as c.preserved_end-to.ensures (rw c.rules_end-end.ensures at c.decide_nth.ensures) t.0 t.1 c.leave.ensures
+    let t = c.tell-t.ensures in
+    nth_sheet _ _ c.in-Ok.ensures.read_as c.preserved_end-to.ensures (rw c.rules_end-end.ensures at c.decide_nth-decided.ensures) t.0 t.1 c.leave.ensures
