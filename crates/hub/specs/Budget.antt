@@ -1,8 +1,7 @@
 -- The budget of a cycle against the definition's (SPECIFICATION 8.10).
 use Rattle.std.specs.Prelude.{ℕ, zero, suc, ◌+◌, ◌*◌, ◌≤◌, ◌≡◌, List, map, Bool, true, false, length, get_or}
 use Rattle.grammar.specs.Numbers.{most_words}
-use Rattle.grammar.specs.Tree.{Rule, body_depth, inner_depth}
-use Rattle.grammar.specs.Found.{RuleSpans}
+use Rattle.grammar.specs.Tree.{Rule, inner_depth}
 use Rattle.reference.specs.Substitute.{Limits, substitution_budget}
 use Rattle.records.specs.declared.rules.Rules.{Rules}
 use Rattle.reach.specs.Rows.{bit}
@@ -23,12 +22,7 @@ abbrev pub counts : List Rule → List ℕ
 counts rs = map (λ r. length r.body) rs
 
 module _ (ws : List ℕ) (end : ℕ) where
-  -- How many the rule at a place has, if it is to be counted.
-  pub record Counted (at : ℕ) (on : Bool) (r : ℕ) : Type 0 where
-    pub is : (t : Rule) (q : ℕ) → RuleSpans ws end body_depth at t q → r ≡ amount on (length t.body)
-    pub low : r ≤ end
-
-  -- How many the members among the first i rules have, by the rules' places.
+  -- How many alternatives the members among the first i rules have, by the rules' places.
   pub record Summed (places members : List ℕ) (i r : ℕ) : Type 0 where
     pub is : (rules : Rules) (s : Standing ws end rules) → rules.places ≡ places → i ≤ rules.n
         → r ≡ sum_below (λ k. amount (bit members k) (get_or (counts (rules_of ws end rules s)) k 0)) i

@@ -1,28 +1,14 @@
 // How many steps the substitution of a cycle may take (SPECIFICATION 8.10).
-ghost use Rattle.std.specs.Prelude.{◌+◌, ◌*◌, ◌<◌, ◌≤◌};
+ghost use Rattle.std.specs.Prelude.{◌≤◌};
 ghost use Rattle.grammar.specs.Numbers.{rule_limit, most_words};
-ghost use Rattle.grammar.specs.Found.{FoundRule};
-ghost use Rattle.hub.specs.Budget.{Counted, Summed, IsBudget};
+ghost use Rattle.hub.specs.Budget.{Summed, IsBudget};
 ghost use Rattle.words.specs.Sheet.{text};
 
 use analysis::ruled::Ruled;
 use reach::rows::{Row, has};
-use words::sheet::Sheet;
 use words::words::word;
 
-// How many alternatives the rule at `at` has, if it is to be counted.
-fn count_if(s: &Sheet, at: usize, on: bool) -> usize
-    requires bounds { at + 4 ≤ s.now.end }
-    requires found_rule { FoundRule (text s.now) s.now.end at }
-    ensures { Counted (text s.now) s.now.end at on result }
-{
-    if on {
-        return word(s.bytes, at + 3) as usize;
-    }
-    0
-}
-
-// How many the members have.
+// How many alternatives the members have.
 fn alternatives(g: &Ruled, members: [u64; Row::WORDS]) -> usize
     requires bounds { (g.now.s.now.end ≤ most_words) × (g.now.rules.now.n ≤ rule_limit) }
     ensures { Summed (text g.now.s.now) g.now.s.now.end g.now.rules.now.places members g.now.rules.now.n result }
@@ -31,7 +17,9 @@ fn alternatives(g: &Ruled, members: [u64; Row::WORDS]) -> usize
     let n = g.rules.n as usize;
     let mut sum = 0;
     for i in 0..n {
-        sum += count_if(g.s, places[i] as usize, has(members, i));
+        if has(members, i) {
+            sum += word(g.s.bytes, places[i] as usize + 3) as usize;
+        }
     }
     sum
 }

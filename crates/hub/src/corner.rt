@@ -26,17 +26,17 @@ fn name_settles(c: &Cycle, name: u32) -> bool
 }
 
 // n elements from `at` on: the first that is significant decides.
-fn settled_outside(s: &Sheet, depth: u32, c: &Cycle, n: u32, at: usize) -> bool
+fn settled_outside(s: &Sheet, c: &Cycle, n: u32, at: usize) -> bool
     requires bounds { at ≤ s.now.end }
-    requires found_elements { FoundElements (text s.now) s.now.end depth n at }
-    ensures { Settles c.now (text s.now) s.now.end depth n at result }
+    requires found_elements { FoundElements (text s.now) s.now.end inner_depth n at }
+    ensures { Settles c.now (text s.now) s.now.end inner_depth n at result }
 {
     let mut p = at;
     for _ in 0..n {
-        let head = element_head(s, depth, p);
+        let head = element_head(s, Block::DEPTH, p);
         match head.kind {
             Kind::Epsilon | Kind::Action | Kind::Predicate => {
-                p = leaf_end(s, depth, p, head);
+                p = leaf_end(s, Block::DEPTH, p, head);
             }
             Kind::Call => return name_settles(c, word(s.bytes, head.payload)),
             Kind::Token | Kind::Terminal | Kind::Block | Kind::EndOfInput => return true,
@@ -54,9 +54,7 @@ fn any_settled(s: &Sheet, c: &Cycle, n: u32, at: usize) -> bool
     let mut p = at;
     for _ in 0..n {
         let head = alternative_head(s, Block::DEPTH, p);
-        let count = head.count;
-        let first = head.first;
-        if settled_outside(s, Block::DEPTH, c, count, first) {
+        if settled_outside(s, c, head.count, head.first) {
             return true;
         }
         p = alternative_end(s, Block::DEPTH, p);

@@ -1,31 +1,35 @@
 // Which rules are preserved. The list is asked here alone.
-ghost use Rattle.std.specs.Prelude.{◌≡◌, true, ◌*◌, ◌<◌, ◌≤◌, length};
+ghost use Rattle.std.specs.Prelude.{◌≡◌, true, ◌≤◌};
 ghost use Rattle.grammar.specs.Numbers.{rule_limit};
 ghost use Rattle.grammar.specs.Words.{words};
 ghost use Rattle.grammar.specs.Lists.{member, rising};
 ghost use Rattle.reach.specs.Rows.{RowOf};
-ghost use Rattle.hub.specs.Preserved.{between};
 
 use reach::rows::{Row, collect};
 use records::rules::Rules;
 
-// Whether an id is among the words from `from` up to `to`, which rise.
-pub fn is_preserved(s: &[u8], from: usize, to: usize, id: u32) -> bool
-    requires from_le_to { (from ≤ to) × (4 * to ≤ length s.now) }
-    requires to_value { rising (between (words s.now) from to) ≡ true }
-    ensures { result ≡ member id (between (words s.now) from to) }
-{
-    let (run, _) = s[4 * from..4 * to].as_chunks::<4>();
-    run.binary_search_by_key(&id, |w| u32::from_le_bytes(*w))
-        .is_ok()
+// The preserved ids, as the bytes of a sheet in which they stand: words that rise.
+#[derive(Clone, Copy, Debug, PartialEq, Eq)]
+pub struct Preserved<'a> {
+    pub ids: &'a [u8],
+    ghost rises: { rising (words ids.now) ≡ true },
 }
 
-// The row of the rules that are.
-pub fn preserved_rows(s: &[u8], rules: Rules, from: usize, to: usize) -> [u64; Row::WORDS]
-    requires from_le_to { (from ≤ to) × (4 * to ≤ length s.now) × (rules.n ≤ rule_limit) }
-    requires to_value { rising (between (words s.now) from to) ≡ true }
-    ensures { RowOf rules.ids rules.n (between (words s.now) from to) result }
-{
-    let ids = rules.ids;
-    collect(rules.n as usize, |i| is_preserved(s, from, to, ids[i]))
+impl Preserved<'_> {
+    // Whether an id is among them.
+    pub fn has(&self, id: u32) -> bool
+        ensures { result ≡ member id (words self.now.ids.now) }
+    {
+        let (run, _) = self.ids.as_chunks::<4>();
+        run.binary_search_by_key(&id, |w| u32::from_le_bytes(*w))
+            .is_ok()
+    }
+
+    // The row of the rules whose ids are.
+    pub fn rows(&self, rules: &Rules) -> [u64; Row::WORDS]
+        requires { rules.now.n ≤ rule_limit }
+        ensures { RowOf rules.now.ids rules.now.n (words self.now.ids.now) result }
+    {
+        collect(rules.n as usize, |i| self.has(rules.ids[i]))
+    }
 }

@@ -12,6 +12,6 @@ pub record KeptAt (bs : List ℕ) (from to : ℕ) : Type 0 where
   pub inside : 4 * to ≤ length bs
   pub rises : rising (between (words bs) from to) ≡ true
 
--- The row of the rules that have these ids.
-pub record KeptOf (ws : List ℕ) (from to : ℕ) (rules : Rules) (r : List ℕ) : Type 0 where
-  pub row : RowOf rules.ids rules.n (between ws from to) r
+-- The row of the rules that have preserved ids.
+pub record KeptOf (preserved : List ℕ) (rules : Rules) (r : List ℕ) : Type 0 where
+  pub row : RowOf rules.ids rules.n preserved r

@@ -1,14 +1,15 @@
 // What the decisions rest on: what is found out about the rules of a sheet.
 ghost use Rattle.std.specs.Prelude.{◌≡◌, ◌≤◌, length};
-ghost use Rattle.grammar.specs.Numbers.{rule_limit, work_bytes};
+ghost use Rattle.grammar.specs.Numbers.{work_bytes};
+ghost use Rattle.grammar.specs.Words.{words};
 ghost use Rattle.analysis.specs.Names.{table_with};
 ghost use Rattle.analysis.specs.Facts.{FactsFound};
-ghost use Rattle.plan.specs.Ground.{KeptAt, KeptOf};
+ghost use Rattle.plan.specs.Ground.{KeptOf};
 ghost use Rattle.words.specs.Sheet.{text};
 
 use analysis::rounds::{Marks, Rows, find_rows};
 use analysis::ruled::Ruled;
-use hub::preserved::preserved_rows;
+use hub::preserved::Preserved;
 use reach::rows::Row;
 
 // The marks of the rules, and the row of the preserved ones.
@@ -18,15 +19,21 @@ pub struct Ground {
     pub kept: [u64; Row::WORDS],
 }
 
-// What is found out about rules whose preserved ids stand from their end up to `to`; calls and left corners are put into the rows,
-// and the places of the names into the work area.
-pub fn find_out(g: &Ruled, to: usize, past: bool, rows: &mut Rows, work: &mut [u8]) -> Ground
-    requires bounds { (work_bytes ≤ length work.old) × KeptAt g.now.s.now.bytes.now g.now.s.now.end to }
+// What is found out about rules and preserved ids; calls and left corners are put into the rows, and the places of the names into
+// the work area.
+pub fn find_out(
+    g: &Ruled,
+    preserved: &Preserved,
+    past: bool,
+    rows: &mut Rows,
+    work: &mut [u8],
+) -> Ground
+    requires bounds { work_bytes ≤ length work.old }
     ensures facts_found { FactsFound (text g.now.s.now) g.now.s.now.end g.now.rules.now past rows.new.calls rows.new.corners result.marks }
-    ensures kept_of { KeptOf (text g.now.s.now) g.now.s.now.end to g.now.rules.now result.kept }
+    ensures kept_of { KeptOf (words preserved.now.ids.now) g.now.rules.now result.kept }
     ensures work_after { work.new ≡ table_with g.now.rules.now.names g.now.rules.now.n work.old }
 {
     let marks = find_rows(g, past, rows, work);
-    let kept = preserved_rows(g.s.bytes, *g.rules, g.s.end, to);
+    let kept = preserved.rows(g.rules);
     Ground { marks, kept }
 }

@@ -12,7 +12,6 @@ use Rattle.records.specs.declared.rules.Rules.{Rules}
 use Rattle.reach.specs.Rows.{RowOf}
 use Rattle.analysis.specs.Survey.{reading}
 use Rattle.analysis.specs.Facts.{Standing}
-use Rattle.hub.specs.Preserved.{between}
 use Rattle.steps.specs.Decide.{DeclinedByNumber}
 use Rattle.turns.specs.declared.turn.Unplanned.{Unplanned}
 use Rattle.turns.specs.declared.turn.Unplanned.TheVariants.{Overfull}
@@ -64,10 +63,10 @@ module _ (limits : Limits) (ws : List ℕ) (end : ℕ) (ids : List ℕ) (n : ℕ
     pub declines : (k : ℕ) → k < r.declined → DeclinedByNumber (decision_at k) (get_or r.clauses k 0)
     pub behind : (k : ℕ) → r.declined ≤ k → get_or r.clauses k 0 ≡ 0
 
--- So it is for rules that stand in a sheet, with the preserved ids behind them.
-pub record FirstOf (ws : List ℕ) (end to : ℕ) (rules : Rules) (past : Bool) (bs : List ℕ) (r : Found) : Type 0 where
+-- So it is for rules that stand in a sheet, and preserved ids.
+pub record FirstOf (ws : List ℕ) (end : ℕ) (preserved : List ℕ) (rules : Rules) (past : Bool) (bs : List ℕ) (r : Found) : Type 0 where
   pub is : (s : Standing ws end rules)
-      → FirstAs standard ws end rules.ids rules.n bs (reading past) s.rows.found.trees (between ws end to) r
+      → FirstAs standard ws end rules.ids rules.n bs (reading past) s.rows.found.trees preserved r
 
 -- What a search comes to, as a choice among the cycles: the decision for the last one that was tried; none where each was declined.
 abbrev pub choice_in : Result (Option FoundPlan) Refusal → Option (Result Plan Unplanned)

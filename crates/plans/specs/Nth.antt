@@ -10,7 +10,6 @@ use Rattle.reference.specs.Plan.{plan_cycle}
 use Rattle.records.specs.declared.rules.Rules.{Rules}
 use Rattle.analysis.specs.Survey.{reading}
 use Rattle.analysis.specs.Facts.{Standing}
-use Rattle.hub.specs.Preserved.{between}
 use Rattle.steps.specs.Decide.{clause_of}
 use Rattle.turns.specs.declared.turn.Unplanned.{Unplanned}
 use Rattle.turns.specs.declared.turn.Unplanned.TheVariants.{Declined, Overfull}
@@ -39,10 +38,10 @@ module _ (ws : List ℕ) (end : ℕ) (ids : List ℕ) (n : ℕ) (bs : List ℕ) 
     pub cycles : r.cycles ≡ length (cycles_of c rs)
     pub choice : ChoiceAs r.choice
 
--- So it is for rules that stand in a sheet, with the preserved ids behind them.
-pub record NthOf (ws : List ℕ) (end to : ℕ) (rules : Rules) (past : Bool) (nth : ℕ) (bs : List ℕ) (r : Nth) : Type 0 where
+-- So it is for rules that stand in a sheet, and preserved ids.
+pub record NthOf (ws : List ℕ) (end : ℕ) (preserved : List ℕ) (rules : Rules) (past : Bool) (nth : ℕ) (bs : List ℕ) (r : Nth) : Type 0 where
   pub is : (s : Standing ws end rules)
-      → NthAs ws end rules.ids rules.n bs (reading past) s.rows.found.trees (between ws end to) nth r
+      → NthAs ws end rules.ids rules.n bs (reading past) s.rows.found.trees preserved nth r
 
 -- A number as one of 32 bits; a larger one is told as the largest.
 abbrev pub capped : ℕ → ℕ

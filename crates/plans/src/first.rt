@@ -1,12 +1,13 @@
 // The first cycle with a plan.
 ghost use Rattle.std.specs.Prelude.{◌≡◌, ◌≤◌, length};
 ghost use Rattle.grammar.specs.Numbers.{most_words, work_bytes};
-ghost use Rattle.plan.specs.Ground.{KeptAt};
+ghost use Rattle.grammar.specs.Words.{words};
 ghost use Rattle.plans.specs.First.{FirstOf, choice_in, search_cycle};
 ghost use Rattle.words.specs.Sheet.{text};
 
 use analysis::rounds::Rows;
 use analysis::ruled::Ruled;
+use hub::preserved::Preserved;
 use plan::facts::Facts;
 use plan::ground::find_out;
 use plan::plan::Plan;
@@ -16,15 +17,15 @@ use turns::limits::Limits;
 use turns::turn::Unplanned;
 use words::numbers::Refusal;
 
-// The first plan for rules that stand in a sheet, with their preserved ids behind them up to `to`.
+// The first plan for rules that stand in a sheet, and preserved ids.
 // Stays: it opens as `decide_nth` does. A function for that would hand back a `Facts` that borrows the rows, and state in its clauses
 // what `find_out` states: it would be longer than the two statements that it spares each of its callers.
-pub fn decide_first(g: &Ruled, to: usize, past: bool, work: &mut [u8]) -> Found
-    requires bounds { (g.now.s.now.end ≤ most_words) × (work_bytes ≤ length work.old) × KeptAt g.now.s.now.bytes.now g.now.s.now.end to }
-    ensures { FirstOf (text g.now.s.now) g.now.s.now.end to g.now.rules.now past work.new result }
+pub fn decide_first(g: &Ruled, preserved: &Preserved, past: bool, work: &mut [u8]) -> Found
+    requires bounds { (g.now.s.now.end ≤ most_words) × (work_bytes ≤ length work.old) }
+    ensures { FirstOf (text g.now.s.now) g.now.s.now.end (words preserved.now.ids.now) g.now.rules.now past work.new result }
 {
     let mut rows = Rows::empty();
-    let ground = find_out(g, to, past, &mut rows, work);
+    let ground = find_out(g, preserved, past, &mut rows, work);
     let limits = Limits::standard();
     let facts = Facts {
         g,

@@ -15,6 +15,7 @@ use crate::first::{choice_in, decide_first, members_in};
 use crate::nth::decide_nth;
 use crate::told::{leave, tell};
 use analysis::ruled::Ruled;
+use hub::preserved::Preserved;
 use sheet::{read, refusal_numbers};
 use words::sheet::Sheet;
 
@@ -45,7 +46,10 @@ pub fn plan_nth(
                 s: &s,
                 rules: &r.rules,
             };
-            let decided = decide_nth(&g, to, textbook != 0, nth, work);
+            let preserved = Preserved {
+                ids: &sheet[4 * end..4 * to],
+            };
+            let decided = decide_nth(&g, &preserved, textbook != 0, nth, work);
             let choice = decided.choice;
             let t = tell(decided.cycles, choice);
             let told = t.numbers;
@@ -90,7 +94,10 @@ pub fn first_plan(
                 s: &s,
                 rules: &r.rules,
             };
-            let found = decide_first(&g, to, textbook != 0, work);
+            let preserved = Preserved {
+                ids: &sheet[4 * end..4 * to],
+            };
+            let found = decide_first(&g, &preserved, textbook != 0, work);
             let declines = found.clauses;
             let answer = found.answer;
             let choice = choice_in(answer);

@@ -1,12 +1,13 @@
 // The decision for one of the cycles.
 ghost use Rattle.std.specs.Prelude.{◌≡◌, ◌≤◌, length};
 ghost use Rattle.grammar.specs.Numbers.{most_words, work_bytes};
-ghost use Rattle.plan.specs.Ground.{KeptAt};
+ghost use Rattle.grammar.specs.Words.{words};
 ghost use Rattle.plans.specs.Nth.{NthOf};
 ghost use Rattle.words.specs.Sheet.{text};
 
 use analysis::rounds::Rows;
 use analysis::ruled::Ruled;
+use hub::preserved::Preserved;
 use plan::facts::Facts;
 use plan::ground::find_out;
 use plan::plan::{Plan, plan_cycle};
@@ -22,14 +23,20 @@ pub struct Nth {
     pub choice: Option<Result<Plan, Unplanned>>,
 }
 
-// The decision for the nth cycle of rules that stand in a sheet, with their preserved ids behind them up to `to`.
-pub fn decide_nth(g: &Ruled, to: usize, past: bool, nth: u32, work: &mut [u8]) -> Nth
-    requires bounds { (g.now.s.now.end ≤ most_words) × (work_bytes ≤ length work.old) × KeptAt g.now.s.now.bytes.now g.now.s.now.end to }
-    ensures { NthOf (text g.now.s.now) g.now.s.now.end to g.now.rules.now past nth work.new result }
+// The decision for the nth cycle of rules that stand in a sheet, and preserved ids.
+pub fn decide_nth(
+    g: &Ruled,
+    preserved: &Preserved,
+    past: bool,
+    nth: u32,
+    work: &mut [u8],
+) -> Nth
+    requires bounds { (g.now.s.now.end ≤ most_words) × (work_bytes ≤ length work.old) }
+    ensures { NthOf (text g.now.s.now) g.now.s.now.end (words preserved.now.ids.now) g.now.rules.now past nth work.new result }
 {
     let mut rows = Rows::empty();
     let mut cycles = [[0u64; Row::WORDS]; Row::RULES];
-    let ground = find_out(g, to, past, &mut rows, work);
+    let ground = find_out(g, preserved, past, &mut rows, work);
     let ids = g.rules.ids;
     let n = list_cycles(rows.corners, ids, g.rules.n as usize, &mut cycles);
     if n <= nth {

@@ -11,6 +11,7 @@ use crate::turn::take_turn;
 use analysis::rounds::Rows;
 use analysis::ruled::Ruled;
 use apply::apply::Applied;
+use hub::preserved::Preserved;
 use plan::ground::find_out;
 use turns::limits::Limits;
 use words::numbers::Refusal;
@@ -44,7 +45,10 @@ pub fn run_unit(
         s: &s,
         rules: &before.rules,
     };
-    let ground = find_out(&g, before.to, past, &mut rows, work);
+    let preserved = Preserved {
+        ids: &res[4 * before.end..4 * before.to],
+    };
+    let ground = find_out(&g, &preserved, past, &mut rows, work);
     let mut st = State::begin(before, ground);
     // Stays: how many turns there are is known only when one finds no plan. A turn says whether there is another.
     while let Some(next) = take_turn(res, trail, work, &mut rows, limits, past, room, st)? {

@@ -8,10 +8,10 @@ use native.Mathlib.Nat.{mul-le-mul}
 use native.Mathlib.Numerals.{add-one}
 use lib.ListN.{length, get_or, length-append}
 use Rattle.grammar.specs.Numbers.{most_words, rule_limit}
-use Rattle.grammar.specs.Tree.{AlternativeOf, Block, Rule, inner_depth}
+use Rattle.grammar.specs.Tree.{AlternativeOf, Block, Rule, body_depth, inner_depth}
 use Rattle.grammar.specs.Encode.{encode_alternative, encode_block}
 use Rattle.grammar.specs.Lists.{each, member, keep, push, total}
-use Rattle.grammar.specs.Found.{FoundRule}
+use Rattle.grammar.specs.Found.{FoundRule, RuleSpans}
 use Rattle.grammar.specs.Laws.Stands.{stands_length}
 use Rattle.grammar.specs.Laws.Opened.{rule_words_lem}
 use Rattle.reference.specs.Substitute.{substitution_budget}
@@ -21,8 +21,13 @@ use Rattle.analysis.specs.Facts.{Among, Standing}
 use Rattle.analysis.proofs.Laws.Agree.{behind}
 use Rattle.analysis.proofs.Laws.Standing.{all_rules, id_at, key_at, rule_spans}
 use Rattle.hub.specs.Grounds.{rules_of, IsCycle}
-use Rattle.hub.specs.Budget.{amount, sum_below, counts, Counted, Summed, IsBudget}
+use Rattle.hub.specs.Budget.{amount, sum_below, counts, Summed, IsBudget}
 use Rattle.hub.proofs.Laws.Grounds.{row_bit, at_place, place_low}
+
+-- How many alternatives the rule at a place has, if it is to be counted.
+pub record Counted (ws : List ℕ) (end at : ℕ) (on : Bool) (r : ℕ) : Type 0 where
+  pub is : (t : Rule) (q : ℕ) → RuleSpans ws end body_depth at t q → r ≡ amount on (length t.body)
+  pub low : r ≤ end
 
 -- An alternative takes a word at least.
 words_of : (d : ℕ) (as' : List (AlternativeOf (Block d))) → length as' ≤ length (each (encode_alternative (encode_block d)) as')
@@ -37,10 +42,10 @@ module _ {ws : List ℕ} {end at : ℕ} {on : Bool} where
   pub count_none : on ≡ false → Counted ws end at on 0
   count_none f = record { is = λ t q s. rw f refl; low = omega arith }
 
-  pub count_word : {w r : ℕ} → FoundRule ws end at → on ≡ true → w ≡ get_or ws (at + 3) 0 → r ≡ w → Counted ws end at on r
-  count_word {w} {r} f t e z =
+  pub count_word : {w : ℕ} → FoundRule ws end at → on ≡ true → w ≡ get_or ws (at + 3) 0 → Counted ws end at on w
+  count_word {w} f t e =
       record {
-        is = λ x q s. rw t (z ∙ e ∙ (rule_words_lem inner_depth s).count);
+        is = λ x q s. rw t (e ∙ (rule_words_lem inner_depth s).count);
         low =
             let o = rule_words_lem inner_depth f.spans in
             let l = stands_length o.alternatives.stands in
@@ -49,28 +54,26 @@ module _ {ws : List ℕ} {end at : ℕ} {on : Bool} where
             omega arith;
       }
 
-pub ruleset counting = (count_none, count_word)
-
 module _ {ws : List ℕ} {end : ℕ} {places members : List ℕ} where
   pub sum_none : Summed ws end places members 0 0
   unfolding sum_below
   sum_none = record { is = λ rules s e l. refl; low = omega arith }
 
   module _ {i r : ℕ} (g : Summed ws end places members i r) where
-    pub sum_more : {at c : ℕ} {on : Bool} → end ≤ most_words → at ≡ get_or places i 0 → on ≡ bit members i → Counted ws end at on c
-        → Summed ws end places members (i + 1) (r + c)
+    pub sum_more : {at c more : ℕ} {on : Bool} → end ≤ most_words → at ≡ get_or places i 0 → on ≡ bit members i → Counted ws end at on c
+        → more ≡ r + c → Summed ws end places members (i + 1) more
     unfolding sum_below
-    sum_more {at} {c} {on} m p o d = record { is = so; low = let a = g.low in let b = d.low in omega arith }
+    sum_more {at} {c} {more} {on} m p o d w = record { is = so; low = let a = g.low in let b = d.low in omega arith }
       where
         so : (rules : Rules) (s : Standing ws end rules) → rules.places ≡ places → i + 1 ≤ rules.n
-            → r + c ≡ sum_below (λ k. amount (bit members k) (get_or (counts (rules_of ws end rules s)) k 0)) (i + 1)
+            → more ≡ sum_below (λ k. amount (bit members k) (get_or (counts (rules_of ws end rules s)) k 0)) (i + 1)
         so rules s e l =
             let a = at_place s i (omega arith) in
             let z = rule_spans s.rows a in
             let there : at ≡ get_or rules.places i 0 = p ∙ ap (λ xs. get_or xs i 0) (sym e) in
             let own : c ≡ amount (bit members i) (get_or (counts (rules_of ws end rules s)) i 0) =
             d.is a.rule z.0 (rw there z.1) ∙ ap₂ amount o (sym (key_at (λ r. length r.body) 0 a)) in
-            rw (add-one i) (ap₂ ◌+◌ (g.is rules s e (omega arith)) own)
+            w ∙ rw (add-one i) (ap₂ ◌+◌ (g.is rules s e (omega arith)) own)
 
     pub sum_all : {n m : ℕ} → i ≤ n → n ≤ i → n ≡ m → Summed ws end places members m r
     sum_all {n} {m} l k e = let z : i ≡ m = omega arith in subst (λ x. Summed ws end places members x r) z g
@@ -81,7 +84,7 @@ module _ {ws : List ℕ} {end : ℕ} {places members : List ℕ} where
         let h : r ≤ rule_limit * most_words = let a = g.low in omega arith in
         omega (arith, mul-le-mul h h)
 
-pub ruleset summing = (sum_none, sum_more, sum_all)
+pub ruleset summing = (sum_none, sum_all)
 
 -- The sum over the rules that are kept.
 sum_front : (f : ℕ → ℕ) (m : ℕ) → sum_below f (suc m) ≡ f 0 + sum_below (λ k. f (suc k)) m

@@ -1,4 +1,4 @@
--- A rising run of words, searched; and the row of the rules that are in it.
+-- Words that rise, searched; and the row of the rules that are in them.
 use Rattle.std.proofs.Common.{ℕ, zero, suc, ◌-◌, ◌*◌, ◌/◌, ◌<◌, ◌≤◌, ◌≡◌, refl, sym, ap, ap₂, ◌∙◌, subst, arith, List, [], ◌∷◌, map, length, get_or, take, drop}
 use mathlib.Core.List.{Memᴰ}
 use Rattle.std.specs.Prelude.{Bool, true, Result, Ok, Err, is_ok}
@@ -18,7 +18,7 @@ use Rattle.grammar.specs.Laws.Parse.{either}
 use Rattle.graph.specs.Order.{Rising, true_rising}
 use Rattle.reach.specs.Rows.{bit, RowOf, Collected}
 use Rattle.reach.proofs.Laws.Graph.{at_in, in_at}
-use Rattle.hub.specs.Preserved.{between}
+use Rattle.hub.specs.Preserved.{between, bytes_between}
 use Rattle.hub.proofs.Laws.Grounds.{row_of}
 
 -- Of rising numbers the later is the larger.
@@ -68,7 +68,7 @@ words_take (suc n) (a ∷ b ∷ c ∷ []) = rw (four n) refl
 words_take (suc n) (a ∷ b ∷ c ∷ d ∷ bs) = rw (four n) (ap {B = List ℕ} (λ l. word_of a b c d ∷ l) (words_take n bs))
 
 -- Those of a part of the bytes are that part of the words.
-run_words : (bs : List ℕ) (from to : ℕ) → words (take (4 * to - 4 * from) (drop (4 * from) bs)) ≡ between (words bs) from to
+pub run_words : (bs : List ℕ) (from to : ℕ) → words (bytes_between bs from to) ≡ between (words bs) from to
 run_words bs from to =
     let e : 4 * to - 4 * from ≡ 4 * (to - from) = omega arith in
     rw e (words_take (to - from) (drop (4 * from) bs) ∙ ap (take (to - from)) (words_drop from bs))
@@ -114,13 +114,13 @@ module _ {X : Type 0} (key : X → ℕ) (d : X) (xs : List X) (rises : rising (m
       (either (ltb k i) (λ x. let y = s.1 k (ltb-true k i x) in omega arith) (λ x. let y = s.2 k (ltb-false k i x) l in omega arith)))
       (λ f. sym f)
 
--- An id among the words from a place up to a place.
-pub id_found : (bs : List ℕ) (from to id : ℕ) → rising (between (words bs) from to) ≡ true → {xs : List (List ℕ)} {k : ℕ}
-    → xs ≡ first_chunks 4 k (take (4 * to - 4 * from) (drop (4 * from) bs)) → k ≡ length (take (4 * to - 4 * from) (drop (4 * from) bs)) / 4
+-- An id among the words of bytes.
+pub id_found : (bs : List ℕ) (id : ℕ) → rising (words bs) ≡ true → {xs : List (List ℕ)} {k : ℕ}
+    → xs ≡ first_chunks 4 k bs → k ≡ length bs / 4
     → (r : Result ℕ ℕ) → IsSearchInRange r (length xs) → IsBinarySearchResult (λ y. nat_cmp (chunk_word y) id) xs r
-    → is_ok r ≡ member id (between (words bs) from to)
-id_found bs from to id rises {xs} {k} e c r b h =
-    let same : map chunk_word xs ≡ between (words bs) from to = ap (map chunk_word) e ∙ chunk_words k _ c ∙ run_words bs from to in
+    → is_ok r ≡ member id (words bs)
+id_found bs id rises {xs} {k} e c r b h =
+    let same : map chunk_word xs ≡ words bs = ap (map chunk_word) e ∙ chunk_words k bs c in
     found chunk_word [] xs (rw same rises) id r b h ∙ ap (member id) same
 
 -- The rules, each looked for.

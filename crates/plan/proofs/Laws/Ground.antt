@@ -6,16 +6,16 @@ use Rattle.grammar.specs.Numbers.{most_words}
 use Rattle.records.specs.declared.rules.Rules.{Rules}
 use Rattle.analysis.specs.Facts.{Standing, FactsFound}
 use Rattle.analysis.specs.declared.rounds.Marks.{Marks}
-use Rattle.hub.specs.Preserved.{between}
 use Rattle.plan.specs.Search.{RulesKnown}
 use Rattle.plan.specs.Ground.{KeptOf}
 
-unfoldable pub ground_known : {ws : List ℕ} {end to : ℕ} {rules : Rules} {past : Bool} {calls corners : List (List ℕ)} {marks : Marks} {kept : List ℕ}
-    → FactsFound ws end rules past calls corners marks → KeptOf ws end to rules kept → end ≤ most_words
+unfoldable pub ground_known : {ws preserved : List ℕ} {end : ℕ} {rules : Rules} {past : Bool} {calls corners : List (List ℕ)} {marks : Marks}
+    {kept : List ℕ}
+    → FactsFound ws end rules past calls corners marks → KeptOf preserved rules kept → end ≤ most_words
     → Standing ws end rules → RulesKnown ws end rules past calls corners marks kept
-ground_known {ws} {end} {to} f k small s =
+ground_known {ws} {preserved} {end} f k small s =
     record {
       known = record { standing = s; small = small; facts = f.is s };
-      preserved = between ws end to;
+      preserved = preserved;
       keeps = k.row;
     }

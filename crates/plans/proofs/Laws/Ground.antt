@@ -2,6 +2,7 @@
 use Prim.Native.Nat.{ℕ, ◌+◌, ◌-◌, ◌≤◌}
 use mathlib.Core.Path.{◌≡◌, sym, ap, ◌∙◌}
 use mathlib.Core.List.{List, ◌++◌}
+use mathlib.Core.Bool.{true}
 use native.Mathlib.Omega.{arith}
 use lib.ListN.{length, length-append}
 use lib.Seq.{take-append_seam, drop-append_seam}
@@ -15,7 +16,8 @@ use Rattle.grammar.specs.Reading.{sheet}
 use Rattle.grammar.specs.Laws.Words.{length_words}
 use Rattle.grammar.specs.Laws.Whole.{words_sound, reads_sheet, valid_parts}
 use Rattle.grammar.specs.Laws.Trailer.{trailing, encode_split}
-use Rattle.hub.specs.Preserved.{between}
+use Rattle.hub.specs.Preserved.{between, bytes_between}
+use Rattle.hub.proofs.Laws.Preserved.{run_words}
 use Rattle.sheet.specs.Answer.{read_lent, numbers_in, answer_of, parts_of, ReadAs, Lent}
 use Rattle.sheet.specs.declared.answer.Reading.{Reading}
 use Rattle.std.specs.Prelude.{Ok}
@@ -60,9 +62,15 @@ module _ (bs work : List ℕ) {r : Reading} (a : ReadAs (read_lent bs work) (Ok 
   read_small = let t = (lent (taken bs work was.tree was.is)).most in let z = was.room.trailer in omega arith
 
   module _ {to : ℕ} (e : to ≡ r.parts.preserved + r.parts.count) where
-    pub read_preserved : between (words bs) r.parts.preserved to ≡ was.tree.preserved
-    read_preserved =
+    between_read : between (words bs) r.parts.preserved to ≡ was.tree.preserved
+    between_read =
         kept_between was.tree (encoded (taken bs work was.tree was.is)) read_end (e ∙ ap (λ k. r.parts.preserved + k) read_count)
+
+    pub read_preserved : words (bytes_between bs r.parts.preserved to) ≡ was.tree.preserved
+    read_preserved = run_words bs r.parts.preserved to ∙ between_read
+
+    pub read_rises : rising (words (bytes_between bs r.parts.preserved to)) ≡ true
+    read_rises = ap rising read_preserved ∙ (valid_parts was.tree was.good).preserved
 
     pub read_kept : KeptAt bs r.parts.preserved to
     read_kept =
@@ -76,7 +84,7 @@ module _ (bs work : List ℕ) {r : Reading} (a : ReadAs (read_lent bs work) (Ok 
         record {
           order = omega arith;
           inside = omega arith;
-          rises = ap rising read_preserved ∙ (valid_parts was.tree was.good).preserved;
+          rises = ap rising between_read ∙ (valid_parts was.tree was.good).preserved;
         }
 
 pub ruleset readings = (read_small, read_kept)

@@ -18,7 +18,6 @@ use Rattle.analysis.specs.Survey.{reading}
 use Rattle.analysis.specs.Facts.{Standing, FactsFound}
 use Rattle.analysis.specs.declared.rounds.Marks.{Marks}
 use Rattle.analysis.proofs.Laws.Edges.{are_ids, are_edges}
-use Rattle.hub.specs.Preserved.{between}
 use Rattle.turns.specs.Midway.{IsStandard}
 use Rattle.turns.specs.declared.limits.Limits.{Limits}
 use Rattle.std.specs.Prelude.{Some, None, Result}
@@ -30,8 +29,8 @@ use Rattle.hub.proofs.Laws.Cycle.{listed_cycle}
 use Rattle.plan.specs.Ground.{KeptOf}
 use Rattle.plans.specs.Nth.{cycles_of, NthOf}
 
-module _ {ws : List ℕ} {end to : ℕ} {rules : Rules} {past : Bool} {calls corners : List (List ℕ)} {marks : Marks} {kept : List ℕ}
-    (f : FactsFound ws end rules past calls corners marks) (k : KeptOf ws end to rules kept) (small : end ≤ most_words) where
+module _ {ws preserved : List ℕ} {end : ℕ} {rules : Rules} {past : Bool} {calls corners : List (List ℕ)} {marks : Marks} {kept : List ℕ}
+    (f : FactsFound ws end rules past calls corners marks) (k : KeptOf preserved rules kept) (small : end ≤ most_words) where
   module _ {m n : ℕ} {before rows : List (List ℕ)} (e : m ≡ rules.n) (c : CyclesIn corners rules.ids m before rows n) where
     module _ (s : Standing ws end rules) where
       abbrev rs : List Rule
@@ -49,7 +48,7 @@ module _ {ws : List ℕ} {end to : ℕ} {rules : Rules} {past : Bool} {calls cor
       counted : n ≡ length all
       counted = listed.count
 
-    pub nth_none : {nth : ℕ} (bs : List ℕ) → n ≤ nth → NthOf ws end to rules past nth bs (record { cycles = n; choice = None })
+    pub nth_none : {nth : ℕ} (bs : List ℕ) → n ≤ nth → NthOf ws end preserved rules past nth bs (record { cycles = n; choice = None })
     nth_none bs l =
         record { is = λ s. record { cycles = counted s; choice = let z = counted s in omega arith } }
 
@@ -78,13 +77,13 @@ module _ {ws : List ℕ} {end to : ℕ} {rules : Rules} {past : Bool} {calls cor
             known = record { standing = s; small = small; facts = f.is s };
             cycle = get_or (all s) nth [];
             is_cycle = listed_cycle s (reading past) (nth_row s) (nth_there s);
-            preserved = between ws end to;
+            preserved = preserved;
             keeps = k.row;
           }
 
       pub nth_some : {limits : Limits} {bs : List ℕ} {d : Result Plan Unplanned} → IsStandard limits
           → PlanOf ws end rules past calls marks kept row limits bs d
-          → NthOf ws end to rules past nth bs (record { cycles = n; choice = Some d })
+          → NthOf ws end preserved rules past nth bs (record { cycles = n; choice = Some d })
       unfolding nth_known
       nth_some {limits} {bs} {d} z p =
           record {
@@ -95,7 +94,7 @@ module _ {ws : List ℕ} {end to : ℕ} {rules : Rules} {past : Bool} {calls cor
                     low = let y = counted s in omega arith;
                     is = subst (λ x.
                         DecidedAs ws end rules.ids rules.n bs
-                        (plan_cycle x (reading past) (grammar_of body_depth (rs s)) inner_depth (rs s) (between ws end to)
+                        (plan_cycle x (reading past) (grammar_of body_depth (rs s)) inner_depth (rs s) preserved
                         (get_or (all s) nth [])) d) z.is (p.is (nth_known s));
                   };
                 };

@@ -27,6 +27,7 @@ use Rattle.plans.specs.Told.{Cleared, NthToldOf, NthTold, FirstToldOf, FirstTold
 use Rattle.plans.specs.First.{SearchAs, FirstAs, FirstOf, choice_in, search_numbers, search_cycle, search_row}
 use Rattle.plan.specs.declared.search.Found.{Found}
 use Rattle.reference.specs.Substitute.{standard}
+use Rattle.hub.specs.Preserved.{bytes_between}
 use Rattle.plans.proofs.Laws.Ground.{read_end, read_preserved}
 use Rattle.facts.proofs.Laws.Told.{read_stands}
 
@@ -86,7 +87,7 @@ module _ (ws : List ℕ) (end : ℕ) (ids : List ℕ) (n : ℕ) (list : List ℕ
 
 module _ (bs work : List ℕ) {r : Reading} (a : ReadAs (read_lent bs work) (Ok r)) {to : ℕ} (e : to ≡ r.parts.preserved + r.parts.count) where
   pub nth_sheet : {past : Bool} {nth : ℕ} {t : Nth} {list after numbers removable : List ℕ}
-      → NthOf (words bs) r.parts.preserved to r.rules past nth list t → numbers ≡ nth_numbers t → removable ≡ nth_row t
+      → NthOf (words bs) r.parts.preserved (words (bytes_between bs r.parts.preserved to)) r.rules past nth list t → numbers ≡ nth_numbers t → removable ≡ nth_row t
       → after ≡ left_by t.choice list
       → NthTold (reading past) nth bs (read_lent bs work) (work_after bs work) after numbers removable
   unfolding read_stands
@@ -109,7 +110,7 @@ module _ (bs work : List ℕ) {r : Reading} (a : ReadAs (read_lent bs work) (Ok 
       }
 
   pub first_sheet : {past : Bool} {t : Found} {list after numbers cycle removable clauses : List ℕ}
-      → FirstOf (words bs) r.parts.preserved to r.rules past list t → numbers ≡ search_numbers t.declined t.answer
+      → FirstOf (words bs) r.parts.preserved (words (bytes_between bs r.parts.preserved to)) r.rules past list t → numbers ≡ search_numbers t.declined t.answer
       → cycle ≡ search_cycle t.answer → removable ≡ search_row t.answer → clauses ≡ t.clauses → after ≡ left_by (choice_in t.answer) list
       → FirstTold (reading past) bs (read_lent bs work) (work_after bs work) after numbers cycle removable clauses
   unfolding read_stands

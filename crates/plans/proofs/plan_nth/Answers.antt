@@ -1,6 +1,6 @@
 use Rattle.plans.proofs.plan_nth.Goals as goal
 use Rattle.facts.proofs.Laws.Told as facts
-use Rattle.plans.proofs.Laws.Ground.{read_small, read_kept}
+use Rattle.plans.proofs.Laws.Ground.{read_small, read_kept, read_rises}
 use Rattle.plans.proofs.Laws.Told.{nth_sheet}
 
 pub invariant_of-s : goal.invariant_of-s
@@ -11,11 +11,18 @@ decide_nth-decided-requires c =
     let o = c.in-Ok.ensures in
     rw c.rules_end-end.ensures
     (record {
-      bounds = (read_small _ _ o.read_as, facts.read_work _ _ o.read_as o.work_after, read_kept _ _ o.read_as c.preserved_end-to.ensures);
+      bounds = (read_small _ _ o.read_as, facts.read_work _ _ o.read_as o.work_after);
     })
 
 pub invariant_of-g : goal.invariant_of-g
 invariant_of-g c = record { standing = rw c.rules_end-end.ensures (facts.read_rules _ _ c.in-Ok.ensures.read_as) }
+
+pub slice_bounds-preserved-end : goal.slice_bounds-preserved-end
+slice_bounds-preserved-end c = (read_kept _ _ c.in-Ok.ensures.read_as c.preserved_end-to.ensures).inside
+
+pub invariant_of-preserved : goal.invariant_of-preserved
+invariant_of-preserved c =
+    record { rises = rw c.rules_end-end.ensures (read_rises _ _ c.in-Ok.ensures.read_as c.preserved_end-to.ensures) }
 
 pub returns-in-Ok-clause-nth_told : goal.returns-in-Ok-clause-nth_told
 returns-in-Ok-clause-nth_told c =

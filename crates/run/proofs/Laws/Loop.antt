@@ -13,6 +13,7 @@ use Rattle.records.specs.declared.rules.Rules.{Rules}
 use Rattle.analysis.specs.Facts.{FactsFound}
 use Rattle.turns.specs.Midway.{limits_of}
 use Rattle.turns.specs.declared.limits.Limits.{Limits}
+use Rattle.hub.specs.Preserved.{bytes_between}
 use Rattle.plan.specs.Ground.{KeptOf}
 use Rattle.plan.specs.declared.ground.Ground.{Ground}
 use Rattle.apply.specs.Applied.{Buffers}
@@ -46,7 +47,7 @@ module _ (lim : Limits) (past : Bool) (room : ℕ) (result₀ : List ℕ) (end t
 pub looping_start : {lim : Limits} {past : Bool} {room : ℕ} {result₀ trail work work₀ : List ℕ} {at : Applied} {calls corners : List (List ℕ)}
     {found : Ground} {st : State} → Buffers result₀ trail work₀ → Small lim → room ≡ most_words → at.entries ≡ 0
     → Begun result₀ at.end at.to at.rules at.counters → FactsFound (words result₀) at.end at.rules past calls corners found.marks
-    → KeptOf (words result₀) at.end at.to at.rules found.kept → length work ≡ length work₀ → st ≡ at_start at found
+    → KeptOf (words (bytes_between result₀ at.end at.to)) at.rules found.kept → length work ≡ length work₀ → st ≡ at_start at found
     → Looping lim past room result₀ at.end at.to at.rules at.counters result₀ trail work calls corners st
 looping_start {lim} {past} {room} {result₀} {trail} {work} {work₀} {at} {calls} {corners} b s m z x g k w e =
     let o = onward_begin (limits_of lim) z g k trail in

@@ -2,9 +2,9 @@
 use Rattle.std.specs.Prelude.{Some, None, Ok, Err}
 use Rattle.std.specs.Cmp.{first_so}
 use Prim.Native.Nat.{ℕ, suc, ◌+◌, ◌-◌, ◌*◌, ◌≤◌, ◌<◌}
-use mathlib.Core.Path.{◌≡◌, refl, sym, subst}
+use mathlib.Core.Path.{◌≡◌, refl, sym, ap, ◌∙◌, subst}
 use mathlib.Core.List.{List, []}
-use mathlib.Core.Bool.{Bool}
+use mathlib.Core.Bool.{Bool, true}
 use native.Mathlib.Omega.{arith}
 use lib.ListN.{length}
 use lib.Dec.{leb}
@@ -12,7 +12,7 @@ use borrow.Author.Tests.{leb-true}
 use Rattle.grammar.specs.Numbers.{trailer_words, most_words}
 use Rattle.grammar.specs.Encode.{encode}
 use Rattle.grammar.specs.Valid.{fits}
-use Rattle.grammar.specs.Lists.{total}
+use Rattle.grammar.specs.Lists.{rising, total}
 use Rattle.grammar.specs.Words.{words}
 use Rattle.grammar.specs.Laws.Stands.{stands_none}
 use Rattle.reference.specs.Substitute as R
@@ -26,6 +26,8 @@ use Rattle.records.specs.declared.rules.Rules.{Rules}
 use Rattle.reach.specs.Rows.{RowOf}
 use Rattle.analysis.specs.Survey.{reading}
 use Rattle.analysis.specs.Facts.{Standing, FactsFound}
+use Rattle.hub.specs.Preserved.{bytes_between}
+use Rattle.hub.proofs.Laws.Preserved.{run_words}
 use Rattle.plan.specs.declared.ground.Ground.{Ground}
 use Rattle.plan.specs.Ground.{KeptAt, KeptOf}
 use Rattle.apply.specs.declared.apply.Applied.{Applied}
@@ -49,15 +51,18 @@ module _ {result : List ℕ} {end to : ℕ} {rules : Rules} {counters : Counters
   pub begun_kept : KeptAt result end to
   begun_kept = held_kept x.held x.is_valid
 
+  pub begun_rises : rising (words (bytes_between result end to)) ≡ true
+  begun_rises = ap rising (run_words result end to) ∙ begun_kept.rises
+
   unfoldable pub begun_standing : Standing (words result) end rules
   begun_standing = held_standing x.held x.is_valid x.rows
 
-pub ruleset begins = (begun_room, begun_kept, begun_standing)
+pub ruleset begins = (begun_room, begun_kept, begun_rises, begun_standing)
 
 -- The trail has no entries yet.
 module _ (limits : R.Limits) {past : Bool} {result : List ℕ} {at : Applied} {calls corners : List (List ℕ)} {found : Ground}
     (e : at.entries ≡ 0) (f : FactsFound (words result) at.end at.rules past calls corners found.marks)
-    (k : KeptOf (words result) at.end at.to at.rules found.kept) (trail : List ℕ) where
+    (k : KeptOf (words (bytes_between result at.end at.to)) at.rules found.kept) (trail : List ℕ) where
   started : (x : Begun result at.end at.to at.rules at.counters) → Midst limits past x.sheet result trail calls corners (at_start at found)
   unfolding begun_standing held_standing entries_of steps_of total
   started x =
@@ -69,7 +74,7 @@ module _ (limits : R.Limits) {past : Bool} {result : List ℕ} {at : Applied} {c
         rows = x.rows;
         counters = x.counters_are;
         facts = f.is (begun_standing x);
-        keeps = subst (λ ps. RowOf at.rules.ids at.rules.n ps found.kept) (held_preserved x.held) k.row;
+        keeps = subst (λ ps. RowOf at.rules.ids at.rules.n ps found.kept) (run_words result at.end at.to ∙ held_preserved x.held) k.row;
         told = subst (λ n. Front trail [] (entry_words * n)) (sym e) (record { stands = stands_none (omega arith); room = omega arith });
         entries = e;
         plans = refl;

@@ -1,5 +1,5 @@
 use Rattle.std.proofs.Common.{rules}
-use Rattle.hub.proofs.preserved.preserved_rows.Goals as goal
+use Rattle.hub.proofs.preserved.Preserved.rows.Goals as goal
 use Rattle.hub.proofs.Laws.Preserved.{rows_of}
 
 pub returns : goal.returns
