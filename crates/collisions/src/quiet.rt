@@ -5,16 +5,14 @@ ghost use Rattle.grammar.specs.Numbers.{block_kind};
 ghost use Rattle.grammar.specs.Tree.{inner_depth};
 ghost use Rattle.grammar.specs.Words.{words};
 ghost use Rattle.grammar.specs.Found.{FoundElement, HeadAt};
-ghost use Rattle.planned.specs.Layout.{meaning};
-ghost use Rattle.planned.specs.List.{Located, ListedIn};
+ghost use Rattle.planned.specs.Shown.{meant};
 ghost use Rattle.collisions.specs.Walks.{noting_past_block, noting_past_alternative, LabelSeen, LeafSeen};
 ghost use Rattle.collisions.specs.Quiet.{is_quiet, noisy_label, noisy_leaf, listening};
 ghost use Rattle.words.specs.Kinds.{kind_number};
 ghost use Rattle.words.specs.Sheet.{text};
 
 use crate::references::reference_count;
-use planned::list::Listed;
-use planned::read::item;
+use planned::shown::Shown;
 use words::numbers::Block;
 use words::sheet::Sheet;
 use words::visit::{Visitor, walk_element};
@@ -72,15 +70,12 @@ impl Visitor for Listener {
 }
 
 // Whether nothing in a planned alternative has a label or a reference.
-pub fn is_quiet(s: &Sheet, work: &[u8], x: Listed) -> bool
-    requires bounds { Located work.now x }
-    requires listed_in { ListedIn (text s.now) s.now.end inner_depth work.now x }
-    ensures { result ≡ is_quiet inner_depth (meaning (text s.now) s.now.end inner_depth work.now x).elements }
+pub fn is_quiet(a: &Shown) -> bool
+    ensures { result ≡ is_quiet inner_depth (meant a.now).elements }
 {
     let mut listener = Listener { noisy: false };
-    for i in 0..x.ne {
-        let e = item(work, x, i);
-        walk_element(&mut listener, s, Block::DEPTH, e.at);
+    for i in 0..a.x.ne {
+        walk_element(&mut listener, a.s, Block::DEPTH, a.item(i).at);
     }
     !listener.noisy
 }

@@ -8,3 +8,4 @@ pub mod Counts
 pub mod Room
 pub mod Ahead
 pub mod Leaves
+pub mod Shown

@@ -6,3 +6,5 @@ pub mod Reading
 pub mod Laws
 pub mod Written
 pub mod Split
+pub mod One
+pub mod Shown

@@ -7,3 +7,4 @@ pub mod hand;
 pub mod list;
 pub mod read;
 pub mod record;
+pub mod shown;

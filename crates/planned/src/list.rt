@@ -5,8 +5,9 @@ ghost use Rattle.planned.specs.Moves.{IsEmpty, IsDrained, Took, Settled};
 use crate::record::{record_at, write_record};
 
 // Both ends, each of alternatives, elements and options: how many are settled, and where the stack begins.
-// Stays: that it lies in the work area is a clause, of a list as of one of its alternatives. Other lists share that buffer, and it is
-// written between, so a value that kept the fact would have to borrow the whole of it.
+// Stays: that it lies in the work area is a clause. Other lists share that buffer, and it is written between, so a value that kept the
+// fact would have to borrow the whole of it. `measure` (sizes) and `judge` (rewritable), which only read it, are handed it once each; the
+// second has the sheet in its `Ruled`, and would have to ask that a list with a sheet of its own has the same.
 #[derive(Clone, Copy, Debug, PartialEq, Eq)]
 pub struct Sizes {
     pub outa: usize,
@@ -65,7 +66,7 @@ impl Mark {
 }
 
 // A planned alternative: the slot that it fills, where it was taken from last, and where its elements and options are listed.
-// Stays: that it is listed is a clause, as with `Sizes`.
+// Stays: that it is listed is a clause where the work area is written, as with `Sizes`. Who only reads it takes a `Shown`.
 #[derive(Clone, Copy, Debug, PartialEq, Eq)]
 pub struct Listed {
     pub slot: u16,

@@ -5,8 +5,9 @@ ghost use Rattle.grammar.specs.Numbers.{rule_limit};
 ghost use Rattle.grammar.specs.Tree.{inner_depth};
 ghost use Rattle.analysis.specs.Names.{Tabled};
 ghost use Rattle.analysis.specs.Survey.{view_of};
-ghost use Rattle.planned.specs.Layout.{meaning, settled};
-ghost use Rattle.planned.specs.List.{Laid, Located, ListedIn, AllIn};
+ghost use Rattle.planned.specs.Layout.{settled};
+ghost use Rattle.planned.specs.List.{Laid, AllIn};
+ghost use Rattle.planned.specs.Shown.{meant};
 ghost use Rattle.rewritable.specs.Judge.{VerdictOf, JudgedOf, JudgedFound};
 ghost use Rattle.words.specs.Sheet.{text};
 
@@ -14,10 +15,10 @@ use crate::items::{may_be_rewritten, starts_with_call};
 use crate::walk::walk_alternative;
 use analysis::known::Known;
 use analysis::ruled::Ruled;
-use planned::list::{Listed, Sizes};
+use planned::list::Sizes;
 use planned::read::{Cursor, read_settled};
+use planned::shown::Shown;
 use reach::rows::{Row, is_empty, meet, union};
-use words::numbers::Block;
 use words::sheet::Sheet;
 
 // An alternative that is fit: whether it begins with the hub's call, or else has no left corner in the cycle; and what it calls.
@@ -27,26 +28,16 @@ struct Verdict {
     calls: [u64; Row::WORDS],
 }
 
-fn judge_alternative(
-    s: &Sheet,
-    v: &Known,
-    depth: u32,
-    members: [u64; Row::WORDS],
-    hub: usize,
-    work: &[u8],
-    x: Listed,
-) -> Option<Verdict>
-    requires bounds { hub < v.now.n }
-    requires located { Located work.now x × ListedIn (text s.now) s.now.end depth work.now x }
-    ensures { VerdictOf (view_of v.now) members hub depth
-        (meaning (text s.now) s.now.end depth work.now x).elements result }
+fn judge_alternative(a: &Shown, v: &Known, members: [u64; Row::WORDS], hub: usize) -> Option<Verdict>
+    requires { hub < v.now.n }
+    ensures { VerdictOf (view_of v.now) members hub inner_depth (meant a.now).elements result }
 {
     let name = v.names[hub];
-    if !may_be_rewritten(s, depth, name, work, x) {
+    if !may_be_rewritten(a, name) {
         return None;
     }
-    let w = walk_alternative(s, v, depth, work, x);
-    let recursive = starts_with_call(s, depth, name, work, x);
+    let w = walk_alternative(a, v);
+    let recursive = starts_with_call(a, name);
     let fit = if recursive {
         !w.null
     } else {
@@ -60,16 +51,15 @@ fn judge_alternative(
 fn judge_list(
     s: &Sheet,
     v: &Known,
-    depth: u32,
     members: [u64; Row::WORDS],
     hub: usize,
     work: &[u8],
     l: Sizes,
 ) -> Option<[u64; Row::WORDS]>
     requires bounds { hub < v.now.n }
-    requires laid { Laid work.now l × AllIn (text s.now) s.now.end depth work.now l }
-    ensures { JudgedOf (view_of v.now) members hub depth
-        (settled (text s.now) s.now.end depth work.now l) result }
+    requires laid { Laid work.now l × AllIn (text s.now) s.now.end inner_depth work.now l }
+    ensures { JudgedOf (view_of v.now) members hub inner_depth
+        (settled (text s.now) s.now.end inner_depth work.now l) result }
 {
     let mut calls = [0u64; Row::WORDS];
     let mut primary = false;
@@ -77,7 +67,7 @@ fn judge_list(
     let mut c = Cursor::front();
     for _ in 0..l.outa {
         let r = read_settled(work, l, c);
-        let a = judge_alternative(s, v, depth, members, hub, work, r.x)?;
+        let a = judge_alternative(&Shown { s, work, x: r.x }, v, members, hub)?;
         calls = union(calls, a.calls);
         primary |= !a.recursive;
         recursive |= a.recursive;
@@ -108,5 +98,5 @@ pub fn judge(
         nullable,
         past,
     };
-    judge_list(g.s, &v, Block::DEPTH, members, hub, work, l)
+    judge_list(g.s, &v, members, hub, work, l)
 }

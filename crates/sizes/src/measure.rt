@@ -3,25 +3,27 @@ ghost use Rattle.std.specs.Prelude.{◌≤◌};
 ghost use Rattle.grammar.specs.Numbers.{most_words};
 ghost use Rattle.grammar.specs.Tree.{inner_depth};
 ghost use Rattle.grammar.specs.Found.{FoundElement};
-ghost use Rattle.planned.specs.Layout.{meaning, settled};
-ghost use Rattle.planned.specs.List.{Laid, Located, ListedIn, AllIn};
+ghost use Rattle.planned.specs.Layout.{settled};
+ghost use Rattle.planned.specs.List.{Laid, AllIn};
+ghost use Rattle.planned.specs.Shown.{meant};
 ghost use Rattle.sizes.specs.Sized.{ElementSized, ElementsSized, AlternativeSized, Measured};
 ghost use Rattle.words.specs.Sheet.{text};
 
 use crate::sums::Measure;
 use crate::tally::{Tally, element};
-use planned::list::{Listed, Mark, Sizes};
-use planned::read::{Cursor, item, read_settled};
+use planned::list::{Mark, Sizes};
+use planned::read::{Cursor, read_settled};
+use planned::shown::Shown;
 use words::numbers::Block;
 use words::sheet::Sheet;
 
 // The copy of the element at `at`.
-fn measure_element(s: &Sheet, depth: u32, at: usize) -> Measure
+fn measure_element(s: &Sheet, at: usize) -> Measure
     requires bounds { s.now.end ≤ most_words }
-    requires found_element { FoundElement (text s.now) s.now.end depth at }
-    ensures { ElementSized (text s.now) s.now.end depth at result }
+    requires found_element { FoundElement (text s.now) s.now.end inner_depth at }
+    ensures { ElementSized (text s.now) s.now.end inner_depth at result }
 {
-    let r = element(s, depth, at, Tally::default());
+    let r = element(s, Block::DEPTH, at, Tally::default());
     let t = r.tally;
     // Stays: a `From<Tally>` would write the same fields, for this one caller, and a number of words that is 0 until it is put in here.
     Measure {
@@ -35,28 +37,25 @@ fn measure_element(s: &Sheet, depth: u32, at: usize) -> Measure
 }
 
 // The copies of the elements of an alternative that is listed.
-fn measure_elements(s: &Sheet, depth: u32, work: &[u8], x: Listed) -> Measure
-    requires bounds { (s.now.end ≤ most_words) × Located work.now x }
-    requires listed_in { ListedIn (text s.now) s.now.end depth work.now x }
-    ensures { ElementsSized depth (meaning (text s.now) s.now.end depth work.now x).elements result }
+fn measure_elements(a: &Shown) -> Measure
+    requires { a.now.s.now.end ≤ most_words }
+    ensures { ElementsSized inner_depth (meant a.now).elements result }
 {
     let mut m = Measure::default();
-    for i in 0..x.ne {
-        let e = item(work, x, i);
-        m = m + measure_element(s, depth, e.at);
+    for i in 0..a.x.ne {
+        m = m + measure_element(a.s, a.item(i).at);
     }
     m
 }
 
 // An alternative that is listed. One that is still what filled its slot keeps its ids.
-fn measure_alternative(s: &Sheet, depth: u32, work: &[u8], x: Listed) -> Measure
-    requires bounds { (s.now.end ≤ most_words) × Located work.now x }
-    requires listed_in { ListedIn (text s.now) s.now.end depth work.now x }
-    ensures { AlternativeSized depth (meaning (text s.now) s.now.end depth work.now x) result }
+fn measure_alternative(a: &Shown) -> Measure
+    requires { a.now.s.now.end ≤ most_words }
+    ensures { AlternativeSized inner_depth (meant a.now) result }
 {
-    let m = measure_elements(s, depth, work, x);
-    let words = 5 + 2 * x.no + m.words;
-    if x.slot < Mark::BIT {
+    let m = measure_elements(a);
+    let words = 5 + 2 * a.x.no + m.words;
+    if a.x.slot < Mark::BIT {
         return Measure {
             alternatives: m.alternatives + 1,
             words,
@@ -69,26 +68,18 @@ fn measure_alternative(s: &Sheet, depth: u32, work: &[u8], x: Listed) -> Measure
     }
 }
 
-fn measure_list(s: &Sheet, depth: u32, work: &[u8], l: Sizes) -> Measure
-    requires bounds { s.now.end ≤ most_words }
-    requires laid { Laid work.now l × AllIn (text s.now) s.now.end depth work.now l }
-    ensures { Measured depth (settled (text s.now) s.now.end depth work.now l) result }
-{
-    let mut m = Measure::default();
-    let mut c = Cursor::front();
-    for _ in 0..l.outa {
-        let r = read_settled(work, l, c);
-        m = m + measure_alternative(s, depth, work, r.x);
-        c = r.next;
-    }
-    m
-}
-
 // The settled alternatives, for a hub's own body.
 pub fn measure(s: &Sheet, work: &[u8], l: Sizes) -> Measure
     requires bounds { s.now.end ≤ most_words }
     requires laid { Laid work.now l × AllIn (text s.now) s.now.end inner_depth work.now l }
     ensures { Measured inner_depth (settled (text s.now) s.now.end inner_depth work.now l) result }
 {
-    measure_list(s, Block::DEPTH, work, l)
+    let mut m = Measure::default();
+    let mut c = Cursor::front();
+    for _ in 0..l.outa {
+        let r = read_settled(work, l, c);
+        m = m + measure_alternative(&Shown { s, work, x: r.x });
+        c = r.next;
+    }
+    m
 }

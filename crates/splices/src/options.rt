@@ -1,11 +1,12 @@
 // The options of an alternative in hand, and those that a spliced alternative adds to them.
 ghost use Rattle.std.specs.Prelude.{ℕ, ◌≡◌, List, ◌++◌, ◌+◌, ◌*◌, ◌<◌, ◌≤◌, length};
 ghost use Rattle.grammar.specs.Numbers.{most_words};
-ghost use Rattle.grammar.specs.Tree.{OptionDecl};
+ghost use Rattle.grammar.specs.Tree.{OptionDecl, inner_depth};
 ghost use Rattle.grammar.specs.Words.{words};
 ghost use Rattle.grammar.specs.Found.{FoundAlternative};
-ghost use Rattle.planned.specs.Layout.{options_from, option_of, meaning};
-ghost use Rattle.planned.specs.List.{Located, ListedIn};
+ghost use Rattle.planned.specs.Layout.{options_from, option_of};
+ghost use Rattle.planned.specs.List.{Located};
+ghost use Rattle.planned.specs.Shown.{meant};
 ghost use Rattle.splices.specs.Moves.{OptionsAdded};
 ghost use Rattle.planned.specs.Laws.Parts.{Copied};
 ghost use Rattle.splices.specs.Options.{meets, GivenAt, standing_options, OptionsIn, PutIfNew, OptionsFit, OptionsPut};
@@ -14,6 +15,8 @@ ghost use Rattle.words.specs.Sheet.{text};
 use crate::places::option_count;
 use planned::halves::{half, move_halves, put_half};
 use planned::list::Listed;
+use planned::shown::Shown;
+use words::numbers::Block;
 use words::sheet::Sheet;
 use words::words::word;
 
@@ -94,16 +97,14 @@ fn option_meets(s: &Sheet, depth: u32, work: &[u8], h: Listed, at: usize, j: usi
 }
 
 // How many options the alternative at `at` adds to those in hand; none where two of one name have two values.
-pub fn options_added(s: &Sheet, depth: u32, work: &[u8], h: Listed, at: usize) -> Option<usize>
-    requires bounds { Located work.now h × ListedIn (text s.now) s.now.end depth work.now h }
-    requires found_alternative { FoundAlternative (text s.now) s.now.end depth at }
-    ensures { OptionsAdded (text s.now) s.now.end depth at
-        (meaning (text s.now) s.now.end depth work.now h).options result }
+pub fn options_added(a: &Shown, at: usize) -> Option<usize>
+    requires { FoundAlternative (text a.now.s.now) a.now.s.now.end inner_depth at }
+    ensures { OptionsAdded (text a.now.s.now) a.now.s.now.end inner_depth at (meant a.now).options result }
 {
-    let n = option_count(s, depth, at);
+    let n = option_count(a.s, Block::DEPTH, at);
     let mut added: usize = 0;
     for j in 0..n {
-        match option_meets(s, depth, work, h, at, j) {
+        match option_meets(a.s, Block::DEPTH, a.work, a.x, at, j) {
             Meets::New => added += 1,
             Meets::Same => {}
             Meets::Other => return None,

@@ -4,15 +4,14 @@ ghost use Rattle.grammar.specs.Numbers.{call_kind};
 ghost use Rattle.grammar.specs.Tree.{inner_depth};
 ghost use Rattle.grammar.specs.Words.{words};
 ghost use Rattle.grammar.specs.Found.{FoundElement, HeadAt};
-ghost use Rattle.planned.specs.List.{Located, ListedIn};
 ghost use Rattle.steps.specs.Corner.{bare_at, quantifier_at, corner_at, met_member, CallMet, ItemMet, CornerAt};
 ghost use Rattle.words.specs.Kinds.{quantifier_number};
 ghost use Rattle.words.specs.Sheet.{text};
 
 use crate::cycle::Cycle;
 use analysis::names::scan;
-use planned::list::{Item, Listed};
-use planned::read::item;
+use planned::list::Item;
+use planned::shown::Shown;
 use reach::rows::has;
 use words::numbers::{Block, Kind, Quantifier};
 use words::sheet::Sheet;
@@ -113,13 +112,11 @@ fn meet_item(s: &Sheet, c: &Cycle, x: Item) -> Option<Corner<usize>>
 }
 
 // The corner of an alternative that is listed.
-pub fn find_corner(s: &Sheet, c: &Cycle, work: &[u8], x: Listed) -> Corner<Place>
-    requires { Located work.now x × ListedIn (text s.now) s.now.end inner_depth work.now x }
-    ensures { CornerAt c.now.names.now c.now (text s.now) s.now.end inner_depth work.now x result }
+pub fn find_corner(a: &Shown, c: &Cycle) -> Corner<Place>
+    ensures { CornerAt c.now.names.now c.now (text a.now.s.now) a.now.s.now.end inner_depth a.now.work.now a.now.x result }
 {
-    let n = x.ne;
-    for i in 0..n {
-        if let Some(met) = meet_item(s, c, item(work, x, i)) {
+    for i in 0..a.x.ne {
+        if let Some(met) = meet_item(a.s, c, a.item(i)) {
             return placed(i, met);
         }
     }

@@ -4,7 +4,6 @@ ghost use Rattle.std.specs.Prelude.{◌≡◌, ◌+◌, ◌<◌, ◌≤◌, ◌^
 ghost use Rattle.grammar.specs.Numbers.{most_words};
 ghost use Rattle.grammar.specs.Tree.{inner_depth};
 ghost use Rattle.grammar.specs.Found.{FoundAlternative, FoundRule};
-ghost use Rattle.planned.specs.List.{Located, ListedIn};
 ghost use Rattle.steps.specs.Decide.{clause_of, Searchable, CollisionAt, OneAt, IsCounted, SmallSize, HandFits};
 ghost use Rattle.steps.specs.Decide.{AlternativeCounted, RuleSized};
 ghost use Rattle.words.specs.Sheet.{text};
@@ -12,6 +11,7 @@ ghost use Rattle.words.specs.Sheet.{text};
 use collisions::clash::clash_at;
 use ends::ends::alternative_end;
 use planned::list::Listed;
+use planned::shown::Shown;
 use splices::options::options_added;
 use splices::splice::Size;
 use words::numbers::Block;
@@ -80,14 +80,13 @@ fn collision(s: &Sheet, work: &[u8], quiet: bool, at: usize) -> Result<(), Claus
 }
 
 // The alternative at `at` in place of an element of the one in hand: how many options it adds, or the clause of a decline.
-fn splice_one(s: &Sheet, work: &[u8], quiet: bool, h: Listed, at: usize) -> Result<usize, Clause>
-    requires bounds { (s.now.end ≤ most_words) × Searchable (text s.now) s.now.end work.now quiet }
-    requires located { Located work.now h × ListedIn (text s.now) s.now.end inner_depth work.now h }
-    requires found_alternative { FoundAlternative (text s.now) s.now.end inner_depth at }
-    ensures { OneAt (text s.now) s.now.end inner_depth at work.now h quiet result }
+fn splice_one(h: &Shown, quiet: bool, at: usize) -> Result<usize, Clause>
+    requires bounds { (h.now.s.now.end ≤ most_words) × Searchable (text h.now.s.now) h.now.s.now.end h.now.work.now quiet }
+    requires found_alternative { FoundAlternative (text h.now.s.now) h.now.s.now.end inner_depth at }
+    ensures { OneAt (text h.now.s.now) h.now.s.now.end inner_depth at h.now.work.now h.now.x quiet result }
 {
-    collision(s, work, quiet, at)?;
-    options_added(s, Block::DEPTH, work, h, at).ok_or(Clause::OptionCollision)
+    collision(h.s, h.work, quiet, at)?;
+    options_added(h, at).ok_or(Clause::OptionCollision)
 }
 
 // One alternative more, with so many elements and options.
@@ -117,24 +116,19 @@ fn count_one(s: &Sheet, h: Listed, at: usize, more: usize, z: Size) -> Size
 }
 
 // Every alternative of the rule at `at` in place of an element of the one in hand: what would be pushed; the first decline ends it.
-pub fn splice_size(
-    s: &Sheet,
-    work: &[u8],
-    quiet: bool,
-    h: Listed,
-    at: usize,
-) -> Result<Size, Clause>
-    requires bounds { (s.now.end ≤ most_words) × Located work.now h × HandFits h }
-    requires listed_in { ListedIn (text s.now) s.now.end inner_depth work.now h × Searchable (text s.now) s.now.end work.now quiet }
-    requires found_rule { FoundRule (text s.now) s.now.end at × (at + 4 ≤ s.now.end) }
-    ensures { RuleSized (text s.now) s.now.end inner_depth at work.now h quiet result }
+pub fn splice_size(h: &Shown, quiet: bool, at: usize) -> Result<Size, Clause>
+    requires bounds { (h.now.s.now.end ≤ most_words) × HandFits h.now.x }
+    requires searchable { Searchable (text h.now.s.now) h.now.s.now.end h.now.work.now quiet }
+    requires found_rule { FoundRule (text h.now.s.now) h.now.s.now.end at × (at + 4 ≤ h.now.s.now.end) }
+    ensures { RuleSized (text h.now.s.now) h.now.s.now.end inner_depth at h.now.work.now h.now.x quiet result }
 {
+    let s = h.s;
     let mut z = Size::default();
     let n = word(s.bytes, at + 3);
     let mut p = at + 4;
     for _ in 0..n {
-        let more = splice_one(s, work, quiet, h, p)?;
-        z = count_one(s, h, p, more, z);
+        let more = splice_one(h, quiet, p)?;
+        z = count_one(s, h.x, p, more, z);
         p = alternative_end(s, Block::DEPTH, p);
     }
     Ok(z)

@@ -12,6 +12,7 @@ use crate::decide::{Clause, splice_size};
 use collisions::mark::mark_around;
 use collisions::quiet::is_quiet;
 use planned::list::Listed;
+use planned::shown::Shown;
 use splices::splice::Size;
 use words::sheet::Sheet;
 
@@ -24,7 +25,7 @@ fn prepare(s: &Sheet, work: &mut [u8], h: Listed, index: usize, name: u32) -> Re
         (meaning (text s.now) s.now.end inner_depth work.old h).elements index name
         work.old work.new result }
 {
-    if is_quiet(s, work, h) {
+    if is_quiet(&Shown { s, work, x: h }) {
         return Ok(true);
     }
     if mark_around(s, work, h, index, name) {
@@ -65,6 +66,6 @@ pub fn decide(s: &Sheet, work: &mut [u8], h: Listed, k: Call) -> Result<Size, Cl
             e: 2 * h.ne - 1,
             o: 2 * h.no,
         }),
-        Step::Splice => splice_size(s, work, quiet, h, k.at),
+        Step::Splice => splice_size(&Shown { s, work, x: h }, quiet, k.at),
     }
 }

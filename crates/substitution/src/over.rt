@@ -12,6 +12,7 @@ ghost use Rattle.words.specs.Sheet.{text};
 use crate::turning::Done;
 use ends::ends::alternative_end;
 use planned::list::Listed;
+use planned::shown::Shown;
 use splices::bring::hub_in_hand;
 use steps::corner::{Corner, Place, find_corner};
 use steps::decide::Clause;
@@ -53,7 +54,7 @@ fn look_hand(task: &Task, budget: usize, work: &mut [u8], h: Listed) -> Result<(
     ensures { HandLooked (text task.now.s.now) task.now.s.now.end task.now.c.names.now task.now.places.now task.now.c budget
         work.old work.new h result }
 {
-    match find_corner(task.s, &task.c, work, h) {
+    match find_corner(&Shown { s: task.s, work, x: h }, &task.c) {
         Corner::Settled => Ok(()),
         Corner::Blocked => Err(Unplanned::Declined(stuck(budget))),
         Corner::Optional(p) => Err(look_step(task, budget, work, h, p, Step::Split)),

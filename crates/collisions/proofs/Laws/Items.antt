@@ -8,18 +8,11 @@ use lib.ListN.{length}
 use lib.Seq.{take_all}
 use Rattle.grammar.specs.Tree.{Label, Leaf, Element, leaf, block, Block}
 use Rattle.grammar.specs.Fold.{Steps, folded, element_fold, block_fold, ElementWalked}
-use Rattle.grammar.specs.Found.{FoundElement}
 use Rattle.reference.specs.Substitute.{plain}
-use Rattle.planned.specs.Layout.{made_if, meaning}
-use Rattle.planned.specs.List.{ListedIn, ItemAt}
-use Rattle.planned.specs.Reading.{ItemIs}
-use Rattle.planned.specs.declared.list.Listed.{Listed}
+use Rattle.planned.specs.Layout.{made_if}
+use Rattle.planned.specs.List.{ItemAt}
+use Rattle.planned.specs.Laws.Items.{item_found}
 use Rattle.collisions.specs.Walks.{noting, between, ItemsWalked}
-
--- An element of the list stands in the sheet.
-module _ (d : ℕ) {ws : List ℕ} {end : ℕ} {bs : List ℕ} {x : Listed} (l : ListedIn ws end d bs x) {i at : ℕ} {made : Bool} where
-  pub item_found : ItemIs bs x i at made → FoundElement ws end d at
-  item_found t = (t.is ws end d l).found
 
 -- Such walks do not look at quantifiers.
 module _ {S : Type 0} (of_label : S → Label → S) (of_leaf : S → Leaf → S) where
@@ -69,14 +62,7 @@ module _ {S : Type 0} (of_label : S → Label → S) (of_leaf : S → Leaf → S
       → Itemizing (noting of_label of_leaf) d es from to s₀ (i + 1) t
   itemizing_at g l a w = record { rest = λ r c. g.rest r (item_more l a w c); few = omega arith }
 
-  pub itemizing_more : {ws : List ℕ} {end : ℕ} {bs : List ℕ} {x : Listed} {from to : ℕ} {s₀ : S} {i : ℕ} {s t : S} {at p : ℕ} {made : Bool}
-      → ListedIn ws end d bs x
-      → Itemizing (noting of_label of_leaf) d (meaning ws end d bs x).elements from to s₀ i s → i < to → ItemIs bs x i at made
-      → ElementWalked (noting of_label of_leaf) ws end d at s p t
-      → Itemizing (noting of_label of_leaf) d (meaning ws end d bs x).elements from to s₀ (i + 1) t
-  itemizing_more {ws} {end} in' g l a w = itemizing_at g l (a.is ws end d in') w
-
-pub ruleset itemizing = (item_found, itemizing_all, itemizing_done, itemizing_more)
+pub ruleset itemizing = (item_found, itemizing_all, itemizing_done, itemizing_at)
 
 -- All items.
 pub between_all : {A : Type 0} (as' : List A) {n : ℕ} → length as' ≡ n → between as' 0 n ≡ as'

@@ -9,16 +9,16 @@ use lib.Dec.{leb, eqb}
 use borrow.Author.Tests.{leb-true, eq-eqb, ne_eqb}
 use Rattle.std.specs.Cmp.{first_so}
 use Rattle.grammar.specs.Numbers.{most_name}
-use Rattle.grammar.specs.Tree.{Label, unlabelled, labelled, Element, Block}
+use Rattle.grammar.specs.Tree.{Label, unlabelled, labelled, Element, Block, inner_depth}
 use Rattle.grammar.specs.Encode.{label_name}
 use Rattle.grammar.specs.Valid.{ok_label}
 use Rattle.grammar.specs.Lists.{is_empty}
 use Rattle.grammar.specs.Fold.{folded, element_fold, block_fold}
 use Rattle.reference.specs.Walks.{elements_give, label_names, references}
 use Rattle.collisions.specs.Walks.{reference_names, LabelSeen, LeafSeen, Refers}
-use Rattle.planned.specs.Layout.{meaning}
-use Rattle.planned.specs.Laws.Parts.{elements_count}
-use Rattle.planned.specs.declared.list.Listed.{Listed}
+use Rattle.planned.specs.Shown.{meant}
+use Rattle.planned.specs.Laws.Shown.{elements_many}
+use Rattle.planned.specs.declared.shown.Shown.{Shown}
 use Rattle.collisions.specs.Quiet.{is_quiet, noisy_label, noisy_leaf, listening}
 use Rattle.collisions.proofs.Laws.Walks.{elements_tell}
 use Rattle.collisions.proofs.Laws.Items.{Itemizing, itemizing_done, between_all}
@@ -59,12 +59,10 @@ elements_listen d es =
     (elements_tell noisy_label noisy_leaf (λ b. b) (λ xs. not (is_empty xs)) label_names reference_names refl some_append (λ s b. refl) (λ s l. refl) d false es)
     ∙ not-not (is_empty (elements_give label_names reference_names d es))
 
-pub quiet_done : (d : ℕ) (ws : List ℕ) (end : ℕ) (bs : List ℕ) (x : Listed) {i : ℕ} {noisy : Bool}
-    → Itemizing listening d (meaning ws end d bs x).elements 0 x.ne false i noisy → x.ne ≤ i
-    → not noisy ≡ is_quiet d (meaning ws end d bs x).elements
-unfolding meaning
-quiet_done d ws end bs x g l =
+pub quiet_done : (a : Shown) {i : ℕ} {noisy : Bool} → Itemizing listening inner_depth (meant a).elements 0 a.x.ne false i noisy
+    → a.x.ne ≤ i → not noisy ≡ is_quiet inner_depth (meant a).elements
+quiet_done a g l =
     ap not (itemizing_done g l).is
-    ∙ ap (λ es. not (folded (element_fold listening (block_fold listening d)) false es))
-    (between_all (meaning ws end d bs x).elements (elements_count ws end d bs x.e x.ne))
-    ∙ elements_listen d (meaning ws end d bs x).elements
+    ∙ ap (λ es. not (folded (element_fold listening (block_fold listening inner_depth)) false es))
+    (between_all (meant a).elements (elements_many a))
+    ∙ elements_listen inner_depth (meant a).elements

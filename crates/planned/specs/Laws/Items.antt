@@ -9,12 +9,12 @@ use Rattle.grammar.specs.Numbers.{call_kind, kind_end}
 use Rattle.grammar.specs.Encode.{leaf_kind, encode_block}
 use Rattle.grammar.specs.Valid.{ok_block}
 use Rattle.grammar.specs.Read.{block_at}
-use Rattle.grammar.specs.Found.{ElementSpans}
+use Rattle.grammar.specs.Found.{ElementSpans, FoundElement}
 use Rattle.grammar.specs.Laws.Complete.{element_complete, block_complete}
 use Rattle.grammar.specs.Laws.Opened.{Opened, opened_leaf, opened_block, opened}
 use Rattle.reference.specs.Substitute.{plain}
 use Rattle.planned.specs.Layout.{half, marked, is_marked, place_of, made_if, standing, element_of, elements_from, meaning}
-use Rattle.planned.specs.List.{ListedIn, CallAt}
+use Rattle.planned.specs.List.{ListedIn, CallAt, ItemAt}
 use Rattle.planned.specs.Reading.{ItemIs}
 use Rattle.planned.specs.Laws.Parts.{elements_at_lem}
 use Rattle.planned.specs.declared.list.Listed.{Listed}
@@ -84,3 +84,8 @@ module _ {ws : List ℕ} {end d : ℕ} {bs : List ℕ} {x : Listed} {i : ℕ} (t
       sym (elements_at_lem ws end d bs i x.e x.ne l) ∙ s in
       let v : element_of ws end d h ≡ leaf head (call c) = cc in
       record { kind = call_kind_lem {d = d} (is_marked h) (rw (standing_is ws end d f.spans) at v) (opened f.tree f.spans) }
+
+-- An element that is listed stands in the sheet.
+pub item_found : {ws : List ℕ} {end d : ℕ} {es : List (Element (Block d))} {i at : ℕ} {made : Bool} → ItemAt ws end d es i at made
+    → FoundElement ws end d at
+item_found t = t.found

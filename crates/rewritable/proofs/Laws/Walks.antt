@@ -6,7 +6,7 @@ use mathlib.Core.Bool.{Bool, true, false}
 use native.Mathlib.Omega.{arith}
 use lib.ListN.{drop}
 use Rattle.grammar.specs.Numbers.{block_kind}
-use Rattle.grammar.specs.Tree.{Element, Block}
+use Rattle.grammar.specs.Tree.{Element, Block, inner_depth}
 use Rattle.grammar.specs.Found.{FoundElement, HeadAt}
 use Rattle.grammar.specs.Lists.{all}
 use Rattle.grammar.specs.Fold.{folded, element_fold, ElementWalked}
@@ -17,14 +17,14 @@ use Rattle.reference.specs.Analysis.{collect_calls_in_elements, left_corners, el
 use Rattle.reach.specs.Rows.{holds}
 use Rattle.analysis.specs.Survey.{View, Seen, seen_of, turned, into, unseen, reading, surveying, LeafSeen}
 use Rattle.analysis.specs.declared.leaf.Seen.{Seen as Held}
-use Rattle.planned.specs.Layout.{made_if, meaning}
-use Rattle.planned.specs.List.{ListedIn}
-use Rattle.planned.specs.Reading.{ItemIs}
-use Rattle.planned.specs.declared.list.Listed.{Listed}
-use Rattle.planned.specs.Laws.Parts.{no_steps_left}
+use Rattle.planned.specs.Layout.{made_if}
+use Rattle.planned.specs.Shown.{meant, ItemOf}
+use Rattle.planned.specs.Laws.Shown.{none_left}
+use Rattle.planned.specs.declared.shown.Shown.{Shown}
+use Rattle.words.specs.Sheet.{text}
 use Rattle.rewritable.specs.Walks.{ItemStands, past_element, ItemWalked, RestWalked, Agreeing, WalkOf}
 use Rattle.rewritable.proofs.Laws.Meant.{past_adds, past_null}
-use Rattle.rewritable.proofs.Laws.Listed.{there, next_left, item_stands}
+use Rattle.rewritable.proofs.Laws.Listed.{next_left, item_stands}
 
 -- One that was made plain is a call.
 module _ {ws : List ℕ} {end at k p : ℕ} (head : HeadAt ws end at k p) (d : ℕ) {made : Bool} (i : ItemStands ws end d at made)
@@ -53,43 +53,41 @@ stands_found i = i.found
 
 pub ruleset item_walks = (stands_found, plain_leaf, item_plain, item_other)
 
+abbrev d : ℕ
+d = inner_depth
+
 -- The elements from an index on: a walk of those left would be a walk of all.
-module _ (v : View) (ws : List ℕ) (end d : ℕ) (bs : List ℕ) (x : Listed) (from : ℕ) (s₀ : Seen) where
+module _ (v : View) (a : Shown) (from : ℕ) (s₀ : Seen) where
   abbrev es : List (Element (Block d))
-  es = (meaning ws end d bs x).elements
+  es = (meant a).elements
 
   pub record Resting (i : ℕ) (s : Seen) : Type 0 where
-    pub listed : ListedIn ws end d bs x
     pub same : folded (past_element v d) s₀ (drop from es) ≡ folded (past_element v d) s (drop i es)
 
-  pub rest_none : ListedIn ws end d bs x → Resting from s₀
-  rest_none l = record { listed = l; same = refl }
+  pub rest_none : Resting from s₀
+  rest_none = record { same = refl }
 
   module _ {i : ℕ} {s : Seen} (g : Resting i s) where
-    pub rest_all : x.ne ≤ i → RestWalked v d (drop from es) s₀ s
-    rest_all l = record { value = sym (g.same ∙ ap (folded (past_element v d) s) (no_steps_left ws end d bs x i l)) }
+    pub rest_all : a.x.ne ≤ i → RestWalked v d (drop from es) s₀ s
+    rest_all l = record { value = sym (g.same ∙ ap (folded (past_element v d) s) (none_left a i l)) }
 
-    module _ {at : ℕ} {made : Bool} (item : ItemIs bs x i at made) where
-      pub rest_stands : ItemStands ws end d at made
-      rest_stands = item_stands ws end d g.listed item
-
-      pub rest_more : {t : Seen} → ItemWalked v ws end d at made s t → Resting (i + 1) t
+    module _ {at : ℕ} {made : Bool} (item : ItemOf a i at made) where
+      pub rest_more : {t : Seen} → ItemWalked v (text a.s.now) a.s.now.end d at made s t → Resting (i + 1) t
       rest_more w =
-          let f = (there ws end d g.listed item).found in
+          let f = item.found in
           record {
-            listed = g.listed;
             same =
                 g.same
-                ∙ ap (folded (past_element v d) s) (next_left ws end d g.listed item)
+                ∙ ap (folded (past_element v d) s) (next_left item)
                 ∙ ap (λ t. folded (past_element v d) t (drop (i + 1) es)) (sym (w.value f.tree f.next f.spans));
           }
 
-pub ruleset resting = (rest_none, rest_all, rest_stands, rest_more)
+pub ruleset resting = (item_stands, rest_none, rest_all, rest_more)
 
 -- A whole alternative.
-module _ (v : View) (ws : List ℕ) (end d : ℕ) (bs : List ℕ) (x : Listed) where
+module _ (v : View) (a : Shown) where
   abbrev all_of : List (Element (Block d))
-  all_of = (meaning ws end d bs x).elements
+  all_of = (meant a).elements
 
   abbrev rest : List (Element (Block d))
   rest = drop 1 all_of
@@ -107,10 +105,10 @@ module _ (v : View) (ws : List ℕ) (end d : ℕ) (bs : List ℕ) (x : Listed) w
   no_corners es w e j = ap (λ s. s.corners j) e ∙ (past_adds w.agrees d front es).corners j
 
   module _ (b : Held) (begin : seen_of b ≡ front) where
-    pub whole_none : x.ne ≡ 0 → WalkOf v d all_of b
+    pub whole_none : a.x.ne ≡ 0 → WalkOf v d all_of b
     unfolding seen_of all
     whole_none e =
-        let none = no_steps_left ws end d bs x 0 (omega arith) in
+        let none = none_left a 0 (omega arith) in
         let empty = begin ∙ ap (folded (past_element v d) front) (sym none) in
         record {
           calls = λ w. record { at = no_calls all_of w empty };
@@ -121,15 +119,15 @@ module _ (v : View) (ws : List ℕ) (end d : ℕ) (bs : List ℕ) (x : Listed) w
         }
 
     -- Behind the first element, where the count of what is nullable starts anew.
-    module _ {at : ℕ} {made : Bool} (listed : ListedIn ws end d bs x) (item : ItemIs bs x 0 at made) (u r : Held)
-        (one : ItemWalked v ws end d at made (seen_of b) (seen_of u))
+    module _ {at : ℕ} {made : Bool} (item : ItemOf a 0 at made) (u r : Held)
+        (one : ItemWalked v (text a.s.now) a.s.now.end d at made (seen_of b) (seen_of u))
         (others : RestWalked v d rest (seen_of (turned u.seeks true u)) (seen_of r)) where
       -- The walk from the first element on, where it does not.
       whole : folded (past_element v d) (seen_of u) rest ≡ folded (past_element v d) front all_of
       whole =
-          let f = (there ws end d listed item).found in
+          let f = item.found in
           ap (λ s. folded (past_element v d) s rest) (one.value f.tree f.next f.spans)
-          ∙ sym (ap (folded (past_element v d) (seen_of b)) (next_left ws end d listed item))
+          ∙ sym (ap (folded (past_element v d) (seen_of b)) (next_left item))
           ∙ ap (λ s. folded (past_element v d) s all_of) begin
 
       pub whole_some : WalkOf v d all_of r

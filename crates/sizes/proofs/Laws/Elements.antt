@@ -6,17 +6,18 @@ use mathlib.Core.Bool.{Bool}
 use native.Mathlib.Omega.{arith}
 use lib.ListN.{drop, drop_of_length-le}
 use Rattle.grammar.specs.Numbers.{most_words}
-use Rattle.grammar.specs.Tree.{Element, Block}
+use Rattle.grammar.specs.Tree.{Element, Block, inner_depth}
 use Rattle.grammar.specs.Encode.{encode_element, encode_block}
 use Rattle.grammar.specs.Found.{FoundElement}
 use Rattle.grammar.specs.Fold.{block_fold, ElementWalked}
 use Rattle.grammar.specs.Laws.Stands.{stands_length}
 use Rattle.reference.specs.Apply.{renumber_element, renumber_block}
-use Rattle.planned.specs.Layout.{made_if, meaning}
-use Rattle.planned.specs.List.{Located, ListedIn, ItemAt}
-use Rattle.planned.specs.Reading.{ItemIs}
-use Rattle.planned.specs.Laws.Counts.{count_elements}
-use Rattle.planned.specs.declared.list.Listed.{Listed}
+use Rattle.planned.specs.Layout.{made_if}
+use Rattle.planned.specs.Shown.{meant, ItemOf}
+use Rattle.planned.specs.Laws.Items.{item_found}
+use Rattle.planned.specs.Laws.Shown.{elements_many}
+use Rattle.planned.specs.declared.shown.Shown.{Shown}
+use Rattle.words.specs.Sheet.{text}
 use Rattle.sizes.specs.Tally.{ids_in, no_ids, behind, counting}
 use Rattle.sizes.specs.Sized.{Under, no_size, plus, ElementsSized, ElementSized}
 use Rattle.sizes.specs.declared.tally.Tally.{Tally}
@@ -69,55 +70,49 @@ pub ruleset sized = (no_ids_is, element_sized, element_past)
 pub element_under : {ws : List ℕ} {end d at : ℕ} {n : Measure} → ElementSized ws end d at n → Under n (2 ^ 32)
 element_under s = under_more s.few (omega arith)
 
-module _ (ws : List ℕ) (end d : ℕ) (bs : List ℕ) (x : Listed) where
+abbrev d : ℕ
+d = inner_depth
+
+module _ (a : Shown) where
   abbrev es : List (Element (Block d))
-  es = (meaning ws end d bs x).elements
+  es = (meant a).elements
 
   -- The elements in front of an index are in the sum.
   pub record Adding (i : ℕ) (m : Measure) : Type 0 where
-    pub listed : ListedIn ws end d bs x
     pub sum : Summing (encode_element (encode_block d)) (renumber_element (renumber_block d)) es (drop i es) m
     pub few : Under m (most_words * i)
-    pub within : i ≤ x.ne
+    pub within : i ≤ a.x.ne
 
-  pub adding_none : ListedIn ws end d bs x → {m : Measure} → m ≡ no_size → Adding 0 m
-  adding_none l e =
+  pub adding_none : {m : Measure} → m ≡ no_size → Adding 0 m
+  adding_none e =
       record {
-        listed = l;
         sum = rw e (summing_all (encode_element (encode_block d)) (renumber_element (renumber_block d)) es);
         few = rw e (under_none 0);
         within = omega arith;
       }
 
   module _ {i : ℕ} {m : Measure} (g : Adding i m) where
-    pub adding_all : x.ne ≤ i → ElementsSized d es m
+    pub adding_all : a.x.ne ≤ i → ElementsSized d es m
     adding_all l =
-        let c = count_elements ws end d bs x in
+        let c = elements_many a in
         record {
           is = summing_done (encode_element (encode_block d)) (renumber_element (renumber_block d)) g.sum
               (drop_of_length-le es {i = i} (omega arith));
           few = let w = g.within in under_more g.few (omega arith);
         }
 
-    pub adding_under : Located bs x → Under m (2 ^ 32)
-    adding_under l = let w = g.within in let z = l.elements in under_more g.few (omega arith)
+    pub adding_under : Under m (2 ^ 32)
+    adding_under = let w = g.within in let z = a.located.elements in under_more g.few (omega arith)
 
-    module _ {at : ℕ} {made : Bool} (item : ItemIs bs x i at made) where
-      abbrev there : ItemAt ws end d es i at made
-      there = item.is ws end d g.listed
-
-      pub adding_found : FoundElement ws end d at
-      adding_found = there.found
-
-      pub adding_more : i < x.ne → {n r : Measure} → ElementSized ws end d at n → r ≡ plus m n → Adding (i + 1) r
+    module _ {at : ℕ} {made : Bool} (item : ItemOf a i at made) where
+      pub adding_more : i < a.x.ne → {n r : Measure} → ElementSized (text a.s.now) a.s.now.end d at n → r ≡ plus m n → Adding (i + 1) r
       adding_more h {n} {r} s e =
-          let f = there.found in
+          let f = item.found in
           record {
-            listed = g.listed;
             sum = summing_more (encode_element (encode_block d)) (renumber_element (renumber_block d)) g.sum
-                (there.here f.tree f.next f.spans) (s.is f.tree f.next f.spans made) e;
+                (item.here f.tree f.next f.spans) (s.is f.tree f.next f.spans made) e;
             few = under_sum g.few s.few e (omega arith);
             within = omega arith;
           }
 
-pub ruleset adding = (element_under, none_is, adding_none, adding_all, adding_under, adding_found, adding_more)
+pub ruleset adding = (element_under, none_is, adding_none, adding_all, adding_under, item_found, adding_more)

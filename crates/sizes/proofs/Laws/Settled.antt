@@ -6,7 +6,7 @@ use mathlib.Core.Bool.{true, false}
 use native.Mathlib.Omega.{arith}
 use lib.ListN.{length, length-append}
 use Rattle.grammar.specs.Numbers.{most_words, alternative_sort}
-use Rattle.grammar.specs.Tree.{Counters}
+use Rattle.grammar.specs.Tree.{Counters, inner_depth}
 use Rattle.grammar.specs.Encode.{encode_alternative, encode_block}
 use Rattle.grammar.specs.Lists.{total}
 use Rattle.reference.specs.Substitute.{Planned}
@@ -14,12 +14,15 @@ use Rattle.reference.specs.Apply.{fresh_each, past, renumber_element, renumber_e
 use Rattle.planned.specs.Layout.{marked, meaning, settled, records_from}
 use Rattle.planned.specs.List.{Laid, Located, ListedIn, AllIn}
 use Rattle.planned.specs.Reading.{settled_from, OnTrack, AtFront, ReadNext}
-use Rattle.planned.specs.Laws.Counts.{elements_all, options_all, count_elements, count_options, alternatives_in_lem, elements_in_lem, options_in_lem}
+use Rattle.planned.specs.Laws.Counts.{elements_all, options_all, alternatives_in_lem, elements_in_lem, options_in_lem}
 use Rattle.planned.specs.Laws.Items.{unmarked, is_marked_lem}
+use Rattle.planned.specs.Laws.Shown.{elements_many, options_many}
 use Rattle.planned.specs.Laws.Ahead.{all_ahead, one_ahead}
+use Rattle.planned.specs.Shown.{meant}
 use Rattle.planned.specs.declared.list.Sizes.{Sizes}
 use Rattle.planned.specs.declared.list.Listed.{Listed}
 use Rattle.planned.specs.declared.read.Cursor.{Cursor}
+use Rattle.planned.specs.declared.shown.Shown.{Shown}
 use Rattle.sizes.specs.Tally.{behind}
 use Rattle.sizes.specs.Sized.{Under, no_size, plus, ElementsSized, most_of, AlternativeSized, Measured}
 use Rattle.sizes.specs.declared.sums.Measure.{Measure}
@@ -90,34 +93,34 @@ module _ (d : ℕ) (p : Planned d) {m : Measure} (s : ElementsSized d p.elements
       }
 
 -- By what is listed.
-module _ (ws : List ℕ) (end d : ℕ) (bs : List ℕ) (x : Listed) {m : Measure}
-    (s : ElementsSized d (meaning ws end d bs x).elements m) where
-  pub listed_new : x.slot < marked
-      → AlternativeSized d (meaning ws end d bs x)
+module _ (a : Shown) {m : Measure} (s : ElementsSized inner_depth (meant a).elements m) where
+  pub listed_new : a.x.slot < marked
+      → AlternativeSized inner_depth (meant a)
       (record {
         alternatives = m.alternatives + 1;
         elements = m.elements;
         labels = m.labels;
         actions = m.actions;
         predicates = m.predicates;
-        words = 5 + 2 * x.no + m.words;
+        words = 5 + 2 * a.x.no + m.words;
       })
   unfolding meaning
   listed_new h =
-      new_sized d (meaning ws end d bs x) s (5 + 2 * x.no + m.words) (let z = count_options ws end d bs x in omega arith)
+      new_sized inner_depth (meant a) s (5 + 2 * a.x.no + m.words) (let z = options_many a in omega arith)
       (unmarked h)
 
-  pub listed_kept : marked ≤ x.slot → {a e l c p : ℕ} → a ≡ 0 → e ≡ 0 → l ≡ 0 → c ≡ 0 → p ≡ 0
-      → AlternativeSized d (meaning ws end d bs x)
-      (record { alternatives = a; elements = e; labels = l; actions = c; predicates = p; words = 5 + 2 * x.no + m.words })
+  pub listed_kept : marked ≤ a.x.slot → {t e l c p : ℕ} → t ≡ 0 → e ≡ 0 → l ≡ 0 → c ≡ 0 → p ≡ 0
+      → AlternativeSized inner_depth (meant a)
+      (record { alternatives = t; elements = e; labels = l; actions = c; predicates = p; words = 5 + 2 * a.x.no + m.words })
   unfolding meaning
   listed_kept h i j k n o =
       rw (i, j, k, n, o)
-      (kept_sized d (meaning ws end d bs x) s (5 + 2 * x.no + m.words) (let z = count_options ws end d bs x in omega arith)
+      (kept_sized inner_depth (meant a) s (5 + 2 * a.x.no + m.words) (let z = options_many a in omega arith)
       (is_marked_lem h))
 
-  pub listed_under : Located bs x → Under m (2 ^ 32)
-  listed_under l = let c = count_elements ws end d bs x in let z = l.elements in under_more s.few (omega arith)
+  pub listed_under : Under m (2 ^ 32)
+  listed_under =
+      let c = elements_many a in let z = a.located.elements in under_more s.few (omega arith)
 
 -- As much as several may take.
 abbrev most_of_all : (d : ℕ) → List (Planned d) → ℕ

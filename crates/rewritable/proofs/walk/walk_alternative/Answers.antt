@@ -3,8 +3,8 @@ use Rattle.rewritable.proofs.walk.walk_alternative.Goals as goal
 use Rattle.rewritable.proofs.Laws.Walks.{wholes}
 
 -- src/walk.rt:120:9
-pub returns-then-x-eq0 : goal.returns-then-x-eq0
-returns-then-x-eq0 c = search (rules, wholes)
+pub returns-then-a-eq0 : goal.returns-then-a-eq0
+returns-then-a-eq0 c = search (rules, wholes)
 
 -- src/walk.rt:132:9
 pub walk_item-requires : goal.walk_item-requires

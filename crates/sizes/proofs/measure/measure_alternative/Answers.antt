@@ -6,16 +6,16 @@ use Rattle.sizes.proofs.Laws.Settled.{listed_new, listed_kept, listed_under}
 -- src/measure.rt:76:17
 pub overflow_add-words-2 : goal.overflow_add-words-2
 overflow_add-words-2 c =
-    let low = listed_under _ _ _ _ _ c.measure_elements-m.ensures c.requires.bounds.1 in omega (arith, low.words)
+    let low = listed_under c.args.a.now c.measure_elements-m.ensures in omega (arith, low.words)
 
 -- src/measure.rt:79:27
 pub overflow_add-result : goal.overflow_add-result
 overflow_add-result c =
-    let low = listed_under _ _ _ _ _ c.measure_elements-m.ensures c.requires.bounds.1 in omega (arith, low.alternatives)
+    let low = listed_under c.args.a.now c.measure_elements-m.ensures in omega (arith, low.alternatives)
 
 -- src/measure.rt:78:9
-pub returns-then-x-lt-BIT : goal.returns-then-x-lt-BIT
-returns-then-x-lt-BIT c = search (rules, listed_new)
+pub returns-then-a-lt-BIT : goal.returns-then-a-lt-BIT
+returns-then-a-lt-BIT c = search (rules, listed_new)
 
 -- src/measure.rt:70:1
 pub returns : goal.returns

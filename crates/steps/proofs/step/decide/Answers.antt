@@ -9,8 +9,8 @@ returns-in_err-quiet c =
     let w = c.in_err-quiet.was in
     rw (raised c.in_err-quiet.field-0.0 c.from_residual.result c.from_residual.ensures.1) (search (rules, sames, steps))
 
-pub splice_size-requires-clause-listed_in : goal.splice_size-requires-clause-listed_in
-splice_size-requires-clause-listed_in c = let w = c.in_ok-quiet.was in search (rules, sames, steps)
+pub splice_size-requires-clause-searchable : goal.splice_size-requires-clause-searchable
+splice_size-requires-clause-searchable c = let w = c.in_ok-quiet.was in search (rules, sames, steps)
 
 pub returns-in-Split : goal.returns-in-Split
 returns-in-Split c = let w = c.in_ok-quiet.was in search (rules, sames, steps)
