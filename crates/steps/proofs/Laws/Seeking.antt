@@ -16,9 +16,8 @@ use Rattle.planned.specs.List.{ListedIn}
 use Rattle.planned.specs.Reading.{ItemIs}
 use Rattle.planned.specs.declared.list.Listed.{Listed}
 use Rattle.std.specs.Prelude.{Option, None, Some}
-use Rattle.steps.specs.Corner.{CycleBy, corner_by, CornerIn, corner_at, met_corner, MetIn, ItemMet, CornerAt}
+use Rattle.steps.specs.Corner.{CycleBy, corner_by, CornerIn, met_corner_by, met_corner, MetIn, ItemMet, CornerAt}
 use Rattle.steps.specs.declared.cycle.Cycle.{Cycle}
-use Rattle.steps.specs.declared.corner.Place.{Place}
 use Rattle.steps.specs.declared.corner.Corner.{Corner}
 use Rattle.steps.specs.declared.corner.Corner.TheVariants.{Settled, Blocked, Optional, Satellite}
 
@@ -48,18 +47,22 @@ shift_satellite zero j t = ap (λ k. satellite k t) (omega arith)
 shift_satellite (suc i) j t = shift_satellite i (suc j) t ∙ ap (λ k. satellite k t) (omega arith)
 
 -- What is met at an element behind i silent ones.
-shift_met : (ids : List ℕ) (i : ℕ) (r : Corner ℕ) → shifted i (corner_by ids (corner_at 0 r)) ≡ corner_by ids (corner_at i r)
-shift_met ids i Settled = shift_settled i
-shift_met ids i Blocked = shift_blocked i
-shift_met ids i (Optional t) = shift_optional i 0 (get_or ids t 0) ∙ ap (λ k. optional k (get_or ids t 0)) (omega arith)
-shift_met ids i (Satellite t) = shift_satellite i 0 (get_or ids t 0) ∙ ap (λ k. satellite k (get_or ids t 0)) (omega arith)
+shift_met : (c : Cycle) (ids : List ℕ) (i : ℕ) (r : Corner) → MetIn c i r → shifted i (met_corner_by ids r) ≡ corner_by ids r
+shift_met c ids i Settled m = shift_settled i
+shift_met c ids i Blocked m = shift_blocked i
+shift_met c ids i (Optional p) m =
+    let e = m.0 in
+    shift_optional i 0 (get_or ids p.target 0) ∙ ap (λ k. optional k (get_or ids p.target 0)) (omega arith)
+shift_met c ids i (Satellite p) m =
+    let e = m.0 in
+    shift_satellite i 0 (get_or ids p.target 0) ∙ ap (λ k. satellite k (get_or ids p.target 0)) (omega arith)
 
 -- It is in range.
-met_within : (c : Cycle) {n i : ℕ} (r : Corner ℕ) → i < n → MetIn c r → CornerIn c n (corner_at i r)
+met_within : (c : Cycle) {n i : ℕ} (r : Corner) → i < n → MetIn c i r → CornerIn c n r
 met_within c Settled l m = tt
 met_within c Blocked l m = tt
-met_within c (Optional t) l m = record { index = l; rule = m.0; member = m.1 }
-met_within c (Satellite t) l m = (record { index = l; rule = m.0; member = m.1 }, m.2)
+met_within c (Optional p) l m = record { index = let e = m.0 in omega arith; rule = m.1; member = m.2 }
+met_within c (Satellite p) l m = (record { index = let e = m.0 in omega arith; rule = m.1; member = m.2 }, m.3)
 
 count_elements : (ws : List ℕ) (end d : ℕ) (bs : List ℕ) (at n : ℕ) → length (elements_from ws end d bs at n) ≡ n
 unfolding elements_from
@@ -96,7 +99,7 @@ module _ {names : List ℕ} {c : Cycle} {ws : List ℕ} {end d : ℕ} {bs : List
 
   module _ {at : ℕ} {made : Bool} (l : i < x.ne) (f : ListedIn ws end d bs x) (t : ItemIs bs x i at made) where
     -- What is met at the element decides.
-    met : {m : Option (Corner ℕ)} → ItemMet names c ws end d at made m → (g : Grammar) (cycle ids : List ℕ) → CycleBy g cycle ids names c
+    met : {m : Option Corner} → ItemMet names c ws end d i at made m → (g : Grammar) (cycle ids : List ℕ) → CycleBy g cycle ids names c
         → planned_corner g cycle (get_or ids c.hub 0) (es names c ws end d bs x)
         ≡ shifted i (met_corner ids m (planned_corner g cycle (get_or ids c.hub 0) (drop (i + 1) (es names c ws end d bs x))))
     met m g cycle ids b =
@@ -105,18 +108,17 @@ module _ {names : List ℕ} {c : Cycle} {ws : List ℕ} {end d : ℕ} {bs : List
         ∙ ap (λ zs. shifted i (planned_corner g cycle (get_or ids c.hub 0) zs)) (u.here u.found.tree u.found.next u.found.spans)
         ∙ ap (shifted i) (m.is g cycle ids b u.found.tree u.found.next u.found.spans _)
 
-    pub seek_silent : {k : Option (Corner ℕ)} → ItemMet names c ws end d at made k → k ≡ None → Seeking names c ws end d bs x (i + 1)
+    pub seek_silent : {k : Option Corner} → ItemMet names c ws end d i at made k → k ≡ None → Seeking names c ws end d bs x (i + 1)
     unfolding shifted
     seek_silent w e =
         let m = rw e at w in
         record { is = λ g cycle ids b. met m g cycle ids b ∙ rw (add-one i) refl; within = omega arith }
 
-    pub seek_met : {k : Option (Corner ℕ)} {r : Corner ℕ} {q : Corner Place} → ItemMet names c ws end d at made k → k ≡ Some r
-        → q ≡ corner_at i r → CornerAt names c ws end d bs x q
-    seek_met {r = r} w e z =
-        let m : ItemMet names c ws end d at made (Some r) = rw e at w in
-        rw z
-        (record { is = λ g cycle ids b. met m g cycle ids b ∙ shift_met ids i r; within = met_within c r l m.member })
+    pub seek_met : {k : Option Corner} {r : Corner} → ItemMet names c ws end d i at made k → k ≡ Some r
+        → CornerAt names c ws end d bs x r
+    seek_met {r = r} w e =
+        let m : ItemMet names c ws end d i at made (Some r) = rw e at w in
+        record { is = λ g cycle ids b. met m g cycle ids b ∙ shift_met c ids i r m.member; within = met_within c r l m.member }
 
 -- The element stands in the sheet.
 pub item_found : {ws : List ℕ} {end d : ℕ} {bs : List ℕ} {x : Listed} {i at : ℕ} {made : Bool} → ListedIn ws end d bs x → ItemIs bs x i at made
