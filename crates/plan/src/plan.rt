@@ -93,7 +93,8 @@ fn make(
         members,
         hub,
     };
-    let Some(done) = substitute(g.s, *g.rules, &c, limits, most, work)? else {
+    let places = g.rules.places;
+    let Some(done) = substitute(g.s, &places, &c, limits, most, work)? else {
         return Err(Unplanned::Declined(Clause::NoSteps));
     };
     finish(f, members, hub, work, done)

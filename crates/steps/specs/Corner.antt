@@ -24,14 +24,14 @@ pub record MemberIn (c : Cycle) (n : ℕ) (p : Place) : Type 0 where
   pub member : bit c.members p.target ≡ true
 
 -- A corner by places as one by ids.
-abbrev pub corner_by : (ids : List ℕ) → Corner Place → PlannedCorner
+abbrev pub corner_by : (ids : List ℕ) → Corner → PlannedCorner
 corner_by ids Settled = settled
 corner_by ids Blocked = blocked
 corner_by ids (Optional p) = optional p.index (get_or ids p.target 0)
 corner_by ids (Satellite p) = satellite p.index (get_or ids p.target 0)
 
 -- Index and place are in range, and a member is met.
-abbrev pub CornerIn : Cycle → ℕ → Corner Place → Type 0
+abbrev pub CornerIn : Cycle → ℕ → Corner → Type 0
 CornerIn c n Settled = Unit {0}
 CornerIn c n Blocked = Unit {0}
 CornerIn c n (Optional p) = MemberIn c n p
@@ -51,57 +51,57 @@ bare_at ws at payload = eqb (get_or ws (at + 4) 0) 0 && (eqb (get_or ws (payload
 abbrev pub quantifier_at : List ℕ → ℕ → Bool → ℕ
 quantifier_at ws at made = elim made [ true ↦ once | false ↦ get_or ws (at + 2) 0 / kind_end ]
 
--- What is met at an element, with its index.
-abbrev pub corner_at : ℕ → Corner ℕ → Corner Place
-corner_at i Settled = Settled
-corner_at i Blocked = Blocked
-corner_at i (Optional t) = Optional (record { index = i; target = t })
-corner_at i (Satellite t) = Satellite (record { index = i; target = t })
+-- What is met at an element, as the first of those that are looked at.
+abbrev pub met_corner_by : (ids : List ℕ) → Corner → PlannedCorner
+met_corner_by ids Settled = settled
+met_corner_by ids Blocked = blocked
+met_corner_by ids (Optional p) = optional 0 (get_or ids p.target 0)
+met_corner_by ids (Satellite p) = satellite 0 (get_or ids p.target 0)
 
 -- What is met, or nothing, in front of what comes behind it.
-abbrev pub met_corner : (ids : List ℕ) → Option (Corner ℕ) → PlannedCorner → PlannedCorner
+abbrev pub met_corner : (ids : List ℕ) → Option Corner → PlannedCorner → PlannedCorner
 met_corner ids None k = further k
-met_corner ids (Some r) k = corner_by ids (corner_at 0 r)
+met_corner ids (Some r) k = met_corner_by ids r
 
--- A member, where one is met.
-abbrev pub MetIn : Cycle → Corner ℕ → Type 0
-MetIn c Settled = Unit {0}
-MetIn c Blocked = Unit {0}
-MetIn c (Optional t) = (t < c.n) × (bit c.members t ≡ true)
-MetIn c (Satellite t) = (t < c.n) × (bit c.members t ≡ true) × (t ≡ c.hub → ⊥)
+-- A member at the element's index, where one is met.
+abbrev pub MetIn : Cycle → ℕ → Corner → Type 0
+MetIn c i Settled = Unit {0}
+MetIn c i Blocked = Unit {0}
+MetIn c i (Optional p) = (p.index ≡ i) × (p.target < c.n) × (bit c.members p.target ≡ true)
+MetIn c i (Satellite p) = (p.index ≡ i) × (p.target < c.n) × (bit c.members p.target ≡ true) × (p.target ≡ c.hub → ⊥)
 
--- At a call of the member t, by tests: whether it is optional, bare, once, and of the hub.
-abbrev pub met_by : (is_optional bare is_once of_hub : Bool) → ℕ → Corner ℕ
-met_by true true _ _ t = Optional t
-met_by true false _ _ t = Blocked
-met_by false bare false hub t = Blocked
-met_by false bare true true t = Settled
-met_by false true true false t = Satellite t
-met_by false false true false t = Blocked
+-- At a call of a member, by tests: whether it is optional, bare, once, and of the hub.
+abbrev pub met_by : (is_optional bare is_once of_hub : Bool) → Place → Corner
+met_by true true _ _ p = Optional p
+met_by true false _ _ p = Blocked
+met_by false bare false hub p = Blocked
+met_by false bare true true p = Settled
+met_by false true true false p = Satellite p
+met_by false false true false p = Blocked
 
-abbrev pub met_member : (bare : Bool) (quantifier t hub : ℕ) → Corner ℕ
-met_member bare quantifier t hub = met_by (eqb quantifier optional_greedy) bare (eqb quantifier once) (eqb t hub) t
+abbrev pub met_member : (bare : Bool) (quantifier : ℕ) → Place → (hub : ℕ) → Corner
+met_member bare quantifier p hub = met_by (eqb quantifier optional_greedy) bare (eqb quantifier once) (eqb p.target hub) p
 
 module _ (names : List ℕ) (c : Cycle) where
-  -- At a call of a name.
-  pub record CallMet (name : ℕ) (bare : Bool) (quantifier : ℕ) (r : Corner ℕ) : Type 0 where
+  -- At a call of a name, whose element has an index.
+  pub record CallMet (index name : ℕ) (bare : Bool) (quantifier : ℕ) (r : Corner) : Type 0 where
     pub is : (g : Grammar) (cycle ids : List ℕ) → CycleBy g cycle ids names c → (d : ℕ) (h : ElementHead) (k : Call) → k.name ≡ name
         → h.quantifier ≡ quantifier → bare_reference h k ≡ bare → (es : List (Element (Block d)))
         → planned_corner g cycle (get_or ids c.hub 0) (leaf h (call k) ∷ es)
-        ≡ corner_by ids (corner_at 0 r)
-    pub member : MetIn c r
+        ≡ met_corner_by ids r
+    pub member : MetIn c index r
 
   module _ (ws : List ℕ) (end d : ℕ) where
-    -- At an element of the list.
-    pub record ItemMet (at : ℕ) (made : Bool) (r : Option (Corner ℕ)) : Type 0 where
+    -- At an element of the list, at an index.
+    pub record ItemMet (index at : ℕ) (made : Bool) (r : Option Corner) : Type 0 where
       pub is : (g : Grammar) (cycle ids : List ℕ) → CycleBy g cycle ids names c → (e : Element (Block d)) (q : ℕ)
           → ElementSpans ws end d at e q → (es : List (Element (Block d)))
           → planned_corner g cycle (get_or ids c.hub 0) (made_if made e ∷ es)
           ≡ met_corner ids r (planned_corner g cycle (get_or ids c.hub 0) es)
-      pub member : IfSome r (MetIn c)
+      pub member : IfSome r (MetIn c index)
 
     -- The corner of an alternative that is listed.
-    pub record CornerAt (bs : List ℕ) (x : Listed) (r : Corner Place) : Type 0 where
+    pub record CornerAt (bs : List ℕ) (x : Listed) (r : Corner) : Type 0 where
       pub is : (g : Grammar) (cycle ids : List ℕ) → CycleBy g cycle ids names c
           → planned_corner g cycle (get_or ids c.hub 0) (meaning ws end d bs x).elements ≡ corner_by ids r
       pub within : CornerIn c x.ne r

@@ -1,10 +1,9 @@
 // The corner of a planned alternative (SPECIFICATION 8.2 to 8.5): the first element that is significant decides.
 ghost use Rattle.std.specs.Prelude.{◌≡◌, ◌+◌, ◌*◌, ◌<◌, ◌≤◌, length};
-ghost use Rattle.grammar.specs.Numbers.{call_kind};
 ghost use Rattle.grammar.specs.Tree.{inner_depth};
 ghost use Rattle.grammar.specs.Words.{words};
-ghost use Rattle.grammar.specs.Found.{FoundElement, HeadAt};
-ghost use Rattle.steps.specs.Corner.{bare_at, quantifier_at, corner_at, met_member, CallMet, ItemMet, CornerAt};
+ghost use Rattle.grammar.specs.Found.{FoundElement};
+ghost use Rattle.steps.specs.Corner.{bare_at, quantifier_at, met_member, CallMet, ItemMet, CornerAt};
 ghost use Rattle.words.specs.Kinds.{quantifier_number};
 ghost use Rattle.words.specs.Sheet.{text};
 
@@ -25,27 +24,14 @@ pub struct Place {
     pub target: usize,
 }
 
-// What decides about an alternative, and of a member that is met its place: at one element the rule's, in the whole alternative that
-// of the element too.
+// What decides about an alternative, and where a member is met.
 // Stays: each of the four cases has a meaning of its own in SPECIFICATION 8.2 to 8.5, and they are those of the definition.
 #[derive(Clone, Copy, Debug, PartialEq, Eq)]
-pub enum Corner<T> {
+pub enum Corner {
     Settled,
     Blocked,
-    Optional(T),
-    Satellite(T),
-}
-
-// What is met at one element is that of the whole alternative, with the element's index.
-fn placed(index: usize, met: Corner<usize>) -> Corner<Place>
-    ensures { result ≡ corner_at index met }
-{
-    match met {
-        Corner::Settled => Corner::Settled,
-        Corner::Blocked => Corner::Blocked,
-        Corner::Optional(target) => Corner::Optional(Place { index, target }),
-        Corner::Satellite(target) => Corner::Satellite(Place { index, target }),
-    }
+    Optional(Place),
+    Satellite(Place),
 }
 
 // Without label, arguments and options.
@@ -56,25 +42,27 @@ fn is_bare(s: &[u8], at: usize, payload: usize) -> bool
     word(s, at + 4) == 0 && word(s, payload + 1) == 0 && word(s, at + 5) == 0
 }
 
-// A call of the member t: split, left as it is, spliced, or in the way.
-fn meet_member(bare: bool, quantifier: Quantifier, t: usize, hub: usize) -> Corner<usize>
-    ensures { result ≡ met_member bare (quantifier_number quantifier) t hub }
+// A call of a member: split, left as it is, spliced, or in the way.
+fn meet_member(bare: bool, quantifier: Quantifier, p: Place, hub: usize) -> Corner
+    ensures { result ≡ met_member bare (quantifier_number quantifier) p hub }
 {
     match quantifier {
-        Quantifier::OptionalGreedy if bare => Corner::Optional(t),
-        Quantifier::Once if t == hub => Corner::Settled,
-        Quantifier::Once if bare => Corner::Satellite(t),
+        Quantifier::OptionalGreedy if bare => Corner::Optional(p),
+        Quantifier::Once if p.target == hub => Corner::Settled,
+        Quantifier::Once if bare => Corner::Satellite(p),
         _ => Corner::Blocked,
     }
 }
 
-// A call of a name; one of no rule, or of a rule outside the cycle, is settled.
-fn meet_call(c: &Cycle, name: u32, bare: bool, quantifier: Quantifier) -> Corner<usize>
-    ensures { CallMet c.now.names.now c.now name bare (quantifier_number quantifier) result }
+// A call of a name, at an index; one of no rule, or of a rule outside the cycle, is settled.
+fn meet_call(c: &Cycle, index: usize, name: u32, bare: bool, quantifier: Quantifier) -> Corner
+    ensures { CallMet c.now.names.now c.now index name bare (quantifier_number quantifier) result }
 {
     let members = c.members;
     match scan(c.names, c.n, name) {
-        Some(t) if has(members, t) => meet_member(bare, quantifier, t, c.hub),
+        Some(target) if has(members, target) => {
+            meet_member(bare, quantifier, Place { index, target }, c.hub)
+        }
         _ => Corner::Settled,
     }
 }
@@ -92,10 +80,10 @@ fn quantifier_of(s: &Sheet, x: Item) -> Quantifier
     Quantifier::try_from(number).unwrap()
 }
 
-// One element of the list: nothing, where it takes no input.
-fn meet_item(s: &Sheet, c: &Cycle, x: Item) -> Option<Corner<usize>>
+// The element at an index of the list: nothing, where it takes no input.
+fn meet_item(s: &Sheet, c: &Cycle, index: usize, x: Item) -> Option<Corner>
     requires { FoundElement (text s.now) s.now.end inner_depth x.at }
-    ensures { ItemMet c.now.names.now c.now (text s.now) s.now.end inner_depth x.at x.plain result }
+    ensures { ItemMet c.now.names.now c.now (text s.now) s.now.end inner_depth index x.at x.plain result }
 {
     let head = element_head(s, Block::DEPTH, x.at);
     let kind = head.kind;
@@ -105,19 +93,19 @@ fn meet_item(s: &Sheet, c: &Cycle, x: Item) -> Option<Corner<usize>>
         Kind::Call => {
             let bare = is_bare(s.bytes, x.at, payload);
             let quantifier = quantifier_of(s, x);
-            Some(meet_call(c, word(s.bytes, payload), bare, quantifier))
+            Some(meet_call(c, index, word(s.bytes, payload), bare, quantifier))
         }
         Kind::Token | Kind::Terminal | Kind::Block | Kind::EndOfInput => Some(Corner::Settled),
     }
 }
 
 // The corner of an alternative that is listed.
-pub fn find_corner(a: &Shown, c: &Cycle) -> Corner<Place>
+pub fn find_corner(a: &Shown, c: &Cycle) -> Corner
     ensures { CornerAt c.now.names.now c.now (text a.now.s.now) a.now.s.now.end inner_depth a.now.work.now a.now.x result }
 {
     for i in 0..a.x.ne {
-        if let Some(met) = meet_item(a.s, c, a.item(i)) {
-            return placed(i, met);
+        if let Some(met) = meet_item(a.s, c, i, a.item(i)) {
+            return met;
         }
     }
     Corner::Settled

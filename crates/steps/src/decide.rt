@@ -60,6 +60,7 @@ impl From<Clause> for u32 {
 }
 
 // Whether the names in the alternative at `at` collide with those around the element that it would replace.
+// Stays: `quiet` is a flag, of which `Searchable` is a clause (step.rt says why at `prepare`).
 #[tactic(auto, using(crate::proofs::Laws::Decide::collides))]
 fn collision(s: &Sheet, work: &[u8], quiet: bool, at: usize) -> Result<(), Clause>
     requires bounds { Searchable (text s.now) s.now.end work.now quiet }

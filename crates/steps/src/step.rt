@@ -18,6 +18,8 @@ use words::sheet::Sheet;
 
 // Whether nothing around an element can collide; or the decline, since a reference there would dangle. Sets of names are made only
 // where anything is labelled or refers.
+// Stays: the answer is no `Option<Names>`. A `Names` lends a sheet and a work area of its own, while a satellite is counted by those beside
+// it, also where there are no names; that the two are the same would be a clause in place of `Searchable`.
 fn prepare(s: &Sheet, work: &mut [u8], h: Listed, index: usize, name: u32) -> Result<bool, Clause>
     requires bounds { (s.now.end ≤ most_words) × Located work.old h × (index < h.ne) }
     requires listed_in { ListedIn (text s.now) s.now.end inner_depth work.old h }

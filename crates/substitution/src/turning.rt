@@ -9,7 +9,6 @@ ghost use Rattle.words.specs.Sheet.{text};
 use crate::over::unstored;
 use crate::size::hub_size;
 use planned::list::{Sizes, is_drained};
-use records::rules::Rules;
 use splices::splice::Size;
 use steps::cycle::Cycle;
 use turns::limits::Limits;
@@ -34,32 +33,27 @@ fn has_next(st: State) -> bool
 }
 
 // Before the first turn: the alternatives of the hub, which stands at `at`, are all in the sheet.
-fn begin(s: &Sheet, at: usize, all: Size, budget: usize) -> State
-    requires { at + 4 ≤ s.now.end }
-    ensures { Begun (get_or (text s.now) (at + 3) 0) (at + 4) all budget result }
+fn begin(task: &Task, at: usize, all: Size) -> State
+    requires { at + 4 ≤ task.now.s.now.end }
+    ensures { Begun (get_or (text task.now.s.now) (at + 3) 0) (at + 4) all task.now.budget result }
 {
     State {
         l: Sizes::empty(),
-        left: word(s.bytes, at + 3),
+        left: word(task.s.bytes, at + 3),
         at: at + 4,
         all,
-        budget,
+        budget: task.budget,
         steps: 0,
     }
 }
 
 // The list is within the limits from the first, and stored: turns until nothing is left to look at, or one ends it.
-fn stored(
-    task: &Task,
-    budget: usize,
-    first: State,
-    work: &mut [u8],
-) -> Result<Option<Done>, Unplanned>
+fn stored(task: &Task, first: State, work: &mut [u8]) -> Result<Option<Done>, Unplanned>
     requires shut { Shut (Ready (text task.now.s.now) task.now.s.now.end work.old first 0 0 0) }
     requires going { Shut (Going (text task.now.s.now) task.now.s.now.end task.now.c.names.now task.now.places.now task.now.c
-        task.now.limits budget work.old first) }
+        task.now.limits task.now.budget work.old first) }
     ensures { MadeOf (text task.now.s.now) task.now.s.now.end task.now.c.names.now task.now.places.now task.now.c task.now.limits
-        budget work.new result }
+        task.now.budget work.new result }
 {
     let mut st = first;
     // Stays: how many turns there are is known only at the end, when nothing is left to look at.
@@ -72,41 +66,40 @@ fn stored(
 }
 
 // The hub's own list is stored if it is within the limits.
-fn run(task: &Task, budget: usize, work: &mut [u8]) -> Result<Option<Done>, Unplanned>
+fn run(task: &Task, work: &mut [u8]) -> Result<Option<Done>, Unplanned>
     requires bounds { work_bytes ≤ length work.old }
     ensures { MadeOf (text task.now.s.now) task.now.s.now.end task.now.c.names.now task.now.places.now task.now.c task.now.limits
-        budget work.new result }
+        task.now.budget work.new result }
 {
-    let c = task.c;
-    let at = task.places[c.hub] as usize;
+    let at = task.hub();
     let z = hub_size(task.s, at);
     if is_within(task.limits.most(), z) {
-        let st = begin(task.s, at, z, budget);
-        return stored(task, budget, st, work);
+        let st = begin(task, at, z);
+        return stored(task, st, work);
     }
-    unstored(task, budget, work)
+    unstored(task, work)
 }
 
 // The substitution in the alternatives of the hub, with so many steps allowed: a list without work left; or none, since nothing was in
 // need of work and its own list is beyond the limits.
 pub fn substitute(
     s: &Sheet,
-    rules: Rules,
+    places: &[u32],
     c: &Cycle,
     limits: Limits,
     budget: usize,
     work: &mut [u8],
 ) -> Result<Option<Done>, Unplanned>
     requires bounds { (s.now.end ≤ most_words) × (work_bytes ≤ length work.old) }
-    requires ground { Ground (text s.now) s.now.end c.now.names.now rules.places c.now }
-    ensures { MadeOf (text s.now) s.now.end c.now.names.now rules.places c.now limits budget work.new result }
+    requires ground { Ground (text s.now) s.now.end c.now.names.now places.now c.now }
+    ensures { MadeOf (text s.now) s.now.end c.now.names.now places.now c.now limits budget work.new result }
 {
-    let places = rules.places;
     let task = Task {
         s,
-        places: &places,
+        places,
         c: *c,
         limits,
+        budget,
     };
-    run(&task, budget, work)
+    run(&task, work)
 }

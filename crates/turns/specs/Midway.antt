@@ -17,6 +17,8 @@ use Rattle.steps.specs.Decide.{SmallSize}
 use Rattle.turns.specs.declared.limits.Limits.{Limits}
 use Rattle.turns.specs.declared.state.State.{State}
 use Rattle.turns.specs.declared.taken.Taken.{Taken}
+use Rattle.turns.specs.declared.taken.Alternative.{Alternative}
+use Rattle.turns.specs.declared.taken.Alternative.TheVariants.{Hand, Stack}
 
 -- The limits as the definition has them.
 abbrev pub limits_of : Limits → R.Limits
@@ -88,11 +90,16 @@ pub record HasNext (st : State) : Type 0 where
 abbrev pub pending_count : (ws : List ℕ) (end : ℕ) (bs : List ℕ) → State → ℕ
 pending_count ws end bs st = length (stack ws end inner_depth bs st.l) + st.left
 
+-- An alternative that was taken, in hand or not.
+abbrev pub listed_of : Alternative → Listed
+listed_of (Hand h) = h.x
+listed_of (Stack t) = t.x
+
 -- The next alternative is taken.
 pub record TakenFrom (ws : List ℕ) (end : ℕ) (before after : List ℕ) (st : State) (r : Taken) : Type 0 where
-  pub with : Ready ws end before st 0 0 0 → With ws end after r.st r.x
+  pub with : Ready ws end before st 0 0 0 → With ws end after r.st (listed_of r.x)
   pub holds : (t : Task inner_depth) (budget : ℕ) (start : List (Planned inner_depth)) (y : Ready ws end before st 0 0 0)
-      → Midway ws end before st t budget start y → Holding ws end after r.st t budget start r.x (with y)
+      → Midway ws end before st t budget start y → Holding ws end after r.st t budget start (listed_of r.x) (with y)
   pub fewer : Ready ws end before st 0 0 0 → pending_count ws end after r.st + 1 ≡ pending_count ws end before st
   pub same_budget : r.st.budget ≡ st.budget
   pub same_steps : r.st.steps ≡ st.steps

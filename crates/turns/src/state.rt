@@ -1,13 +1,12 @@
 // A substitution on its way: the settled alternatives and the stack in the work area, the hub's remaining ones in the sheet.
 ghost use Rattle.std.specs.Prelude.{◌≡◌, true, ◌≤◌};
 ghost use Rattle.grammar.specs.Numbers.{most_words};
-ghost use Rattle.words.specs.Room.{Room};
 ghost use Rattle.planned.specs.List.{Laid, HasTop, HasRoom, Located, Movable};
 ghost use Rattle.planned.specs.Moves.{IsDrained};
 ghost use Rattle.turns.specs.Midway.{Shut, Ready, HasNext, StackTaken, TakenFrom, PutSettled};
 ghost use Rattle.words.specs.Sheet.{text};
 
-use crate::taken::Taken;
+use crate::taken::{Alternative, FromSheet, FromStack, Taken};
 use ends::ends::alternative_end;
 use planned::list::{Listed, Sizes, is_drained, settle, take_top};
 use splices::bring::hub_in_hand;
@@ -34,11 +33,9 @@ fn take_stack(work: &[u8], st: State) -> Taken
     ensures { StackTaken work.now st result }
 {
     let t = take_top(work, st.l);
-    let x = t.x;
     let l = t.rest;
     Taken {
-        x,
-        hand: false,
+        x: Alternative::Stack(FromStack { x: t.x }),
         st: State { l, ..st },
     }
 }
@@ -53,8 +50,7 @@ fn take_hub(s: &Sheet, work: &mut [u8], st: State) -> Taken
     let at = alternative_end(s, Block::DEPTH, st.at);
     let left = st.left - 1;
     Taken {
-        x,
-        hand: true,
+        x: Alternative::Hand(FromSheet { x }),
         st: State { left, at, ..st },
     }
 }

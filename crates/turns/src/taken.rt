@@ -1,16 +1,48 @@
-// An alternative that was taken out of the list.
-ghost use Rattle.std.specs.Prelude.{◌≡◌, true, false};
+// An alternative that was taken: from the stack, or from the sheet into the hand.
+ghost use Rattle.std.specs.Prelude.{◌≡◌};
 ghost use Rattle.planned.specs.List.{InHand, InList};
 
 use crate::state::State;
 use planned::list::Listed;
 
-// The alternative, whether it is in hand, and what is left.
+// One of the sheet, which is in hand.
+#[derive(Clone, Copy, Debug, PartialEq, Eq)]
+pub struct FromSheet {
+    pub x: Listed,
+    ghost in_hand: { InHand x },
+}
+
+// One that was on top of the stack, and still stands in the list.
+#[derive(Clone, Copy, Debug, PartialEq, Eq)]
+pub struct FromStack {
+    pub x: Listed,
+    ghost in_list: { InList x },
+}
+
+// An alternative of either.
+#[derive(Clone, Copy, Debug, PartialEq, Eq)]
+pub enum Alternative {
+    Hand(FromSheet),
+    Stack(FromStack),
+}
+
+impl Alternative {
+    ghost use Rattle.turns.specs.Midway.{listed_of};
+
+    // Wherever it stands.
+    pub fn listed(self) -> Listed
+        ensures { result ≡ listed_of self }
+    {
+        match self {
+            Alternative::Hand(h) => h.x,
+            Alternative::Stack(t) => t.x,
+        }
+    }
+}
+
+// The alternative, and what is left.
 #[derive(Clone, Copy, Debug, PartialEq, Eq)]
 pub struct Taken {
-    pub x: Listed,
-    pub hand: bool,
+    pub x: Alternative,
     pub st: State,
-    ghost in_hand: { hand ≡ true → InHand x },
-    ghost in_list: { hand ≡ false → InList x },
 }

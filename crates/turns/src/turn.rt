@@ -1,20 +1,17 @@
 // One turn of the substitution: the next alternative is settled, or a step puts others in its place (SPECIFICATION 8.1, 8.10).
-ghost use Rattle.std.specs.Prelude.{◌≡◌, true, false, ◌+◌, ◌<◌, ◌≤◌, ◌^◌, get_or};
-ghost use Rattle.grammar.specs.Numbers.{most_words};
+ghost use Rattle.std.specs.Prelude.{◌≡◌, ◌+◌, ◌<◌, ◌≤◌, ◌^◌, get_or};
 ghost use Rattle.grammar.specs.Tree.{inner_depth};
 ghost use Rattle.grammar.specs.Found.{FoundRule};
-ghost use Rattle.words.specs.Room.{Room};
 ghost use Rattle.planned.specs.List.{Laid, Located, Movable, InHand, HasRoom};
 ghost use Rattle.splices.specs.Splice.{HandIn};
 ghost use Rattle.steps.specs.Decide.{SmallSize};
 ghost use Rattle.steps.specs.Step.{splits, Goable, PushedBy};
 ghost use Rattle.turns.specs.Turn.{Called, CalledAt, SteppedTo, StuckAt, ActedOn, TurnedTo};
-ghost use Rattle.turns.specs.Midway.{Shut, Ready, HasNext, With, within, Held, CanReplace, SizeAfter};
+ghost use Rattle.turns.specs.Midway.{Shut, Ready, HasNext, With, within, Held, CanReplace, SizeAfter, listed_of};
 ghost use Rattle.words.specs.Sheet.{text};
 
-use crate::limits::Limits;
 use crate::state::{State, put_settled, take};
-use crate::taken::Taken;
+use crate::taken::{Alternative, Taken};
 use crate::task::Task;
 use planned::hand::{into_hand, push_split};
 use planned::list::{Listed, Sizes};
@@ -27,16 +24,16 @@ use words::sheet::Sheet;
 
 // The alternative that was taken comes into the hand.
 fn hold(work: &mut [u8], t: Taken) -> Listed
-    requires laid { Laid work.old t.st.l × Located work.old t.x × Movable t.st.l t.x }
-    ensures { Held work.old work.new t.st t.x result }
+    requires laid { Laid work.old t.st.l × Located work.old (listed_of t.x) × Movable t.st.l (listed_of t.x) }
+    ensures { Held work.old work.new t.st (listed_of t.x) result }
 {
-    let x = t.x;
-    if t.hand {
-        return x;
+    match t.x {
+        Alternative::Hand(h) => h.x,
+        Alternative::Stack(top) => {
+            let st = t.st;
+            into_hand(work, st.l, top.x)
+        }
     }
-    let st = t.st;
-    let l = st.l;
-    into_hand(work, l, x)
 }
 
 // Whether a list is no larger than another, in none of its three numbers.
@@ -144,10 +141,10 @@ fn step_in_hand(
 
 // A step on the alternative that was taken; the one beyond the budget is not looked at.
 fn step(task: &Task, work: &mut [u8], t: Taken, k: Call) -> Result<State, Unplanned>
-    requires bounds { k.index < t.x.ne }
-    requires shut { Shut (With (text task.now.s.now) task.now.s.now.end work.old t.st t.x) }
-    requires called { Called (text task.now.s.now) task.now.s.now.end work.old t.x k.index k.name k.at (splits k.step) }
-    ensures { SteppedTo (text task.now.s.now) task.now.s.now.end work.old work.new t.st t.x k.index k.at
+    requires bounds { k.index < (listed_of t.x).ne }
+    requires shut { Shut (With (text task.now.s.now) task.now.s.now.end work.old t.st (listed_of t.x)) }
+    requires called { Called (text task.now.s.now) task.now.s.now.end work.old (listed_of t.x) k.index k.name k.at (splits k.step) }
+    ensures { SteppedTo (text task.now.s.now) task.now.s.now.end work.old work.new t.st (listed_of t.x) k.index k.at
         (splits k.step) task.now.limits result }
 {
     let st = t.st;
@@ -160,10 +157,10 @@ fn step(task: &Task, work: &mut [u8], t: Taken, k: Call) -> Result<State, Unplan
 
 // A step at a member of the cycle that is called.
 fn step_at(task: &Task, work: &mut [u8], t: Taken, p: Place, by: Step) -> Result<State, Unplanned>
-    requires shut { Shut (With (text task.now.s.now) task.now.s.now.end work.old t.st t.x) }
+    requires shut { Shut (With (text task.now.s.now) task.now.s.now.end work.old t.st (listed_of t.x)) }
     requires called_at { CalledAt (text task.now.s.now) task.now.s.now.end work.old task.now.c.names.now task.now.places.now
-        t.x p (splits by) }
-    ensures { SteppedTo (text task.now.s.now) task.now.s.now.end work.old work.new t.st t.x p.index
+        (listed_of t.x) p (splits by) }
+    ensures { SteppedTo (text task.now.s.now) task.now.s.now.end work.old work.new t.st (listed_of t.x) p.index
         (get_or task.now.places.now p.target 0) (splits by) task.now.limits result }
 {
     let k = task.call(p, by);
@@ -182,11 +179,11 @@ pub fn stuck(budget: usize) -> Clause
 
 // What was taken is settled, or a step is made on it.
 fn act(task: &Task, work: &mut [u8], t: Taken) -> Result<State, Unplanned>
-    requires shut { Shut (With (text task.now.s.now) task.now.s.now.end work.old t.st t.x) }
+    requires shut { Shut (With (text task.now.s.now) task.now.s.now.end work.old t.st (listed_of t.x)) }
     ensures { ActedOn (text task.now.s.now) task.now.s.now.end task.now.c.names.now task.now.places.now task.now.c task.now.limits
-        work.old work.new t.st t.x result }
+        work.old work.new t.st (listed_of t.x) result }
 {
-    let x = t.x;
+    let x = t.x.listed();
     let st = t.st;
     match find_corner(&Shown { s: task.s, work, x }, &task.c) {
         Corner::Settled => Ok(put_settled(work, st, x)),

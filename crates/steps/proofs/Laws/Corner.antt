@@ -34,8 +34,9 @@ use Rattle.words.specs.Laws.Kinds.{quantifier_named}
 use Rattle.words.specs.declared.numbers.Quantifier.{Quantifier}
 use Rattle.words.specs.declared.numbers.Unnamed.{Unnamed}
 use Rattle.planned.specs.Layout.{made_if}
-use Rattle.steps.specs.Corner.{CycleBy, bare_at, quantifier_at, corner_by, corner_at, met_corner, MetIn, met_by, met_member, CallMet, ItemMet}
+use Rattle.steps.specs.Corner.{CycleBy, bare_at, quantifier_at, met_corner_by, met_corner, MetIn, met_by, met_member, CallMet, ItemMet}
 use Rattle.steps.specs.declared.cycle.Cycle.{Cycle}
+use Rattle.steps.specs.declared.corner.Place.{Place}
 use Rattle.steps.specs.declared.corner.Corner.{Corner}
 use Rattle.steps.specs.declared.corner.Corner.TheVariants.{Settled}
 
@@ -56,32 +57,32 @@ member_tests : (i : ℕ) (h : ElementHead) (c : Call) (n : ℕ)
 unfolding member_corner
 member_tests i h c n = refl
 
-same_tests : (ids : List ℕ) (t : ℕ) (a x b y : Bool) → (a ≡ true → b ≡ true → ⊥)
-    → corner_to a x b y (get_or ids t 0) ≡ corner_by ids (corner_at 0 (met_by a x b y t))
-same_tests ids t true x true y f = absurd (f refl refl)
-same_tests ids t true true false y f = refl
-same_tests ids t true false false true f = refl
-same_tests ids t true false false false f = refl
-same_tests ids t false x false true f = refl
-same_tests ids t false x false false f = refl
-same_tests ids t false x true true f = refl
-same_tests ids t false true true false f = refl
-same_tests ids t false false true false f = refl
+same_tests : (ids : List ℕ) (p : Place) (a x b y : Bool) → (a ≡ true → b ≡ true → ⊥)
+    → corner_to a x b y (get_or ids p.target 0) ≡ met_corner_by ids (met_by a x b y p)
+same_tests ids p true x true y f = absurd (f refl refl)
+same_tests ids p true true false y f = refl
+same_tests ids p true false false true f = refl
+same_tests ids p true false false false f = refl
+same_tests ids p false x false true f = refl
+same_tests ids p false x false false f = refl
+same_tests ids p false x true true f = refl
+same_tests ids p false true true false f = refl
+same_tests ids p false false true false f = refl
 
-module _ (c : Cycle) {t : ℕ} (l : t < c.n) (m : bit c.members t ≡ true) where
-  met_by_lem : (a x b y : Bool) → eqb t c.hub ≡ y → MetIn c (met_by a x b y t)
-  met_by_lem true true b y h = (l, m)
+module _ (c : Cycle) (p : Place) (l : p.target < c.n) (m : bit c.members p.target ≡ true) where
+  met_by_lem : (a x b y : Bool) → eqb p.target c.hub ≡ y → MetIn c p.index (met_by a x b y p)
+  met_by_lem true true b y h = (refl, l, m)
   met_by_lem true false b y h = tt
   met_by_lem false x false y h = tt
   met_by_lem false x true true h = tt
-  met_by_lem false true true false h = (l, m, eqb-false t c.hub h)
+  met_by_lem false true true false h = (refl, l, m, eqb-false p.target c.hub h)
   met_by_lem false false true false h = tt
 
-  met_in : (bare : Bool) (q : ℕ) → MetIn c (met_member bare q t c.hub)
-  met_in bare q = met_by_lem (eqb q optional_greedy) bare (eqb q once) (eqb t c.hub) refl
+  met_in : (bare : Bool) (q : ℕ) → MetIn c p.index (met_member bare q p c.hub)
+  met_in bare q = met_by_lem (eqb q optional_greedy) bare (eqb q once) (eqb p.target c.hub) refl
 
 -- A call of a name.
-module _ {names : List ℕ} {name : ℕ} {r : P.Option ℕ} (c : Cycle) (a : IsTarget names c.n name r) (bare : Bool) (q : ℕ) where
+module _ {names : List ℕ} {name : ℕ} {r : P.Option ℕ} (c : Cycle) (a : IsTarget names c.n name r) (i : ℕ) (bare : Bool) (q : ℕ) where
   corner_of : (g : Grammar) (cycle : List ℕ) (hub : ℕ) (d : ℕ) (h : ElementHead) (k : Call) (es : List (Element (Block d))) (o : Option ℕ)
       → target g k.name ≡ o
       → planned_corner g cycle hub (leaf h (call k) ∷ es)
@@ -92,7 +93,7 @@ module _ {names : List ℕ} {name : ℕ} {r : P.Option ℕ} (c : Cycle) (a : IsT
   unfolding planned_corner sort_of
   corner_of g cycle hub d h k es o e = rw (planned_corner, e) refl
 
-  pub call_unknown : r ≡ P.None → CallMet names c name bare q Settled
+  pub call_unknown : r ≡ P.None → CallMet names c i name bare q Settled
   call_unknown e =
       record {
         is = λ g cycle ids b d h k n u v es.
@@ -101,7 +102,7 @@ module _ {names : List ℕ} {name : ℕ} {r : P.Option ℕ} (c : Cycle) (a : IsT
       }
 
   module _ {t : ℕ} (e : r ≡ P.Some t) where
-    pub call_outside : {x : Bool} → x ≡ bit c.members t → x ≡ false → CallMet names c name bare q Settled
+    pub call_outside : {x : Bool} → x ≡ bit c.members t → x ≡ false → CallMet names c i name bare q Settled
     call_outside f x =
         let w = a.rule t e in
         record {
@@ -111,27 +112,28 @@ module _ {names : List ℕ} {name : ℕ} {r : P.Option ℕ} (c : Cycle) (a : IsT
           member = tt;
         }
 
-    pub call_member : {x : Bool} {m : Corner ℕ} → x ≡ bit c.members t → x ≡ true → m ≡ met_member bare q t c.hub → CallMet names c name bare q m
+    pub call_member : {x : Bool} {m : Corner} → x ≡ bit c.members t → x ≡ true
+        → m ≡ met_member bare q (record { index = i; target = t }) c.hub → CallMet names c i name bare q m
     call_member {m = m} f x y =
         let w = a.rule t e in
         record {
           is = λ g cycle ids b d h k n u v es.
               corner_of g cycle (get_or ids c.hub 0) d h k es (some (get_or ids t 0)) (ap (target g) n ∙ b.known name t w)
               ∙ rw (b.members t w.below ∙ sym f ∙ x) (meant g cycle ids b d h k u v es w.below);
-          member = rw y (met_in c w.below (sym f ∙ x) bare q);
+          member = rw y (met_in c (record { index = i; target = t }) w.below (sym f ∙ x) bare q);
         }
       where
         meant : (g : Grammar) (cycle ids : List ℕ) → CycleBy g cycle ids names c → (d : ℕ) (h : ElementHead) (k : Call) → h.quantifier ≡ q
             → bare_reference h k ≡ bare → (es : List (Element (Block d))) → t < c.n
             → member_corner (get_or ids c.hub 0) h k (get_or ids t 0)
-            ≡ corner_by ids (corner_at 0 m)
+            ≡ met_corner_by ids m
         meant g cycle ids b d h k u v es l =
-            let same : met_member (bare_reference h k) h.quantifier t c.hub ≡ m = rw (v, u) (sym y) in
+            let same : met_member (bare_reference h k) h.quantifier (record { index = i; target = t }) c.hub ≡ m = rw (v, u) (sym y) in
             member_tests (get_or ids c.hub 0) h k (get_or ids t 0)
             ∙ rw (b.hub t l)
-            (same_tests ids t (eqb h.quantifier optional_greedy) (bare_reference h k)
-            (is_one h) (eqb t c.hub) (λ i j. let z = eqb-true h.quantifier 1 i in let w = eqb-true h.quantifier 0 j in absurd (omega arith)))
-            ∙ ap (λ z. corner_by ids (corner_at 0 z)) same
+            (same_tests ids (record { index = i; target = t }) (eqb h.quantifier optional_greedy) (bare_reference h k)
+            (is_one h) (eqb t c.hub) (λ o j. let z = eqb-true h.quantifier 1 o in let w = eqb-true h.quantifier 0 j in absurd (omega arith)))
+            ∙ ap (met_corner_by ids) same
 
 pub target_low : {names : List ℕ} {n m : ℕ} {r : P.Option ℕ} → IsTarget names n m r → {i : ℕ} → r ≡ P.Some i → n ≤ rule_limit → i < rule_limit
 target_low a {i} e l = let b = (a.rule i e).below in omega arith
@@ -174,8 +176,8 @@ module _ {ws : List ℕ} {end at p q kind : ℕ} {h : ElementHead} (w : HeadWord
       go (labelled i n) os o = rw (ne_eqb n 0 (λ z. let y = leb-true 1 n (first_so (leb 1 n) _ o) in omega arith)) refl
 
 -- One element of the list.
-module _ {names : List ℕ} {c : Cycle} {ws : List ℕ} {end at k p : ℕ} (d : ℕ) (made : Bool) (head : HeadAt ws end at k p) where
-  pub item_past : call_kind < k → ItemMet names c ws end d at made (P.Some Settled)
+module _ {names : List ℕ} {c : Cycle} {ws : List ℕ} {end index at k p : ℕ} (d : ℕ) (made : Bool) (head : HeadAt ws end at k p) where
+  pub item_past : call_kind < k → ItemMet names c ws end d index at made (P.Some Settled)
   unfolding planned_corner sort_of leaf_kind plain
   item_past l = record { is = λ g cycle ids b e q s es. go g cycle ids es made (opened e s); member = tt }
     where
@@ -197,7 +199,7 @@ module _ {names : List ℕ} {c : Cycle} {ws : List ℕ} {end at k p : ℕ} (d : 
       go g cycle ids es true (opened_block o w u) = refl
       go g cycle ids es false (opened_block o w u) = refl
 
-  pub item_silent : k < call_kind → ItemMet names c ws end d at made P.None
+  pub item_silent : k < call_kind → ItemMet names c ws end d index at made P.None
   unfolding planned_corner sort_of leaf_kind plain
   item_silent l = record { is = λ g cycle ids b e q s es. go g cycle ids es made (opened e s); member = tt }
     where
@@ -218,8 +220,8 @@ module _ {names : List ℕ} {c : Cycle} {ws : List ℕ} {end at k p : ℕ} (d : 
           either b (λ t. rw t (silent g cycle ids es _ x m)) (λ t. rw t (silent g cycle ids es h x m))
       go g cycle ids es b (opened_block o w u) = absurd (let a = w.packed in let z = head.kind_is in omega arith)
 
-  pub item_call : {n m : ℕ} {bare : Bool} {r : Corner ℕ} → k ≡ call_kind → n ≡ get_or ws p 0 → bare ≡ bare_at ws at p
-      → m ≡ quantifier_at ws at made → CallMet names c n bare m r → ItemMet names c ws end d at made (P.Some r)
+  pub item_call : {n m : ℕ} {bare : Bool} {r : Corner} → k ≡ call_kind → n ≡ get_or ws p 0 → bare ≡ bare_at ws at p
+      → m ≡ quantifier_at ws at made → CallMet names c index n bare m r → ItemMet names c ws end d index at made (P.Some r)
   unfolding leaf_kind encode_leaf plain bare_reference
   item_call {n} {r = r} x e eb em v = record { is = λ g cycle ids b t q s es. go g cycle ids b es (opened t s); member = v.member }
     where

@@ -15,9 +15,8 @@ use Rattle.planned.specs.Laws.Shown.{none_left}
 use Rattle.planned.specs.declared.shown.Shown.{Shown}
 use Rattle.words.specs.Sheet.{text}
 use Rattle.std.specs.Prelude.{Option, None, Some}
-use Rattle.steps.specs.Corner.{CycleBy, corner_by, CornerIn, corner_at, met_corner, MetIn, ItemMet, CornerAt}
+use Rattle.steps.specs.Corner.{CycleBy, corner_by, CornerIn, met_corner_by, met_corner, MetIn, ItemMet, CornerAt}
 use Rattle.steps.specs.declared.cycle.Cycle.{Cycle}
-use Rattle.steps.specs.declared.corner.Place.{Place}
 use Rattle.steps.specs.declared.corner.Corner.{Corner}
 use Rattle.steps.specs.declared.corner.Corner.TheVariants.{Settled, Blocked, Optional, Satellite}
 
@@ -47,20 +46,24 @@ shift_satellite zero j t = ap (λ k. satellite k t) (omega arith)
 shift_satellite (suc i) j t = shift_satellite i (suc j) t ∙ ap (λ k. satellite k t) (omega arith)
 
 -- What is met at an element behind i silent ones.
-shift_met : (ids : List ℕ) (i : ℕ) (r : Corner ℕ) → shifted i (corner_by ids (corner_at 0 r)) ≡ corner_by ids (corner_at i r)
-shift_met ids i Settled = shift_settled i
-shift_met ids i Blocked = shift_blocked i
-shift_met ids i (Optional t) = shift_optional i 0 (get_or ids t 0) ∙ ap (λ k. optional k (get_or ids t 0)) (omega arith)
-shift_met ids i (Satellite t) = shift_satellite i 0 (get_or ids t 0) ∙ ap (λ k. satellite k (get_or ids t 0)) (omega arith)
+shift_met : (c : Cycle) (ids : List ℕ) (i : ℕ) (r : Corner) → MetIn c i r → shifted i (met_corner_by ids r) ≡ corner_by ids r
+shift_met c ids i Settled m = shift_settled i
+shift_met c ids i Blocked m = shift_blocked i
+shift_met c ids i (Optional p) m =
+    let e = m.0 in
+    shift_optional i 0 (get_or ids p.target 0) ∙ ap (λ k. optional k (get_or ids p.target 0)) (omega arith)
+shift_met c ids i (Satellite p) m =
+    let e = m.0 in
+    shift_satellite i 0 (get_or ids p.target 0) ∙ ap (λ k. satellite k (get_or ids p.target 0)) (omega arith)
 
 -- It is in range.
-met_within : (c : Cycle) {n i : ℕ} (r : Corner ℕ) → i < n → MetIn c r → CornerIn c n (corner_at i r)
+met_within : (c : Cycle) {n i : ℕ} (r : Corner) → i < n → MetIn c i r → CornerIn c n r
 met_within c Settled l m = tt
 met_within c Blocked l m = tt
-met_within c (Optional t) l m = record { index = l; rule = m.0; member = m.1 }
-met_within c (Satellite t) l m = (record { index = l; rule = m.0; member = m.1 }, m.2)
+met_within c (Optional p) l m = record { index = let e = m.0 in omega arith; rule = m.1; member = m.2 }
+met_within c (Satellite p) l m = (record { index = let e = m.0 in omega arith; rule = m.1; member = m.2 }, m.3)
 
-abbrev CornerOf : List ℕ → Cycle → Shown → Corner Place → Type 0
+abbrev CornerOf : List ℕ → Cycle → Shown → Corner → Type 0
 CornerOf names c a = CornerAt names c (text a.s.now) a.s.now.end inner_depth a.work.now a.x
 
 module _ (names : List ℕ) (c : Cycle) (a : Shown) where
@@ -92,7 +95,7 @@ module _ {names : List ℕ} {c : Cycle} {a : Shown} {i : ℕ} (s : Seeking names
 
   module _ {at : ℕ} {made : Bool} (l : i < a.x.ne) (u : ItemOf a i at made) where
     -- What is met at the element decides.
-    met : {m : Option (Corner ℕ)} → ItemMet names c (text a.s.now) a.s.now.end inner_depth at made m → (g : Grammar) (cycle ids : List ℕ) → CycleBy g cycle ids names c
+    met : {m : Option Corner} → ItemMet names c (text a.s.now) a.s.now.end inner_depth i at made m → (g : Grammar) (cycle ids : List ℕ) → CycleBy g cycle ids names c
         → planned_corner g cycle (get_or ids c.hub 0) (es names c a)
         ≡ shifted i (met_corner ids m (planned_corner g cycle (get_or ids c.hub 0) (drop (i + 1) (es names c a))))
     met m g cycle ids b =
@@ -100,18 +103,17 @@ module _ {names : List ℕ} {c : Cycle} {a : Shown} {i : ℕ} (s : Seeking names
         ∙ ap (λ zs. shifted i (planned_corner g cycle (get_or ids c.hub 0) zs)) (u.here u.found.tree u.found.next u.found.spans)
         ∙ ap (shifted i) (m.is g cycle ids b u.found.tree u.found.next u.found.spans _)
 
-    pub seek_silent : {k : Option (Corner ℕ)} → ItemMet names c (text a.s.now) a.s.now.end inner_depth at made k → k ≡ None
+    pub seek_silent : {k : Option Corner} → ItemMet names c (text a.s.now) a.s.now.end inner_depth i at made k → k ≡ None
         → Seeking names c a (i + 1)
     unfolding shifted
     seek_silent w e =
         let m = rw e at w in
         record { is = λ g cycle ids b. met m g cycle ids b ∙ rw (add-one i) refl; within = omega arith }
 
-    pub seek_met : {k : Option (Corner ℕ)} {r : Corner ℕ} {q : Corner Place} → ItemMet names c (text a.s.now) a.s.now.end inner_depth at made k
-        → k ≡ Some r → q ≡ corner_at i r → CornerOf names c a q
-    seek_met {r = r} w e z =
-        let m : ItemMet names c (text a.s.now) a.s.now.end inner_depth at made (Some r) = rw e at w in
-        rw z
-        (record { is = λ g cycle ids b. met m g cycle ids b ∙ shift_met ids i r; within = met_within c r l m.member })
+    pub seek_met : {k : Option Corner} {r : Corner} → ItemMet names c (text a.s.now) a.s.now.end inner_depth i at made k → k ≡ Some r
+        → CornerOf names c a r
+    seek_met {r = r} w e =
+        let m : ItemMet names c (text a.s.now) a.s.now.end inner_depth i at made (Some r) = rw e at w in
+        record { is = λ g cycle ids b. met m g cycle ids b ∙ shift_met c ids i r m.member; within = met_within c r l m.member }
 
 pub ruleset seeking = (item_found, seek_none, seek_end, seek_silent, seek_met)

@@ -32,12 +32,9 @@ use Rattle.turns.specs.declared.state.State.{State}
 use Rattle.turns.proofs.Laws.Midway.{retold}
 use Rattle.turns.proofs.Laws.Advance.{midway_same}
 use Rattle.turns.proofs.Laws.Replaced.{target_tree}
-use Rattle.turns.proofs.Laws.Stand.{member_place, member_room, member_found}
+use Rattle.turns.proofs.Laws.Stand.{member_room, member_found}
 
 module _ {ws : List ℕ} {end : ℕ} {places : List ℕ} {c : Cycle} (s : RulesStand ws end places c) where
-  pub hub_place : c.hub < length places
-  hub_place = member_place s s.hub
-
   module _ {at : ℕ} (e : at ≡ get_or places c.hub 0) where
     pub hub_stands : FoundRule ws end at
     hub_stands = member_found s s.hub e
@@ -124,4 +121,4 @@ module _ {ws : List ℕ} {end : ℕ} {places : List ℕ} {c : Cycle} (s : RulesS
                 settled = tt;
               }
 
-pub ruleset beginning = (hub_place, hub_stands, hub_room, begun_ready, begun_going)
+pub ruleset beginning = (hub_stands, hub_room, begun_ready, begun_going)

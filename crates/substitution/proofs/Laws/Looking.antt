@@ -43,7 +43,7 @@ use Rattle.turns.specs.declared.turn.Unplanned.TheVariants.{Declined, Overfull}
 use Rattle.substitution.specs.declared.turning.Done.{Done}
 use Rattle.substitution.proofs.Laws.Grown.{stays_beyond}
 use Rattle.turns.proofs.Laws.Replaced.{target_tree, target_spans}
-use Rattle.turns.proofs.Laws.Stand.{member_place, member_room, member_found}
+use Rattle.turns.proofs.Laws.Stand.{member_room, member_found}
 use Rattle.turns.proofs.Laws.Turns.{substituted, substitute_spent, settle_one, substitute_declined, substitute_over}
 
 -- The first that is in need of work ends the substitution.
@@ -119,9 +119,6 @@ pub hub_low : {ws : List ℕ} {end : ℕ} {names places : List ℕ} {c : Cycle} 
 hub_low b = let e = b.count in let l = b.hub in omega arith
 
 module _ {ws : List ℕ} {end : ℕ} {places : List ℕ} {c : Cycle} (s : RulesStand ws end places c) where
-  pub hub_in : c.hub < length places
-  hub_in = member_place s s.hub
-
   module _ {at : ℕ} (e : at ≡ get_or places c.hub 0) where
     pub hub_room : at + 4 ≤ end
     hub_room = member_room s s.hub e
@@ -219,7 +216,7 @@ pub looking_long : {ws : List ℕ} {end : ℕ} {names places : List ℕ} {c : Cy
     → Looking ws end names places c left start n i p bs → work_bytes ≤ length bs
 looking_long g = g.long
 
-pub ruleset hubs = (hub_in, hub_room)
+pub ruleset hubs = (hub_room)
 
 pub ruleset looking = (looking_all, looking_idle, looking_found, looking_ends, looking_more, looking_long)
 

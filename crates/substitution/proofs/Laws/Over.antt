@@ -106,7 +106,7 @@ pub ruleset reaching = (reached_name, reached_place, reached_found, reached_room
 pub ruleset stepping = (step_spent, step_declined, step_goes)
 
 -- The alternative that came into the hand.
-module _ {ws : List ℕ} {end : ℕ} {names : List ℕ} {c : Cycle} {bs : List ℕ} {h : Listed} {r : Corner Place} {p : Place}
+module _ {ws : List ℕ} {end : ℕ} {names : List ℕ} {c : Cycle} {bs : List ℕ} {h : Listed} {r : Corner} {p : Place}
     (w : CornerAt names c ws end inner_depth bs h r) where
   pub reached_optional : r ≡ C.Optional p → Reached c h.ne p true
   reached_optional e =
@@ -115,7 +115,7 @@ module _ {ws : List ℕ} {end : ℕ} {names : List ℕ} {c : Cycle} {bs : List �
   pub reached_satellite : r ≡ C.Satellite p → Reached c h.ne p false
   reached_satellite e = let m = rw e at w.within in record { member = m.0; other = λ o. m.1 }
 
-module _ {ws : List ℕ} {end : ℕ} {names places : List ℕ} {c : Cycle} {left : ℕ} {bs : List ℕ} {h : Listed} {r : Corner Place}
+module _ {ws : List ℕ} {end : ℕ} {names places : List ℕ} {c : Cycle} {left : ℕ} {bs : List ℕ} {h : Listed} {r : Corner}
     (w : CornerAt names c ws end inner_depth bs h r) where
   pub look_settled : r ≡ C.Settled → HandLooked ws end names places c left bs bs h (Ok tt)
   look_settled e = record { is = λ b limits. settled_corner b limits (rw e at w); long = refl }

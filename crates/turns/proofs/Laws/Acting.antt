@@ -53,7 +53,7 @@ module _ {ws : List ℕ} {end : ℕ} {bs : List ℕ} {st : State} {x : Listed} (
       record { alternatives = omega arith; elements = omega arith; options = omega arith }
 
 module _ {ws : List ℕ} {end : ℕ} {places : List ℕ} {c : Cycle} (s : RulesStand ws end places c) {bs : List ℕ} {x : Listed}
-    {k : Corner Place} (o : CornerAt c.names.now c ws end inner_depth bs x k) {p : Place} where
+    {k : Corner} (o : CornerAt c.names.now c ws end inner_depth bs x k) {p : Place} where
   pub optional_called : k ≡ C.Optional p → CalledAt ws end bs c.names.now places x p true
   optional_called e =
       let q = rw e at o in
@@ -83,7 +83,7 @@ module _ {ws : List ℕ} {end : ℕ} {places : List ℕ} {c : Cycle} (s : RulesS
 
 -- By its corner.
 module _ {ws : List ℕ} {end : ℕ} {names places : List ℕ} {c : Cycle} (limits : Limits) {before : List ℕ} {st : State} {x : Listed}
-    {k : Corner Place} (o : CornerAt names c ws end inner_depth before x k) where
+    {k : Corner} (o : CornerAt names c ws end inner_depth before x k) where
   pub act_settled : {after : List ℕ} {next : State} → Shut (With ws end before st x) → k ≡ C.Settled → PutSettled before after st x next
       → ActedOn ws end names places c limits before after st x (Ok next)
   act_settled {next = next} w e p =

@@ -30,6 +30,7 @@ use Rattle.turns.specs.Midway.{Ready, With, HasNext, TakenFrom}
 use Rattle.turns.specs.Midway.{StackTaken, PutSettled, Shut, opened}
 use Rattle.turns.specs.declared.state.State.{State}
 use Rattle.turns.specs.declared.taken.Taken.{Taken}
+use Rattle.turns.specs.declared.taken.Alternative.TheVariants.{Hand, Stack}
 use Rattle.turns.proofs.Laws.Turns.{settle_one}
 
 -- The same list in other words.
@@ -85,8 +86,7 @@ module _ {bs : List ℕ} (st : State) {x : Listed} {rest : Sizes} (k : Took bs s
           movable = k.movable;
         }
 
-  pub stack_taken : {i : false ≡ true → InHand x} {j : false ≡ false → InList x}
-      → StackTaken bs st (record { x = x; hand = false; st = with_list st rest; in_hand = i; in_list = j })
+  pub stack_taken : {i : InList x} → StackTaken bs st (record { x = Stack (record { x = x; in_list = i }); st = with_list st rest })
   unfolding stack_with
   stack_taken =
       record {
@@ -191,8 +191,8 @@ module _ {ws : List ℕ} {end : ℕ} {before after : List ℕ} (st : State) {x :
             (record { alternatives = omega arith; elements = omega arith; options = omega arith });
       }
 
-  pub hub_taken : IsDrained st.l true → {i : true ≡ true → InHand x} {j : true ≡ false → InList x}
-      → TakenFrom ws end before after st (record { x = x; hand = true; st = past; in_hand = i; in_list = j })
+  pub hub_taken : IsDrained st.l true → {i : InHand x}
+      → TakenFrom ws end before after st (record { x = Hand (record { x = x; in_hand = i }); st = past })
   unfolding hub_with as_they_are
   hub_taken k =
       record {

@@ -127,7 +127,7 @@ module _ (g : Grammar) (cycle : List ℕ) (hub : ℕ) where
 -- By places.
 module _ {ws : List ℕ} {end : ℕ} {names places : List ℕ} {c : Cycle} (b : Ground ws end names places c) (limits : Limits)
     {bs : List ℕ} {x : Listed} where
-  corner_is : {r : Corner Place} → CornerAt names c ws end inner_depth bs x r
+  corner_is : {r : Corner} → CornerAt names c ws end inner_depth bs x r
       → planned_corner (task_of b limits).grammar b.cycle (get_or b.rules.ids c.hub 0) (meaning ws end inner_depth bs x).elements
       ≡ corner_by b.rules.ids r
   corner_is k = k.is (task_of b limits).grammar b.cycle b.rules.ids (cycle_by b limits)

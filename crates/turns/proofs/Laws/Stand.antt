@@ -4,19 +4,23 @@ use mathlib.Core.Path.{◌≡◌, refl, sym, ap, ◌∙◌, subst}
 use mathlib.Core.List.{List, [], ◌∷◌, Memᴰ}
 use mathlib.Core.Bool.{true}
 use native.Mathlib.Omega.{arith}
-use lib.ListN.{length, get_or, length-append, length-replicate}
+use lib.ListN.{length, get_or}
 use Rattle.grammar.specs.Numbers.{rule_limit}
 use Rattle.grammar.specs.Tree.{Rule, inner_depth, body_depth}
 use Rattle.grammar.specs.Lists.{AllOf}
 use Rattle.grammar.specs.Parse.{Got, got, bad}
 use Rattle.grammar.specs.Read.{block_at, rule_at}
 use Rattle.grammar.specs.Found.{FoundRule}
-use Rattle.grammar.specs.Laws.Parse.{yields_got}
+use Rattle.grammar.specs.Laws.Parse.{never, yields_got}
 use Rattle.grammar.specs.Laws.Sound.{rule_sound, block_sound}
 use Rattle.grammar.specs.Laws.Complete.{rule_complete, block_complete}
 use Rattle.reference.specs.Plan.{satellite_is_inlinable}
-use Rattle.records.specs.Rules.{row, places_from}
+use Rattle.records.specs.Rules.{places_from}
+use Rattle.records.specs.declared.rules.Rules.{Rules}
+use Rattle.records.specs.Laws.Places.{places_length}
+use Rattle.records.proofs.Laws.Rules.{row_long}
 use Rattle.reach.specs.Rows.{bit}
+use Rattle.analysis.specs.Facts.{Standing}
 use Rattle.analysis.proofs.Laws.Standing.{name_at, place_found, place_room}
 use Rattle.collisions.proofs.Laws.Inlinable.{inlinable_none}
 use Rattle.steps.specs.Decide.{Unreferring}
@@ -34,7 +38,7 @@ module _ (ws : List ℕ) (end at : ℕ) where
   parsed : FoundRule ws end at → answer ≡ bad → ⊥
   parsed f e =
       let g : got f.tree f.next ≡ bad = sym (rule_complete ws end _ _ _ (block_complete ws end body_depth) at f.tree f.next f.spans) ∙ e in
-      absurd (let z : ◌≡◌ {A = ℕ} 0 1 = cc in omega arith)
+      never cc
 
   found : at ≤ end → (answer ≡ bad → ⊥) → FoundRule ws end at
   found l f = go answer refl
@@ -44,10 +48,12 @@ module _ (ws : List ℕ) (end at : ℕ) where
           record { tree = t; next = q; spans = yields_got (rule_sound ws end _ _ _ (block_sound ws end body_depth) at l) e }
       go bad e = absurd (f e)
 
--- Names and places are rows, which are longer than there are rules.
-row_wide : (xs : List ℕ) → rule_limit ≤ length (row xs)
-unfolding row
-row_wide xs = rw (length-append, length-replicate) (omega arith)
+-- The array of places is as long as there may be rules.
+pub places_long : {ws : List ℕ} {end : ℕ} {rules : Rules} → Standing ws end rules → length rules.places ≡ rule_limit
+places_long s =
+    ap length s.rows.rows.places
+    ∙ row_long (places_from 0 s.rows.found.trees)
+    (let m = places_length 0 s.rows.found.trees in let c = s.rows.found.count in let f = s.rows.few in omega arith)
 
 -- What a substitution rests on has it.
 module _ {ws : List ℕ} {end : ℕ} {places : List ℕ} {c : Cycle} (b : Ground ws end c.names.now places c) where
@@ -72,8 +78,8 @@ module _ {ws : List ℕ} {end : ℕ} {places : List ℕ} {c : Cycle} (b : Ground
       record {
         hub = let n = b.count in let h = b.hub in omega arith;
         long =
-            let w = row_wide (places_from 0 b.standing.rows.found.trees) in
-            let p = ap length (sym b.placed ∙ b.standing.rows.rows.places) in
+            let w = places_long b.standing in
+            let p = ap length b.placed in
             let f = b.standing.rows.few in
             let n = b.count in
             omega arith;

@@ -8,7 +8,7 @@ use Rattle.grammar.specs.Tree.{inner_depth}
 use Rattle.reference.specs.Numbers.{most_alternatives}
 use Rattle.planned.specs.Laws.Counts.{alternatives_in_lem}
 use Rattle.turns.specs.Ground.{task_of}
-use Rattle.turns.specs.Midway.{Shut, shut, opened, Ready, With, limits_of, pending_count, TakenFrom}
+use Rattle.turns.specs.Midway.{Shut, shut, opened, Ready, With, limits_of, pending_count, TakenFrom, listed_of}
 use Rattle.turns.specs.Turn.{ActedOn, TurnedTo, turns_left}
 use Rattle.steps.specs.declared.cycle.Cycle.{Cycle}
 use Rattle.turns.specs.declared.limits.Limits.{Limits}
@@ -27,11 +27,11 @@ few_pending {ws} {end} {bs} {st} r =
 
 module _ {ws : List ℕ} {end : ℕ} {before mid : List ℕ} {st : State} {t : Taken} (r : Shut (Ready ws end before st 0 0 0))
     (k : TakenFrom ws end before mid st t) where
-  pub taken_shut : Shut (With ws end mid t.st t.x)
+  pub taken_shut : Shut (With ws end mid t.st (listed_of t.x))
   taken_shut = shut (k.with (opened r))
 
   pub turned : {names places : List ℕ} {c : Cycle} {limits : Limits} {after : List ℕ} {v : Result State Unplanned}
-      → ActedOn ws end names places c limits mid after t.st t.x v → TurnedTo ws end names places c limits before after st v
+      → ActedOn ws end names places c limits mid after t.st (listed_of t.x) v → TurnedTo ws end names places c limits before after st v
   turned {limits = limits} {after} a =
       record {
         ready = a.ready;

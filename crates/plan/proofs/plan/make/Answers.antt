@@ -1,6 +1,7 @@
 use Rattle.std.proofs.Common.{rules, refl, sym, ap, ◌≡◌, ◌∙◌, Some, None, Ok}
 use Rattle.plan.proofs.plan.make.Goals as goal
 use Rattle.analysis.proofs.Laws.Standing.{names_long, told}
+use Rattle.turns.proofs.Laws.Stand.{places_long}
 use Rattle.plan.proofs.Laws.Made.{hub_low, hub_standing, made_laid, made_listed, made_idle, made_planned, made_unplanned, making}
 use Rattle.steps.proofs.Laws.Raised.{raised}
 
@@ -33,6 +34,9 @@ returns c =
 
 pub slice_bounds-c-end : goal.slice_bounds-c-end
 slice_bounds-c-end c = sym (names_long (hub_standing c.requires.hub_known))
+
+pub slice_bounds-substitute-end : goal.slice_bounds-substitute-end
+slice_bounds-substitute-end c = sym (places_long (hub_standing c.requires.hub_known))
 
 pub invariant_of-c : goal.invariant_of-c
 invariant_of-c c = search (rules, making, hub_standing, told)

@@ -14,16 +14,19 @@ step_at-requires-in-Satellite-clause-called_at c = search (rules, acting)
 
 -- src/turn.rt:215:1
 pub returns-in-Settled : goal.returns-in-Settled
-returns-in-Settled c = search (rules, acting)
+returns-in-Settled c =
+    let z = rw c.listed-x.ensures at c.find_corner.ensures in
+    let p = rw c.listed-x.ensures at c.put_settled.ensures in
+    search (rules, acting)
 
 -- src/turn.rt:215:1
 pub returns-in-Blocked : goal.returns-in-Blocked
-returns-in-Blocked c = search (rules, acting)
+returns-in-Blocked c = let z = rw c.listed-x.ensures at c.find_corner.ensures in search (rules, acting)
 
 -- src/turn.rt:215:1
 pub returns-in-Optional : goal.returns-in-Optional
-returns-in-Optional c = search (rules, acting)
+returns-in-Optional c = let z = rw c.listed-x.ensures at c.find_corner.ensures in search (rules, acting)
 
 -- src/turn.rt:215:1
 pub returns-in-Satellite : goal.returns-in-Satellite
-returns-in-Satellite c = search (rules, acting)
+returns-in-Satellite c = let z = rw c.listed-x.ensures at c.find_corner.ensures in search (rules, acting)
