@@ -106,8 +106,8 @@ module _ (ws : List ℕ) (end d : ℕ) where
         meaning (record_at bs a x y) ∷ records_from n (suc a) (x + half bs (head_at a + 2)) (y + half bs (head_at a + 3))
 
     unfoldable pub settled : Sizes → List (Planned d)
-    settled l = records_from l.outa 0 0 0
+    settled l = records_from l.out.a 0 0 0
 
     -- The top comes first.
     unfoldable pub stack : Sizes → List (Planned d)
-    stack l = records_from (most_alternatives - l.topa) l.topa l.tope l.topo
+    stack l = records_from (most_alternatives - l.top.a) l.top.a l.top.e l.top.o

@@ -52,12 +52,14 @@ fn bare(h: Listed) -> Listed
 // One alternative more on the stack, of so many elements and options.
 fn taller(l: Sizes, ne: usize, no: usize) -> Sizes
     requires { HasRoom l 1 ne no }
-    ensures { result ≡ with_top l (l.topa - 1) (l.tope - ne) (l.topo - no) }
+    ensures { result ≡ with_top l (l.top.a - 1) (l.top.e - ne) (l.top.o - no) }
 {
     Sizes {
-        topa: l.topa - 1,
-        tope: l.tope - ne,
-        topo: l.topo - no,
+        top: Cursor {
+            a: l.top.a - 1,
+            e: l.top.e - ne,
+            o: l.top.o - no,
+        },
         ..l
     }
 }
@@ -70,8 +72,8 @@ fn push_absent(work: &mut [u8], l: Sizes, x: Listed, index: usize) -> Sizes
 {
     let ne = x.ne - 1;
     let r = taller(l, ne, x.no);
-    copy_without(work, x.e, r.tope, x.ne, index);
-    finish(work, Listed { ne, ..x }, r.topa, r.topo);
+    copy_without(work, x.e, r.top.e, x.ne, index);
+    finish(work, Listed { ne, ..x }, r.top.a, r.top.o);
     r
 }
 
@@ -92,7 +94,7 @@ fn push_present(work: &mut [u8], l: Sizes, x: Listed, index: usize) -> Sizes
     ensures { PushedPresent work.old work.new l result x index }
 {
     let r = taller(l, x.ne, x.no);
-    write_present(work, x, index, r.topa, r.tope, r.topo);
+    write_present(work, x, index, r.top.a, r.top.e, r.top.o);
     r
 }
 

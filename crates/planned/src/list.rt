@@ -36,12 +36,16 @@ impl Sizes {
         ensures { IsEmpty result }
     {
         Sizes {
-            outa: 0,
-            oute: 0,
-            outo: 0,
-            topa: Sizes::ALTERNATIVES,
-            tope: Sizes::ELEMENTS,
-            topo: Sizes::OPTIONS,
+            out: Cursor {
+                a: 0,
+                e: 0,
+                o: 0,
+            },
+            top: Cursor {
+                a: Sizes::ALTERNATIVES,
+                e: Sizes::ELEMENTS,
+                o: Sizes::OPTIONS,
+            },
         }
     }
 }
@@ -94,20 +98,22 @@ pub struct Top {
 pub fn is_drained(l: Sizes) -> bool
     ensures { IsDrained l result }
 {
-    Sizes::ALTERNATIVES <= l.topa
+    Sizes::ALTERNATIVES <= l.top.a
 }
 
 pub fn take_top(work: &[u8], l: Sizes) -> Top
     requires { Laid work.now l × HasTop l }
     ensures { Took work.now l result.x result.rest }
 {
-    let x = record_at(work, l.topa, l.tope, l.topo);
+    let x = record_at(work, l.top.a, l.top.e, l.top.o);
     Top {
         x,
         rest: Sizes {
-            topa: l.topa + 1,
-            tope: l.tope + x.ne,
-            topo: l.topo + x.no,
+            top: Cursor {
+                a: l.top.a + 1,
+                e: l.top.e + x.ne,
+                o: l.top.o + x.no,
+            },
             ..l
         },
     }
@@ -118,11 +124,13 @@ pub fn settle(work: &mut [u8], l: Sizes, x: Listed) -> Sizes
     requires { Laid work.old l × Located work.old x × Movable l x × HasRoom l 1 x.ne x.no }
     ensures { Settled work.old work.new l result x }
 {
-    write_record(work, x, l.outa, l.oute, l.outo);
+    write_record(work, x, l.out.a, l.out.e, l.out.o);
     Sizes {
-        outa: l.outa + 1,
-        oute: l.oute + x.ne,
-        outo: l.outo + x.no,
+        out: Cursor {
+            a: l.out.a + 1,
+            e: l.out.e + x.ne,
+            o: l.out.o + x.no,
+        },
         ..l
     }
 }

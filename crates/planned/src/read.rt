@@ -45,7 +45,7 @@ pub struct Read {
 
 // Stays: take_top moves an end of the list on and this a position, so that what they could share is the one call of record_at.
 pub fn read_settled(work: &[u8], l: Sizes, c: Cursor) -> Read
-    requires { Laid work.now l × OnTrack work.now l c × (c.a < l.outa) }
+    requires { Laid work.now l × OnTrack work.now l c × (c.a < l.out.a) }
     ensures { ReadNext work.now l c result.x result.next }
 {
     let x = record_at(work, c.a, c.e, c.o);

@@ -70,7 +70,7 @@ pub record FirstOf (ws : List ℕ) (end to : ℕ) (rules : Rules) (past : Bool) 
 abbrev pub search_numbers : ℕ → Result (Option FoundPlan) Refusal → List ℕ
 search_numbers k (Ok None) = 0 ∷ k ∷ 3 ∷ 0 ∷ 0 ∷ 0 ∷ 0 ∷ 0 ∷ []
 search_numbers k (Ok (Some p)) =
-    0 ∷ k ∷ 0 ∷ capped p.plan.hub ∷ 0 ∷ capped p.plan.steps ∷ capped p.plan.l.outa ∷ 0 ∷ []
+    0 ∷ k ∷ 0 ∷ capped p.plan.hub ∷ 0 ∷ capped p.plan.steps ∷ capped p.plan.l.out.a ∷ 0 ∷ []
 search_numbers k (Err e) = 0 ∷ k ∷ 2 ∷ 0 ∷ 0 ∷ 0 ∷ 0 ∷ 0 ∷ []
 
 -- The members of the cycle, and the rules that may go.

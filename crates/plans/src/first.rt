@@ -59,7 +59,7 @@ pub fn tell_search(declined: u32, answer: Result<Option<FoundPlan>, Refusal>) ->
                     capped(p.hub),
                     0,
                     capped(p.steps),
-                    capped(l.outa),
+                    capped(l.out.a),
                     0,
                 ],
                 cycle,

@@ -117,7 +117,7 @@ fn tell_decision(cycles: u32, d: Result<Plan, Unplanned>) -> Told
                     capped(p.hub),
                     0,
                     capped(p.steps),
-                    capped(l.outa),
+                    capped(l.out.a),
                     0,
                 ],
                 row,

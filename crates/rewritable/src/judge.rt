@@ -14,8 +14,8 @@ use crate::items::{may_be_rewritten, starts_with_call};
 use crate::walk::walk_alternative;
 use analysis::known::Known;
 use analysis::ruled::Ruled;
-use planned::list::{Listed, Sizes};
-use planned::read::{Cursor, read_settled};
+use planned::list::{Cursor, Listed, Sizes};
+use planned::read::read_settled;
 use reach::rows::{Row, is_empty, meet, union};
 use words::numbers::Block;
 use words::sheet::Sheet;
@@ -75,7 +75,7 @@ fn judge_list(
     let mut primary = false;
     let mut recursive = false;
     let mut c = Cursor::front();
-    for _ in 0..l.outa {
+    for _ in 0..l.out.a {
         let r = read_settled(work, l, c);
         let a = judge_alternative(s, v, depth, members, hub, work, r.x)?;
         calls = union(calls, a.calls);

@@ -10,8 +10,8 @@ ghost use Rattle.words.specs.Sheet.{text};
 
 use crate::sums::Measure;
 use crate::tally::{Tally, element};
-use planned::list::{Listed, Mark, Sizes};
-use planned::read::{Cursor, item, read_settled};
+use planned::list::{Cursor, Listed, Mark, Sizes};
+use planned::read::{item, read_settled};
 use words::numbers::Block;
 use words::sheet::Sheet;
 
@@ -76,7 +76,7 @@ fn measure_list(s: &Sheet, depth: u32, work: &[u8], l: Sizes) -> Measure
 {
     let mut m = Measure::default();
     let mut c = Cursor::front();
-    for _ in 0..l.outa {
+    for _ in 0..l.out.a {
         let r = read_settled(work, l, c);
         m = m + measure_alternative(s, depth, work, r.x);
         c = r.next;

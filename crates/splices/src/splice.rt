@@ -121,19 +121,21 @@ fn put_all(
     f: Spot,
 ) -> Sizes
     requires bounds { (s.now.end ≤ most_words) × HandIn (text s.now) s.now.end depth h index work.old }
-    requires all_fit { AllFit (text s.now) s.now.end depth h index n f.at work.old f.a f.e f.o l.tope l.topo }
+    requires all_fit { AllFit (text s.now) s.now.end depth h index n f.at work.old f.a f.e f.o l.top.e l.top.o }
     ensures value { result ≡ with_top l f.a f.e f.o }
     ensures all_put { AllPut (text s.now) s.now.end depth h index n f.at work.old work.new
-        f.a f.e f.o l.tope l.topo }
+        f.a f.e f.o l.top.e l.top.o }
 {
     let mut p = f;
     for _ in 0..n {
         p = put_one(s, depth, work, h, index, p);
     }
     Sizes {
-        topa: f.a,
-        tope: f.e,
-        topo: f.o,
+        top: Cursor {
+            a: f.a,
+            e: f.e,
+            o: f.o,
+        },
         ..l
     }
 }
@@ -165,9 +167,9 @@ pub fn push_splice(
 {
     let f = Spot {
         at: at + 4,
-        a: l.topa - z.a,
-        e: l.tope - z.e,
-        o: l.topo - z.o,
+        a: l.top.a - z.a,
+        e: l.top.e - z.e,
+        o: l.top.o - z.o,
     };
     put_all(s, Block::DEPTH, work, l, h, index, z.a, f)
 }

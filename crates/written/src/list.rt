@@ -16,8 +16,7 @@ use crate::items::write_items;
 use copies::pen::{Drawing, Reason, fresh};
 use heads::head::write_head;
 use heads::read::read_here;
-use planned::list::{Listed, Mark, Sizes};
-use planned::read::Cursor;
+use planned::list::{Cursor, Listed, Mark, Sizes};
 use words::numbers::{Block, Sort};
 use words::sheet::Sheet;
 use words::words::word;
@@ -107,7 +106,7 @@ fn write_list(d: &mut Drawing<'_>, s: &Sheet, l: Sizes)
         d.old.trail.now d.new.trail.now d.old.pen d.new.pen }
 {
     let mut c = Cursor::front();
-    for _ in 0..l.outa {
+    for _ in 0..l.out.a {
         let out = &mut *d.out;
         let r = read_here(out, l, c);
         write_one(d, s, r.x);

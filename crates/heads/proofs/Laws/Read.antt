@@ -11,10 +11,10 @@ use Rattle.planned.specs.Laws.Runs.{run_count}
 use Rattle.planned.proofs.Laws.Reading.{settled_room, settled_next}
 use Rattle.planned.specs.declared.list.Sizes.{Sizes}
 use Rattle.planned.specs.declared.list.Listed.{Listed}
-use Rattle.planned.specs.declared.read.Cursor.{Cursor}
+use Rattle.planned.specs.declared.list.Cursor.{Cursor}
 use Rattle.heads.specs.Front.{ReadHere}
 
-module _ {bs : List ℕ} {l : Sizes} {c : Cursor} (laid : Laid bs l) (on : OnTrack bs l c) (more : c.a < l.outa)
+module _ {bs : List ℕ} {l : Sizes} {c : Cursor} (laid : Laid bs l) (on : OnTrack bs l c) (more : c.a < l.out.a)
     {x : Listed} {next : Cursor} (n : ReadNext bs l c x next) where
   abbrev r : Listed
   r = record_at bs c.a c.e c.o
@@ -40,8 +40,8 @@ module _ {bs : List ℕ} {l : Sizes} {c : Cursor} (laid : Laid bs l) (on : OnTra
   unfolding settled_from
   one_on =
       let e = ap length (n.first [] 0 0) in
-      let a = run_count bs [] 0 0 (l.outa - c.a) c.a c.e c.o in
-      let b = run_count bs [] 0 0 (l.outa - next.a) next.a next.e next.o in
+      let a = run_count bs [] 0 0 (l.out.a - c.a) c.a c.e c.o in
+      let b = run_count bs [] 0 0 (l.out.a - next.a) next.a next.e next.o in
       let w = n.on.within in
       omega arith
 

@@ -19,7 +19,7 @@ use Rattle.planned.specs.Laws.Items.{unmarked, is_marked_lem}
 use Rattle.planned.specs.Laws.Ahead.{all_ahead, one_ahead}
 use Rattle.planned.specs.declared.list.Sizes.{Sizes}
 use Rattle.planned.specs.declared.list.Listed.{Listed}
-use Rattle.planned.specs.declared.read.Cursor.{Cursor}
+use Rattle.planned.specs.declared.list.Cursor.{Cursor}
 use Rattle.sizes.specs.Tally.{behind}
 use Rattle.sizes.specs.Sized.{Under, no_size, plus, ElementsSized, most_of, AlternativeSized, Measured}
 use Rattle.sizes.specs.declared.sums.Measure.{Measure}
@@ -127,7 +127,7 @@ most_of_all d ps = most_words * elements_all ps + 2 * options_all ps + 5 * lengt
 module _ (ws : List ℕ) (end d : ℕ) (bs : List ℕ) (l : Sizes) where
   pub record Measuring (i : ℕ) (c : Cursor) (m : Measure) : Type 0 where
     pub on : OnTrack bs l c
-    pub place : l.outa - c.a ≡ l.outa - i
+    pub place : l.out.a - c.a ≡ l.out.a - i
     pub listed : AllIn ws end d bs l
     pub sum : Summing (encode_alternative (encode_block d)) (apply_alternative d) (settled ws end d bs l) (settled_from ws end d bs l c) m
     pub most : ℕ
@@ -152,17 +152,17 @@ module _ (ws : List ℕ) (end d : ℕ) (bs : List ℕ) (l : Sizes) where
       }
 
   module _ {i : ℕ} {c : Cursor} {m : Measure} (g : Measuring i c m) where
-    pub measuring_before : i < l.outa → c.a < l.outa
+    pub measuring_before : i < l.out.a → c.a < l.out.a
     measuring_before h = let z = g.place in omega arith
 
     pub measuring_on : OnTrack bs l c
     measuring_on = g.on
 
-    pub measuring_all : l.outa ≤ i → Measured d (settled ws end d bs l) m
+    pub measuring_all : l.out.a ≤ i → Measured d (settled ws end d bs l) m
     unfolding settled_from records_from
     measuring_all p =
         let none : settled_from ws end d bs l c ≡ [] =
-        ap (λ k. records_from ws end d bs k c.a c.e c.o) (let z = g.place in let y : l.outa - c.a ≡ 0 = omega arith in y) in
+        ap (λ k. records_from ws end d bs k c.a c.e c.o) (let z = g.place in let y : l.out.a - c.a ≡ 0 = omega arith in y) in
         record {
           is = summing_done (encode_alternative (encode_block d)) (apply_alternative d) g.sum none;
           few = let r = g.room in under_more g.few (omega arith);
@@ -186,7 +186,7 @@ module _ (ws : List ℕ) (end d : ℕ) (bs : List ℕ) (l : Sizes) where
         pub measuring_one : Under k (2 ^ 32)
         measuring_one = let r = room_here in under_more s.few (omega arith)
 
-        pub measuring_more : i < l.outa → {r : Measure} → r ≡ plus m k → Measuring (i + 1) next r
+        pub measuring_more : i < l.out.a → {r : Measure} → r ≡ plus m k → Measuring (i + 1) next r
         measuring_more h {r} e =
             record {
               on = n.on;
