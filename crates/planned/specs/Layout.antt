@@ -6,6 +6,7 @@ use Rattle.grammar.specs.Parse.{got, bad}
 use Rattle.grammar.specs.Read.{element_at, block_at}
 use Rattle.reference.specs.Numbers.{most_alternatives, most_elements, most_options}
 use Rattle.reference.specs.Substitute.{Planned, plain}
+use Rattle.planned.specs.declared.list.Cursor.{Cursor}
 use Rattle.planned.specs.declared.list.Sizes.{Sizes}
 use Rattle.planned.specs.declared.list.Listed.{Listed}
 
@@ -61,6 +62,10 @@ record_at bs a x y =
       e = x;
       o = options_at + y;
     }
+
+-- Where an alternative that begins at a place ends.
+abbrev pub past : Cursor → Listed → Cursor
+past c x = record { a = c.a + 1; e = c.e + x.ne; o = c.o + x.no }
 
 module _ (ws : List ℕ) (end d : ℕ) where
   -- The element that stands at a place; what it is where none stands does not matter.

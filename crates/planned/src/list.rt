@@ -1,20 +1,41 @@
 // The two ends of the planned list.
+ghost use Rattle.std.specs.Prelude.{◌≡◌, ◌+◌, ◌<◌, ◌≤◌};
+ghost use Rattle.reference.specs.Numbers.{most_alternatives, most_elements, most_options};
+ghost use Rattle.planned.specs.Layout.{past};
 ghost use Rattle.planned.specs.List.{Laid, HasTop, HasRoom, Located, Movable};
 ghost use Rattle.planned.specs.Moves.{IsEmpty, IsDrained, Took, Settled};
 
 use crate::record::{record_at, write_record};
 
-// Both ends, each of alternatives, elements and options: how many are settled, and where the stack begins.
+// A place in the list: how many alternatives, elements and options are in front of it.
+#[derive(Clone, Copy, Debug, Default, PartialEq, Eq)]
+pub struct Cursor {
+    pub a: usize,
+    pub e: usize,
+    pub o: usize,
+}
+
+impl Cursor {
+    // Where the alternative that begins here ends.
+    pub fn past(self, x: Listed) -> Cursor
+        requires { (self.a < most_alternatives) × (self.e + x.ne ≤ most_elements) × (self.o + x.no ≤ most_options) }
+        ensures { result ≡ past self x }
+    {
+        Cursor {
+            a: self.a + 1,
+            e: self.e + x.ne,
+            o: self.o + x.no,
+        }
+    }
+}
+
+// Both ends: where what is settled ends, and where the stack begins.
 // Stays: that it lies in the work area is a clause, of a list as of one of its alternatives. Other lists share that buffer, and it is
 // written between, so a value that kept the fact would have to borrow the whole of it.
 #[derive(Clone, Copy, Debug, PartialEq, Eq)]
 pub struct Sizes {
-    pub outa: usize,
-    pub oute: usize,
-    pub outo: usize,
-    pub topa: usize,
-    pub tope: usize,
-    pub topo: usize,
+    pub out: Cursor,
+    pub top: Cursor,
 }
 
 impl Sizes {
@@ -36,11 +57,7 @@ impl Sizes {
         ensures { IsEmpty result }
     {
         Sizes {
-            out: Cursor {
-                a: 0,
-                e: 0,
-                o: 0,
-            },
+            out: Cursor::default(),
             top: Cursor {
                 a: Sizes::ALTERNATIVES,
                 e: Sizes::ELEMENTS,
@@ -105,17 +122,11 @@ pub fn take_top(work: &[u8], l: Sizes) -> Top
     requires { Laid work.now l × HasTop l }
     ensures { Took work.now l result.x result.rest }
 {
-    let x = record_at(work, l.top.a, l.top.e, l.top.o);
+    let x = record_at(work, l.top);
+    let top = l.top.past(x);
     Top {
         x,
-        rest: Sizes {
-            top: Cursor {
-                a: l.top.a + 1,
-                e: l.top.e + x.ne,
-                o: l.top.o + x.no,
-            },
-            ..l
-        },
+        rest: Sizes { top, ..l },
     }
 }
 
@@ -124,13 +135,7 @@ pub fn settle(work: &mut [u8], l: Sizes, x: Listed) -> Sizes
     requires { Laid work.old l × Located work.old x × Movable l x × HasRoom l 1 x.ne x.no }
     ensures { Settled work.old work.new l result x }
 {
-    write_record(work, x, l.out.a, l.out.e, l.out.o);
-    Sizes {
-        out: Cursor {
-            a: l.out.a + 1,
-            e: l.out.e + x.ne,
-            o: l.out.o + x.no,
-        },
-        ..l
-    }
+    write_record(work, x, l.out);
+    let out = l.out.past(x);
+    Sizes { out, ..l }
 }

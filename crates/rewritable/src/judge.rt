@@ -74,7 +74,7 @@ fn judge_list(
     let mut calls = [0u64; Row::WORDS];
     let mut primary = false;
     let mut recursive = false;
-    let mut c = Cursor::front();
+    let mut c = Cursor::default();
     for _ in 0..l.out.a {
         let r = read_settled(work, l, c);
         let a = judge_alternative(s, v, depth, members, hub, work, r.x)?;

@@ -75,7 +75,7 @@ fn measure_list(s: &Sheet, depth: u32, work: &[u8], l: Sizes) -> Measure
     ensures { Measured depth (settled (text s.now) s.now.end depth work.now l) result }
 {
     let mut m = Measure::default();
-    let mut c = Cursor::front();
+    let mut c = Cursor::default();
     for _ in 0..l.out.a {
         let r = read_settled(work, l, c);
         m = m + measure_alternative(s, depth, work, r.x);

@@ -105,7 +105,7 @@ fn write_list(d: &mut Drawing<'_>, s: &Sheet, l: Sizes)
     ensures drawn { ListDrawn (text s.now) s.now.end inner_depth d.old.out.now l d.new.out.now
         d.old.trail.now d.new.trail.now d.old.pen d.new.pen }
 {
-    let mut c = Cursor::front();
+    let mut c = Cursor::default();
     for _ in 0..l.out.a {
         let out = &mut *d.out;
         let r = read_here(out, l, c);

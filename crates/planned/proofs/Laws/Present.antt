@@ -142,8 +142,6 @@ module _ {b₀ : List ℕ} {l : Sizes} {x : Listed} (g : Laid b₀ l) (h : InHan
             head = omega arith;
             elements = omega arith;
             options = omega arith;
-            apart_elements = record { apart = λ z. omega arith };
-            apart_options = record { apart = λ z. omega arith };
             behind = omega arith;
           }
 

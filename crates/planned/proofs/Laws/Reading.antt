@@ -9,10 +9,10 @@ use native.Mathlib.Numerals.{add-one}
 use lib.Dec.{leb}
 use borrow.Author.Tests.{leb-true, leb-false}
 use Rattle.reference.specs.Numbers.{most_alternatives, most_elements, most_options}
-use Rattle.planned.specs.Layout.{half, head_at, options_at, record_at, meaning, records_from, settled, stack}
+use Rattle.planned.specs.Layout.{half, head_at, options_at, record_at, past, meaning, records_from, settled, stack}
 use Rattle.planned.specs.List.{elements_of, options_of, Laid, HasTop, Located, ListedIn, AllIn}
 use Rattle.planned.specs.Moves.{IsEmpty, IsDrained, Took}
-use Rattle.planned.specs.Reading.{RecordRoom, RecordIs, settled_from, OnTrack, AtFront, ReadNext}
+use Rattle.planned.specs.Reading.{RecordRoom, RecordIs, settled_from, OnTrack, ReadNext}
 use Rattle.planned.specs.Laws.Runs.{elements_of_append, options_of_append, elements_of_one, options_of_one}
 use Rattle.planned.specs.declared.list.Sizes.{Sizes}
 use Rattle.planned.specs.declared.list.Listed.{Listed}
@@ -87,9 +87,9 @@ module _ {bs : List ℕ} {l : Sizes} {c : Cursor} (laid : Laid bs l) (on : OnTra
       record { long = laid.long; head = omega arith; elements = omega arith; options = omega arith }
 
   module _ {r : Listed} (is : RecordIs bs c.a c.e c.o r) where
-    pub settled_next : ReadNext bs l c r (record { a = c.a + 1; e = c.e + r.ne; o = c.o + r.no })
+    settled_past : ReadNext bs l c r (past c r)
     unfolding settled_from
-    settled_next =
+    settled_past =
         let e = within_elements in
         let o = within_options in
         let m = next_elements in
@@ -102,13 +102,8 @@ module _ {bs : List ℕ} {l : Sizes} {c : Cursor} (laid : Laid bs l) (on : OnTra
           located = record_located is laid;
         }
 
-pub at_front : AtFront (record { a = 0; e = 0; o = 0 })
-unfolding elements_of options_of settled settled_from
-at_front =
-    record {
-      on = λ bs l. record { within = omega arith; elements = refl; options = refl };
-      all = λ ws end d bs l. let e : l.out.a - 0 ≡ l.out.a = omega arith in rw e;
-    }
+    pub settled_next : {next : Cursor} → next ≡ past c r → ReadNext bs l c r next
+    settled_next e = rw e settled_past
 
 -- The stack.
 module _ {bs : List ℕ} {l : Sizes} (laid : Laid bs l) (top : HasTop l) where
@@ -133,13 +128,9 @@ module _ {bs : List ℕ} {l : Sizes} (laid : Laid bs l) (top : HasTop l) where
       record { long = laid.long; head = omega arith; elements = omega arith; options = omega arith }
 
   module _ {r : Listed} (is : RecordIs bs l.top.a l.top.e l.top.o r) where
-    abbrev rest : Sizes
-    rest =
-        record { out = l.out; top = record { a = l.top.a + 1; e = l.top.e + r.ne; o = l.top.o + r.no } }
-
-    pub took : Took bs l r rest
+    took_past : Took bs l r (record { out = l.out; top = past l.top r })
     unfolding settled stack
-    took =
+    took_past =
         let e = top_elements in
         let o = top_options in
         let k : most_alternatives - l.top.a ≡ suc (most_alternatives - (l.top.a + 1)) = omega arith in
@@ -172,6 +163,9 @@ module _ {bs : List ℕ} {l : Sizes} (laid : Laid bs l) (top : HasTop l) where
           fewer = record { alternatives = omega arith; elements = omega arith; options = omega arith };
         }
 
+    pub took : {top : Cursor} → top ≡ past l.top r → Took bs l r (record { out = l.out; top = top })
+    took e = rw e took_past
+
 pub drained : {l : Sizes} {r : Bool} → r ≡ leb most_alternatives l.top.a → IsDrained l r
 unfolding stack records_from
 drained {l} {r} e =
@@ -182,7 +176,9 @@ drained {l} {r} e =
       more = λ t. record { some = leb-false most_alternatives l.top.a (sym e ∙ t) };
     }
 
-pub empty : IsEmpty (record { out = record { a = 0; e = 0; o = 0 }; top = record { a = most_alternatives; e = most_elements; o = most_options } })
+pub empty : IsEmpty (record { out = record { a = 0; e = 0; o = 0 }; top = record {
+  a = most_alternatives; e = most_elements; o = most_options
+} })
 unfolding elements_of options_of settled stack records_from
 empty =
     record {
@@ -211,6 +207,6 @@ empty =
       none = (refl, refl, refl);
     }
 
-pub ruleset reading = (settled_room, settled_next, at_front)
+pub ruleset reading = (settled_room, settled_next)
 
 pub ruleset tops = (top_room, took, drained, empty)

@@ -5,13 +5,14 @@ use mathlib.Core.Logic.{inl, inr, ⊎_elim}
 use mathlib.Core.List.{List, [], ◌∷◌, ◌++◌}
 use native.Mathlib.Omega.{arith}
 use Rattle.std.proofs.lemmas.Bool.{cases_lt}
-use Rattle.planned.specs.Layout.{record_at, meaning, records_from, settled, stack}
+use Rattle.planned.specs.Layout.{record_at, past, meaning, records_from, settled, stack}
 use Rattle.planned.specs.List.{elements_of, options_of, Laid, HasRoom, Movable, ListedIn, AllIn}
 use Rattle.planned.specs.Moves.{SameEnds, Settled}
 use Rattle.planned.specs.Written.{Writable, Wrote}
 use Rattle.planned.specs.Laws.Parts.{meaning_copied, listed_copied}
 use Rattle.planned.specs.Laws.Runs.{elements_of_append, options_of_append, elements_of_one, options_of_one, runs_append}
 use Rattle.planned.specs.Laws.Kept.{kept, record_stands}
+use Rattle.planned.specs.declared.list.Cursor.{Cursor}
 use Rattle.planned.specs.declared.list.Sizes.{Sizes}
 use Rattle.planned.specs.declared.list.Listed.{Listed}
 
@@ -22,15 +23,12 @@ module _ {before : List ℕ} {l : Sizes} {x : Listed} (laid : Laid before l) (ro
         head = omega arith;
         elements = omega arith;
         options = omega arith;
-        apart_elements = record { apart = λ h. omega arith };
-        apart_options = record { apart = λ h. omega arith };
         behind = omega arith;
       }
 
   module _ {after : List ℕ} (w : Wrote before after x l.out.a l.out.e l.out.o) where
     abbrev more : Sizes
-    more =
-        record { out = record { a = l.out.a + 1; e = l.out.e + x.ne; o = l.out.o + x.no }; top = l.top }
+    more = record { out = past l.out x; top = l.top }
 
     same : SameEnds before after l l
     same =
@@ -95,9 +93,9 @@ module _ {before : List ℕ} {l : Sizes} {x : Listed} (laid : Laid before l) (ro
                 (λ t. old.options i n (inr t)) m;
           }
 
-    pub settle_done : Settled before after l more x
+    settle_past : Settled before after l more x
     unfolding stack
-    settle_done =
+    settle_past =
         record {
           laid = more_laid;
           settled_more = more_settled;
@@ -106,5 +104,8 @@ module _ {before : List ℕ} {l : Sizes} {x : Listed} (laid : Laid before l) (ro
           grown = record { alternatives = omega arith; elements = omega arith; options = omega arith };
           long = w.outside.long;
         }
+
+    pub settle_done : {out : Cursor} → out ≡ past l.out x → Settled before after l (record { out = out; top = l.top }) x
+    settle_done e = rw e settle_past
 
 pub ruleset settling = (settle_writable, settle_done)

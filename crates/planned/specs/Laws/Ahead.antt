@@ -1,15 +1,25 @@
 -- How many settled alternatives are ahead of a position.
 use Prim.Native.Nat.{ℕ, ◌+◌, ◌-◌}
-use mathlib.Core.Path.{◌≡◌, ap}
+use mathlib.Core.Path.{◌≡◌, refl, ap}
 use mathlib.Core.List.{List, []}
 use native.Mathlib.Omega.{arith}
 use lib.ListN.{length}
 use Rattle.planned.specs.Layout.{settled}
-use Rattle.planned.specs.Reading.{settled_from, AtFront, ReadNext}
+use Rattle.planned.specs.List.{elements_of, options_of}
+use Rattle.planned.specs.Reading.{settled_from, front, AtFront, ReadNext}
 use Rattle.planned.specs.Laws.Runs.{run_count}
 use Rattle.planned.specs.declared.list.Sizes.{Sizes}
 use Rattle.planned.specs.declared.list.Listed.{Listed}
 use Rattle.planned.specs.declared.list.Cursor.{Cursor}
+
+pub at_front : {c : Cursor} → c ≡ front → AtFront c
+unfolding elements_of options_of settled settled_from
+at_front e =
+    rw e
+    (record {
+      on = λ bs l. record { within = omega arith; elements = refl; options = refl };
+      all = λ ws end d bs l. let k : l.out.a - 0 ≡ l.out.a = omega arith in rw k;
+    })
 
 -- From the front all of them are, and reading one leaves one less.
 pub all_ahead : (bs : List ℕ) (l : Sizes) {c : Cursor} → AtFront c → l.out.a - c.a ≡ l.out.a - 0

@@ -13,10 +13,10 @@ use Rattle.reference.specs.Substitute.{Planned}
 use Rattle.reference.specs.Apply.{fresh_each, past, renumber_element, renumber_elements, renumber_block, placed, apply_alternative, apply_new}
 use Rattle.planned.specs.Layout.{marked, meaning, settled, records_from}
 use Rattle.planned.specs.List.{Laid, Located, ListedIn, AllIn}
-use Rattle.planned.specs.Reading.{settled_from, OnTrack, AtFront, ReadNext}
+use Rattle.planned.specs.Reading.{settled_from, OnTrack, front, ReadNext}
 use Rattle.planned.specs.Laws.Counts.{elements_all, options_all, count_elements, count_options, alternatives_in_lem, elements_in_lem, options_in_lem}
 use Rattle.planned.specs.Laws.Items.{unmarked, is_marked_lem}
-use Rattle.planned.specs.Laws.Ahead.{all_ahead, one_ahead}
+use Rattle.planned.specs.Laws.Ahead.{at_front, all_ahead, one_ahead}
 use Rattle.planned.specs.declared.list.Sizes.{Sizes}
 use Rattle.planned.specs.declared.list.Listed.{Listed}
 use Rattle.planned.specs.declared.list.Cursor.{Cursor}
@@ -134,8 +134,9 @@ module _ (ws : List ℕ) (end d : ℕ) (bs : List ℕ) (l : Sizes) where
     pub few : Under m most
     pub room : most + most_of_all d (settled_from ws end d bs l c) ≤ 2 ^ 27
 
-  pub measuring_none : Laid bs l → AllIn ws end d bs l → {c : Cursor} → AtFront c → {m : Measure} → m ≡ no_size → Measuring 0 c m
-  measuring_none laid a {c} f e =
+  pub measuring_none : Laid bs l → AllIn ws end d bs l → {c : Cursor} → c ≡ front → {m : Measure} → m ≡ no_size → Measuring 0 c m
+  measuring_none laid a {c} k e =
+      let f = at_front k in
       let all = f.all ws end d bs l in
       record {
         on = f.on bs l;

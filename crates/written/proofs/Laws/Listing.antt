@@ -11,8 +11,8 @@ use Rattle.reference.specs.Substitute.{Planned}
 use Rattle.reference.specs.Apply.{fresh_each, apply_alternative}
 use Rattle.planned.specs.Layout.{meaning, records_from}
 use Rattle.planned.specs.List.{Laid, AllIn}
-use Rattle.planned.specs.Reading.{settled_from, OnTrack, AtFront}
-use Rattle.planned.specs.Laws.Ahead.{all_ahead, one_ahead}
+use Rattle.planned.specs.Reading.{settled_from, OnTrack, front}
+use Rattle.planned.specs.Laws.Ahead.{at_front, all_ahead, one_ahead}
 use Rattle.planned.specs.declared.list.Sizes.{Sizes}
 use Rattle.planned.specs.declared.list.Listed.{Listed}
 use Rattle.planned.specs.declared.list.Cursor.{Cursor}
@@ -46,9 +46,10 @@ module _ (ws : List ℕ) (end d : ℕ) (l : Sizes) (b₀ t₀ : List ℕ) (p₀ 
     pub long : length b ≡ length b₀
     pub trail_long : length t ≡ length t₀
 
-  pub list_none : compose_at ≤ p₀.to → Laid b₀ l → AllIn ws end d b₀ l → ListFits ws end d b₀ l t₀ p₀ → {c : Cursor} → AtFront c
+  pub list_none : compose_at ≤ p₀.to → Laid b₀ l → AllIn ws end d b₀ l → ListFits ws end d b₀ l t₀ p₀ → {c : Cursor} → c ≡ front
       → Listing b₀ t₀ 0 c p₀
-  list_none h g a f {c} k =
+  list_none h g a f {c} at =
+      let k = at_front at in
       let e = sym (k.all ws end d b₀ l) in
       record {
         low = h;
