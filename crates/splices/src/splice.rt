@@ -14,7 +14,7 @@ use crate::options::put_options;
 use crate::places::{parts_at, put_places};
 use planned::halves::move_halves;
 use planned::hand::place;
-use planned::list::{Listed, Sizes};
+use planned::list::{Cursor, Listed, Sizes};
 use planned::record::put_head;
 use words::numbers::Block;
 use words::sheet::Sheet;
@@ -45,13 +45,11 @@ fn put_elements(
     r
 }
 
-// The next alternative of the satellite, and where its record comes: which it is, and where its elements and options begin.
+// The next alternative of the satellite, and where its record comes.
 #[derive(Clone, Copy, Debug, PartialEq, Eq)]
 struct Spot {
     at: usize,
-    a: usize,
-    e: usize,
-    o: usize,
+    to: Cursor,
 }
 
 // How many elements a record has, and where its options end; and where the elements end that were taken from the sheet.
@@ -90,22 +88,24 @@ fn put_parts(
 fn put_one(s: &Sheet, depth: u32, work: &mut [u8], h: Listed, index: usize, f: Spot) -> Spot
     requires bounds { (s.now.end ≤ most_words) × HandIn (text s.now) s.now.end depth h index work.old }
     requires found_alternative { FoundAlternative (text s.now) s.now.end depth f.at }
-    requires one_fits { OneFits (text s.now) s.now.end depth h f.at work.old f.a f.e f.o }
-    ensures a_value { result.a ≡ f.a + 1 }
+    requires one_fits { OneFits (text s.now) s.now.end depth h f.at work.old f.to.a f.to.e f.to.o }
+    ensures a_value { result.to.a ≡ f.to.a + 1 }
     ensures one_put { OnePut (text s.now) s.now.end depth h index f.at work.old work.new
-        f.a f.e f.o result.e result.o result.at }
+        f.to.a f.to.e f.to.o result.to.e result.to.o result.at }
 {
-    let to = Sizes::FIRST_OPTION + f.o;
-    let next = f.a + 1;
+    let options = Sizes::FIRST_OPTION + f.to.o;
+    let next = f.to.a + 1;
     let slot = place(h.slot);
-    let r = put_parts(s, depth, work, h, index, f.at, f.e, to);
+    let r = put_parts(s, depth, work, h, index, f.at, f.to.e, options);
     let origin = f.at as u16;
-    put_head(work, f.a, slot, origin, r.ne, r.back - to);
+    put_head(work, f.to.a, slot, origin, r.ne, r.back - options);
     Spot {
         at: r.at,
-        a: next,
-        e: f.e + r.ne,
-        o: r.back - Sizes::FIRST_OPTION,
+        to: Cursor {
+            a: next,
+            e: f.to.e + r.ne,
+            o: r.back - Sizes::FIRST_OPTION,
+        },
     }
 }
 
@@ -121,26 +121,21 @@ fn put_all(
     f: Spot,
 ) -> Sizes
     requires bounds { (s.now.end ≤ most_words) × HandIn (text s.now) s.now.end depth h index work.old }
-    requires all_fit { AllFit (text s.now) s.now.end depth h index n f.at work.old f.a f.e f.o l.top.e l.top.o }
-    ensures value { result ≡ with_top l f.a f.e f.o }
+    requires all_fit { AllFit (text s.now) s.now.end depth h index n f.at work.old f.to.a f.to.e f.to.o l.top.e l.top.o }
+    ensures value { result ≡ with_top l f.to.a f.to.e f.to.o }
     ensures all_put { AllPut (text s.now) s.now.end depth h index n f.at work.old work.new
-        f.a f.e f.o l.top.e l.top.o }
+        f.to.a f.to.e f.to.o l.top.e l.top.o }
 {
     let mut p = f;
     for _ in 0..n {
         p = put_one(s, depth, work, h, index, p);
     }
-    Sizes {
-        top: Cursor {
-            a: f.a,
-            e: f.e,
-            o: f.o,
-        },
-        ..l
-    }
+    Sizes { top: f.to, ..l }
 }
 
 // How many alternatives, elements and options a splice comes to.
+// Stays: no `Cursor`, though that has three numbers by these names too. A size is how much, and is added up and held to limits; a
+// cursor is where, and a size is taken off it.
 #[derive(Clone, Copy, Debug, Default, PartialEq, Eq)]
 pub struct Size {
     pub a: usize,
@@ -167,9 +162,11 @@ pub fn push_splice(
 {
     let f = Spot {
         at: at + 4,
-        a: l.top.a - z.a,
-        e: l.top.e - z.e,
-        o: l.top.o - z.o,
+        to: Cursor {
+            a: l.top.a - z.a,
+            e: l.top.e - z.e,
+            o: l.top.o - z.o,
+        },
     };
     put_all(s, Block::DEPTH, work, l, h, index, z.a, f)
 }
