@@ -42,9 +42,6 @@ pub record OnTrack (bs : List ℕ) (l : Sizes) (c : Cursor) : Type 0 where
   pub options : c.o ≡ options_of bs c.a 0
 
 -- The first one.
-abbrev pub front : Cursor
-front = record { a = 0; e = 0; o = 0 }
-
 pub record AtFront (c : Cursor) : Type 0 where
   pub on : (bs : List ℕ) (l : Sizes) → OnTrack bs l c
   pub all : (ws : List ℕ) (end d : ℕ) (bs : List ℕ) (l : Sizes) → settled_from ws end d bs l c ≡ settled ws end d bs l

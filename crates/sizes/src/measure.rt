@@ -22,14 +22,8 @@ fn measure_element(s: &Sheet, depth: u32, at: usize) -> Measure
     ensures { ElementSized (text s.now) s.now.end depth at result }
 {
     let r = element(s, depth, at, Tally::default());
-    let t = r.tally;
-    // Stays: a `From<Tally>` would write the same fields, for this one caller, and a number of words that is 0 until it is put in here.
     Measure {
-        alternatives: t.alternatives,
-        elements: t.elements,
-        labels: t.labels,
-        actions: t.actions,
-        predicates: t.predicates,
+        tally: r.tally,
         words: r.at - at,
     }
 }
@@ -57,16 +51,14 @@ fn measure_alternative(s: &Sheet, depth: u32, work: &[u8], x: Listed) -> Measure
     let m = measure_elements(s, depth, work, x);
     let words = 5 + 2 * x.no + m.words;
     if x.slot < Mark::BIT {
-        return Measure {
-            alternatives: m.alternatives + 1,
-            words,
-            ..m
+        let tally = Tally {
+            alternatives: m.tally.alternatives + 1,
+            ..m.tally
         };
+        return Measure { tally, words };
     }
-    Measure {
-        words,
-        ..Measure::default()
-    }
+    let tally = Tally::default();
+    Measure { tally, words }
 }
 
 fn measure_list(s: &Sheet, depth: u32, work: &[u8], l: Sizes) -> Measure

@@ -6,20 +6,19 @@ use native.Mathlib.Omega.{arith}
 use lib.ListN.{length}
 use Rattle.planned.specs.Layout.{settled}
 use Rattle.planned.specs.List.{elements_of, options_of}
-use Rattle.planned.specs.Reading.{settled_from, front, AtFront, ReadNext}
+use Rattle.planned.specs.Reading.{settled_from, AtFront, ReadNext}
 use Rattle.planned.specs.Laws.Runs.{run_count}
 use Rattle.planned.specs.declared.list.Sizes.{Sizes}
 use Rattle.planned.specs.declared.list.Listed.{Listed}
 use Rattle.planned.specs.declared.list.Cursor.{Cursor}
 
-pub at_front : {c : Cursor} → c ≡ front → AtFront c
+pub at_front : {c : Cursor} → c.a ≡ 0 → c.e ≡ 0 → c.o ≡ 0 → AtFront c
 unfolding elements_of options_of settled settled_from
-at_front e =
-    rw e
-    (record {
-      on = λ bs l. record { within = omega arith; elements = refl; options = refl };
-      all = λ ws end d bs l. let k : l.out.a - 0 ≡ l.out.a = omega arith in rw k;
-    })
+at_front {c} p q r =
+    record {
+      on = λ bs l. record { within = omega arith; elements = rw (p, q) refl; options = rw (p, r) refl };
+      all = λ ws end d bs l. let k : l.out.a - c.a ≡ l.out.a = omega arith in rw (k, p, q, r) refl;
+    }
 
 -- From the front all of them are, and reading one leaves one less.
 pub all_ahead : (bs : List ℕ) (l : Sizes) {c : Cursor} → AtFront c → l.out.a - c.a ≡ l.out.a - 0

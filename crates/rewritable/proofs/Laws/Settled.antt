@@ -18,7 +18,7 @@ use Rattle.reach.proofs.Laws.Rows.{no_bits}
 use Rattle.analysis.specs.Survey.{View, reading}
 use Rattle.planned.specs.Layout.{meaning, settled, records_from}
 use Rattle.planned.specs.List.{ListedIn, AllIn}
-use Rattle.planned.specs.Reading.{settled_from, OnTrack, front, ReadNext}
+use Rattle.planned.specs.Reading.{settled_from, OnTrack, AtFront, ReadNext}
 use Rattle.planned.specs.Laws.Ahead.{at_front}
 use Rattle.planned.specs.Laws.Runs.{run_count}
 use Rattle.planned.specs.declared.list.Sizes.{Sizes}
@@ -139,9 +139,8 @@ module _ (v : View) (members : List ℕ) (hub : ℕ) (ws : List ℕ) (end d : �
         → Left (reading v.past) w.grammar w.ids v.n cycle (get_or w.ids hub 0) d (settled ws end d bs l)
         (settled_from ws end d bs l c) primary recursive row
 
-  pub judge_none : AllIn ws end d bs l → {c : Cursor} → c ≡ front → Judging 0 c false false (replicate 2 0)
-  judge_none a {c} e =
-      let f = at_front e in
+  pub judge_none : AllIn ws end d bs l → {c : Cursor} → AtFront c → Judging 0 c false false (replicate 2 0)
+  judge_none a {c} f =
       let none : Sizes = record { out = record { a = 0; e = 0; o = 0 }; top = record { a = 0; e = 0; o = 0 } } in
       let w = (f.on bs none).within in
       record {
@@ -192,4 +191,4 @@ module _ (v : View) (members : List ℕ) (hub : ℕ) (ws : List ℕ) (end d : �
             by = λ w cycle m. left_more _ _ _ _ _ _ _ _ (g.by w cycle m) (n.first ws end d) ((y.by w cycle m).fit r refl) u;
           }
 
-pub ruleset judging = (judge_none, judge_on, judge_low, judge_all, judge_listed, judge_stop, judge_more)
+pub ruleset judging = (at_front, judge_none, judge_on, judge_low, judge_all, judge_listed, judge_stop, judge_more)

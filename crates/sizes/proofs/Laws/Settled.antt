@@ -13,33 +13,37 @@ use Rattle.reference.specs.Substitute.{Planned}
 use Rattle.reference.specs.Apply.{fresh_each, past, renumber_element, renumber_elements, renumber_block, placed, apply_alternative, apply_new}
 use Rattle.planned.specs.Layout.{marked, meaning, settled, records_from}
 use Rattle.planned.specs.List.{Laid, Located, ListedIn, AllIn}
-use Rattle.planned.specs.Reading.{settled_from, OnTrack, front, ReadNext}
+use Rattle.planned.specs.Reading.{settled_from, OnTrack, AtFront, ReadNext}
 use Rattle.planned.specs.Laws.Counts.{elements_all, options_all, count_elements, count_options, alternatives_in_lem, elements_in_lem, options_in_lem}
 use Rattle.planned.specs.Laws.Items.{unmarked, is_marked_lem}
 use Rattle.planned.specs.Laws.Ahead.{at_front, all_ahead, one_ahead}
 use Rattle.planned.specs.declared.list.Sizes.{Sizes}
 use Rattle.planned.specs.declared.list.Listed.{Listed}
 use Rattle.planned.specs.declared.list.Cursor.{Cursor}
-use Rattle.sizes.specs.Tally.{behind}
+use Rattle.sizes.specs.Tally.{no_ids, behind}
 use Rattle.sizes.specs.Sized.{Under, no_size, plus, ElementsSized, most_of, AlternativeSized, Measured}
 use Rattle.sizes.specs.declared.sums.Measure.{Measure}
+use Rattle.sizes.specs.declared.tally.Tally.{Tally}
 use Rattle.sizes.proofs.Laws.Renumber.{same_counters}
 use Rattle.sizes.proofs.Laws.Lengths.{words_of, copies_length}
 use Rattle.sizes.proofs.Laws.Sums.{none_is, Summing, summing_all, summing_done, summing_more, under_sum, under_more, under_none}
 
 module _ (d : ℕ) (p : Planned d) {m : Measure} (s : ElementsSized d p.elements m) (w : ℕ)
     (e : w ≡ 5 + 2 * length p.options + m.words) where
+  abbrev one_more : Tally
+  one_more =
+      record {
+        alternatives = m.tally.alternatives + 1;
+        elements = m.tally.elements;
+        labels = m.tally.labels;
+        actions = m.tally.actions;
+        predicates = m.tally.predicates;
+      }
+
   -- A new one: its own id, and its copies.
   new_sized : p.verbatim ≡ false
       → AlternativeSized d p
-      (record {
-        alternatives = m.alternatives + 1;
-        elements = m.elements;
-        labels = m.labels;
-        actions = m.actions;
-        predicates = m.predicates;
-        words = w;
-      })
+      (record { tally = one_more; words = w })
   unfolding apply_alternative renumber_elements behind
   new_sized f =
       let new : (c : Counters) → apply_alternative d p c ≡ apply_new d p c = λ c. rw f refl in
@@ -67,7 +71,7 @@ module _ (d : ℕ) (p : Planned d) {m : Measure} (s : ElementsSized d p.elements
 
   -- One that is as it was: its words alone.
   kept_sized : p.verbatim ≡ true
-      → AlternativeSized d p (record { alternatives = 0; elements = 0; labels = 0; actions = 0; predicates = 0; words = w })
+      → AlternativeSized d p (record { tally = no_ids; words = w })
   unfolding apply_alternative behind
   kept_sized f =
       let kept : (c : Counters) → apply_alternative d p c ≡ record { node = placed d p.origin p.elements p; counters = c; entries = [] } =
@@ -95,11 +99,13 @@ module _ (ws : List ℕ) (end d : ℕ) (bs : List ℕ) (x : Listed) {m : Measure
   pub listed_new : x.slot < marked
       → AlternativeSized d (meaning ws end d bs x)
       (record {
-        alternatives = m.alternatives + 1;
-        elements = m.elements;
-        labels = m.labels;
-        actions = m.actions;
-        predicates = m.predicates;
+        tally = record {
+          alternatives = m.tally.alternatives + 1;
+          elements = m.tally.elements;
+          labels = m.tally.labels;
+          actions = m.tally.actions;
+          predicates = m.tally.predicates;
+        };
         words = 5 + 2 * x.no + m.words;
       })
   unfolding meaning
@@ -107,12 +113,11 @@ module _ (ws : List ℕ) (end d : ℕ) (bs : List ℕ) (x : Listed) {m : Measure
       new_sized d (meaning ws end d bs x) s (5 + 2 * x.no + m.words) (let z = count_options ws end d bs x in omega arith)
       (unmarked h)
 
-  pub listed_kept : marked ≤ x.slot → {a e l c p : ℕ} → a ≡ 0 → e ≡ 0 → l ≡ 0 → c ≡ 0 → p ≡ 0
-      → AlternativeSized d (meaning ws end d bs x)
-      (record { alternatives = a; elements = e; labels = l; actions = c; predicates = p; words = 5 + 2 * x.no + m.words })
+  pub listed_kept : marked ≤ x.slot → {t : Tally} → t ≡ no_ids
+      → AlternativeSized d (meaning ws end d bs x) (record { tally = t; words = 5 + 2 * x.no + m.words })
   unfolding meaning
-  listed_kept h i j k n o =
-      rw (i, j, k, n, o)
+  listed_kept h none =
+      rw none
       (kept_sized d (meaning ws end d bs x) s (5 + 2 * x.no + m.words) (let z = count_options ws end d bs x in omega arith)
       (is_marked_lem h))
 
@@ -134,9 +139,8 @@ module _ (ws : List ℕ) (end d : ℕ) (bs : List ℕ) (l : Sizes) where
     pub few : Under m most
     pub room : most + most_of_all d (settled_from ws end d bs l c) ≤ 2 ^ 27
 
-  pub measuring_none : Laid bs l → AllIn ws end d bs l → {c : Cursor} → c ≡ front → {m : Measure} → m ≡ no_size → Measuring 0 c m
-  measuring_none laid a {c} k e =
-      let f = at_front k in
+  pub measuring_none : Laid bs l → AllIn ws end d bs l → {c : Cursor} → AtFront c → {m : Measure} → m ≡ no_size → Measuring 0 c m
+  measuring_none laid a {c} f e =
       let all = f.all ws end d bs l in
       record {
         on = f.on bs l;
@@ -200,4 +204,4 @@ module _ (ws : List ℕ) (end d : ℕ) (bs : List ℕ) (l : Sizes) where
             }
 
 pub ruleset measuring =
-    (none_is, measuring_none, measuring_before, measuring_on, measuring_all, measuring_under, measuring_listed, measuring_located, measuring_one, measuring_more)
+    (none_is, at_front, measuring_none, measuring_before, measuring_on, measuring_all, measuring_under, measuring_listed, measuring_located, measuring_one, measuring_more)

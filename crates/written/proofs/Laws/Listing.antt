@@ -11,7 +11,7 @@ use Rattle.reference.specs.Substitute.{Planned}
 use Rattle.reference.specs.Apply.{fresh_each, apply_alternative}
 use Rattle.planned.specs.Layout.{meaning, records_from}
 use Rattle.planned.specs.List.{Laid, AllIn}
-use Rattle.planned.specs.Reading.{settled_from, OnTrack, front}
+use Rattle.planned.specs.Reading.{settled_from, OnTrack, AtFront}
 use Rattle.planned.specs.Laws.Ahead.{at_front, all_ahead, one_ahead}
 use Rattle.planned.specs.declared.list.Sizes.{Sizes}
 use Rattle.planned.specs.declared.list.Listed.{Listed}
@@ -46,10 +46,9 @@ module _ (ws : List ℕ) (end d : ℕ) (l : Sizes) (b₀ t₀ : List ℕ) (p₀ 
     pub long : length b ≡ length b₀
     pub trail_long : length t ≡ length t₀
 
-  pub list_none : compose_at ≤ p₀.to → Laid b₀ l → AllIn ws end d b₀ l → ListFits ws end d b₀ l t₀ p₀ → {c : Cursor} → c ≡ front
+  pub list_none : compose_at ≤ p₀.to → Laid b₀ l → AllIn ws end d b₀ l → ListFits ws end d b₀ l t₀ p₀ → {c : Cursor} → AtFront c
       → Listing b₀ t₀ 0 c p₀
-  list_none h g a f {c} at =
-      let k = at_front at in
+  list_none h g a f {c} k =
       let e = sym (k.all ws end d b₀ l) in
       record {
         low = h;
@@ -140,7 +139,7 @@ module _ (ws : List ℕ) (end d : ℕ) (l : Sizes) (b₀ t₀ : List ℕ) (p₀ 
 
 pub ruleset listed = (list_before, list_low, list_laid, list_on, list_long, list_trail, list_readable, list_fits)
 
-pub ruleset listing = (list_none, list_all, list_more, listed)
+pub ruleset listing = (at_front, list_none, list_all, list_more, listed)
 
 -- For blocks that nest as deep as in a rule.
 module _ {ws : List ℕ} {end : ℕ} {b : List ℕ} {l : Sizes} {t : List ℕ} {p : Pen} where
