@@ -20,10 +20,10 @@ fn write_item(d: &mut Drawing<'_>, s: &Sheet, depth: u32, e: Item, fresh: bool)
         d.old.trail.now d.new.trail.now d.old.pen d.new.pen }
 {
     if fresh {
-        d.copy_element(s, depth, e.at, e.plain);
+        d.copy_element(s, depth, e);
         return;
     }
-    d.pen.to = copy_same(s, depth, e.at, e.plain, d.out, d.pen.to);
+    d.pen.to = copy_same(s, depth, e, d.out, d.pen.to);
 }
 
 // All elements of an alternative that is listed.

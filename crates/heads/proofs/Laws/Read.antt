@@ -4,7 +4,7 @@ use mathlib.Core.Path.{◌≡◌, refl, sym, ap, ◌∙◌}
 use mathlib.Core.List.{List, ◌∷◌, []}
 use native.Mathlib.Omega.{arith}
 use lib.ListN.{length}
-use Rattle.planned.specs.Layout.{options_at, record_at, meaning, options_from, elements_from}
+use Rattle.planned.specs.Layout.{options_at, record_at, past, meaning, options_from, elements_from}
 use Rattle.planned.specs.List.{Laid, ListedIn, AllIn, elements_of, options_of}
 use Rattle.planned.specs.Reading.{RecordIs, settled_from, OnTrack, ReadNext}
 use Rattle.planned.specs.Laws.Runs.{run_count}
@@ -33,8 +33,8 @@ module _ {bs : List ℕ} {l : Sizes} {c : Cursor} (laid : Laid bs l) (on : OnTra
         options = m.options;
       }
 
-  by : ReadNext bs l c r (record { a = c.a + 1; e = c.e + r.ne; o = c.o + r.no })
-  by = settled_next laid on more whole
+  by : ReadNext bs l c r (past c r)
+  by = settled_next laid on more whole refl
 
   one_on : next.a ≡ c.a + 1
   unfolding settled_from
