@@ -16,12 +16,12 @@ use words::numbers::Block;
 use words::sheet::Sheet;
 
 // The copy of the element at `at`.
-fn measure_element(s: &Sheet, depth: u32, at: usize) -> Measure
+fn measure_element(s: &Sheet, at: usize) -> Measure
     requires bounds { s.now.end ≤ most_words }
-    requires found_element { FoundElement (text s.now) s.now.end depth at }
-    ensures { ElementSized (text s.now) s.now.end depth at result }
+    requires found_element { FoundElement (text s.now) s.now.end inner_depth at }
+    ensures { ElementSized (text s.now) s.now.end inner_depth at result }
 {
-    let r = element(s, depth, at, Tally::default());
+    let r = element(s, Block::DEPTH, at, Tally::default());
     Measure {
         tally: r.tally,
         words: r.at - at,
@@ -29,26 +29,26 @@ fn measure_element(s: &Sheet, depth: u32, at: usize) -> Measure
 }
 
 // The copies of the elements of an alternative that is listed.
-fn measure_elements(s: &Sheet, depth: u32, work: &[u8], x: Listed) -> Measure
+fn measure_elements(s: &Sheet, work: &[u8], x: Listed) -> Measure
     requires bounds { (s.now.end ≤ most_words) × Located work.now x }
-    requires listed_in { ListedIn (text s.now) s.now.end depth work.now x }
-    ensures { ElementsSized depth (meaning (text s.now) s.now.end depth work.now x).elements result }
+    requires listed_in { ListedIn (text s.now) s.now.end inner_depth work.now x }
+    ensures { ElementsSized inner_depth (meaning (text s.now) s.now.end inner_depth work.now x).elements result }
 {
     let mut m = Measure::default();
     for i in 0..x.ne {
         let e = item(work, x, i);
-        m = m + measure_element(s, depth, e.at);
+        m = m + measure_element(s, e.at);
     }
     m
 }
 
 // An alternative that is listed. One that is still what filled its slot keeps its ids.
-fn measure_alternative(s: &Sheet, depth: u32, work: &[u8], x: Listed) -> Measure
+fn measure_alternative(s: &Sheet, work: &[u8], x: Listed) -> Measure
     requires bounds { (s.now.end ≤ most_words) × Located work.now x }
-    requires listed_in { ListedIn (text s.now) s.now.end depth work.now x }
-    ensures { AlternativeSized depth (meaning (text s.now) s.now.end depth work.now x) result }
+    requires listed_in { ListedIn (text s.now) s.now.end inner_depth work.now x }
+    ensures { AlternativeSized inner_depth (meaning (text s.now) s.now.end inner_depth work.now x) result }
 {
-    let m = measure_elements(s, depth, work, x);
+    let m = measure_elements(s, work, x);
     let words = 5 + 2 * x.no + m.words;
     if x.slot < Mark::BIT {
         let tally = Tally {
@@ -61,26 +61,18 @@ fn measure_alternative(s: &Sheet, depth: u32, work: &[u8], x: Listed) -> Measure
     Measure { tally, words }
 }
 
-fn measure_list(s: &Sheet, depth: u32, work: &[u8], l: Sizes) -> Measure
-    requires bounds { s.now.end ≤ most_words }
-    requires laid { Laid work.now l × AllIn (text s.now) s.now.end depth work.now l }
-    ensures { Measured depth (settled (text s.now) s.now.end depth work.now l) result }
-{
-    let mut m = Measure::default();
-    let mut c = Cursor::default();
-    for _ in 0..l.out.a {
-        let r = read_settled(work, l, c);
-        m = m + measure_alternative(s, depth, work, r.x);
-        c = r.next;
-    }
-    m
-}
-
 // The settled alternatives, for a hub's own body.
 pub fn measure(s: &Sheet, work: &[u8], l: Sizes) -> Measure
     requires bounds { s.now.end ≤ most_words }
     requires laid { Laid work.now l × AllIn (text s.now) s.now.end inner_depth work.now l }
     ensures { Measured inner_depth (settled (text s.now) s.now.end inner_depth work.now l) result }
 {
-    measure_list(s, Block::DEPTH, work, l)
+    let mut m = Measure::default();
+    let mut c = Cursor::default();
+    for _ in 0..l.out.a {
+        let r = read_settled(work, l, c);
+        m = m + measure_alternative(s, work, r.x);
+        c = r.next;
+    }
+    m
 }

@@ -1,5 +1,5 @@
 use Rattle.std.proofs.Common.{rules}
-use Rattle.sizes.proofs.measure.measure_list.Goals as goal
+use Rattle.sizes.proofs.measure.measure.Goals as goal
 use Rattle.sizes.proofs.Laws.Settled.{measuring}
 
 -- src/measure.rt:111:5
