@@ -87,7 +87,7 @@ fn splice_one(s: &Sheet, work: &[u8], quiet: bool, h: Listed, at: usize) -> Resu
     ensures { OneAt (text s.now) s.now.end inner_depth at work.now h quiet result }
 {
     collision(s, work, quiet, at)?;
-    options_added(s, Block::DEPTH, work, h, at).ok_or(Clause::OptionCollision)
+    options_added(s, work, h, at).ok_or(Clause::OptionCollision)
 }
 
 // One alternative more, with so many elements and options.
