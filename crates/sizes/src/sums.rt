@@ -1,7 +1,6 @@
 // Measures, and their sums.
-use std::ops::Add;
-
 use crate::tally::Tally;
+use std::ops::Add;
 
 // How many fresh ids of each sort, and how many words.
 // Stays: how large the numbers may be is a clause, since what is added and what is judged have other bounds.

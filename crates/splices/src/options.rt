@@ -47,14 +47,7 @@ fn meets_among<F: Fn(usize) -> usize>(s: &[u8], n: usize, place: F, name: u32, v
 }
 
 // Against n options listed from half `from` on.
-fn meets_listed(
-    s: &Sheet,
-    work: &[u8],
-    from: usize,
-    n: usize,
-    name: u32,
-    value: u32,
-) -> Meets
+fn meets_listed(s: &Sheet, work: &[u8], from: usize, n: usize, name: u32, value: u32) -> Meets
     requires { OptionsIn (text s.now) s.now.end inner_depth work.now from n }
     ensures { result ≡ meets (options_from (text s.now) s.now.end inner_depth work.now from n)
         (record { name = name; value = value }) }
@@ -112,14 +105,7 @@ pub fn options_added(s: &Sheet, work: &[u8], h: Listed, at: usize) -> Option<usi
 }
 
 // Option j of the alternative at `at` is listed at half `to`, if it is new; returned is where the next one comes.
-fn put_if_new(
-    s: &Sheet,
-    work: &mut [u8],
-    h: Listed,
-    at: usize,
-    j: usize,
-    to: usize,
-) -> usize
+fn put_if_new(s: &Sheet, work: &mut [u8], h: Listed, at: usize, j: usize, to: usize) -> usize
     requires bounds { OptionsIn (text s.now) s.now.end inner_depth work.old h.o h.no }
     requires j_bound { (at + 7 + 2 * j ≤ s.now.end) × (s.now.end ≤ most_words) × (2 * (to + 1) ≤ length work.old) }
     ensures { PutIfNew (meets (options_from (text s.now) s.now.end inner_depth work.old h.o h.no

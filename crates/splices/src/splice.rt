@@ -30,7 +30,8 @@ fn put_elements(
     to: usize,
 ) -> usize
     requires bounds { (s.now.end ≤ most_words) × Located work.old h × (index < h.ne) }
-    requires found_elements { FoundElements (text s.now) s.now.end inner_depth count at × (at ≤ s.now.end) × (to + (h.ne - 1 + count) ≤ h.e) }
+    requires found_elements { FoundElements (text s.now) s.now.end inner_depth count at × (at ≤ s.now.end)
+        × (to + (h.ne - 1 + count) ≤ h.e) }
     ensures { ElementsPut (text s.now) s.now.end inner_depth h index count at work.old work.new to result }
 {
     let next = index + 1;

@@ -176,9 +176,14 @@ drained {l} {r} e =
       more = λ t. record { some = leb-false most_alternatives l.top.a (sym e ∙ t) };
     }
 
-pub empty : IsEmpty (record { out = record { a = 0; e = 0; o = 0 }; top = record {
-  a = most_alternatives; e = most_elements; o = most_options
-} })
+pub empty : IsEmpty (record {
+  out = record { a = 0; e = 0; o = 0 };
+  top = record {
+    a = most_alternatives;
+    e = most_elements;
+    o = most_options;
+  };
+})
 unfolding elements_of options_of settled stack records_from
 empty =
     record {
