@@ -4,7 +4,6 @@ use Rattle.grammar.specs.Tree.{Counters}
 use Rattle.grammar.specs.Numbers.{counter_past_end, result_too_long}
 use Rattle.reference.specs.Numbers.{most_entries}
 use Rattle.reference.specs.Run.{are_words}
-use Rattle.sizes.specs.Sized.{tally_of}
 use Rattle.sizes.specs.Tally.{behind, ids_in}
 use Rattle.sizes.specs.declared.sums.Measure.{Measure}
 use Rattle.words.specs.Refusal.{refusal_number}
@@ -25,11 +24,11 @@ verdict_on c words room entries =
 
 -- By a measure, and the entries recorded already. The hub has an entry of its own.
 unfoldable pub verdict : Counters → Measure → (words room recorded : ℕ) → ℕ
-verdict c m words room recorded = verdict_on (behind c (tally_of m)) words room (recorded + (ids_in (tally_of m) + 1))
+verdict c m words room recorded = verdict_on (behind c m.tally) words room (recorded + (ids_in m.tally + 1))
 
 -- Whether all counters last.
 pub record AllLast (c : Counters) (m : Measure) (r : Bool) : Type 0 where
-  pub is : r ≡ are_words (behind c (tally_of m))
+  pub is : r ≡ are_words (behind c m.tally)
 
 pub record Judged (c : Counters) (m : Measure) (words room recorded : ℕ) (r : Result (Unit {0}) Refusal) : Type 0 where
   pub is : number_in r ≡ verdict c m words room recorded

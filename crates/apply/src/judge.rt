@@ -1,7 +1,7 @@
 // Whether a plan may be applied (SPECIFICATION 4.8, then 4.9): counters, then words and entries.
 ghost use Rattle.std.specs.Prelude.{◌≡◌, ◌+◌, ◌≤◌, ◌^◌, ltb};
 ghost use Rattle.reference.specs.Numbers.{counter_end, most_entries};
-ghost use Rattle.sizes.specs.Sized.{tally_of, Under};
+ghost use Rattle.sizes.specs.Sized.{Under};
 ghost use Rattle.sizes.specs.Tally.{ids_in};
 ghost use Rattle.writing.specs.Taken.{counters_of};
 ghost use Rattle.apply.specs.Judged.{AllLast, Judged};
@@ -36,19 +36,19 @@ fn all_last(c: Counters, m: Measure) -> bool
     requires { Under m (2 ^ 27) }
     ensures { AllLast (counters_of c) m result }
 {
-    lasts(c.alternative, m.alternatives)
-        & lasts(c.element, m.elements)
-        & lasts(c.label, m.labels)
-        & lasts(c.action, m.actions)
-        & lasts(c.predicate, m.predicates)
+    lasts(c.alternative, m.tally.alternatives)
+        & lasts(c.element, m.tally.elements)
+        & lasts(c.label, m.tally.labels)
+        & lasts(c.action, m.tally.actions)
+        & lasts(c.predicate, m.tally.predicates)
 }
 
 // How many fresh ids there are.
 pub fn ids_in(m: Measure) -> usize
     requires { Under m (2 ^ 27) }
-    ensures { result ≡ ids_in (tally_of m) }
+    ensures { result ≡ ids_in m.tally }
 {
-    m.alternatives + m.elements + m.labels + m.actions + m.predicates
+    m.tally.alternatives + m.tally.elements + m.tally.labels + m.tally.actions + m.tally.predicates
 }
 
 // Refusal 8 or 9, or none: of the counters, of the words that the new sheet has and may have, and of the entries recorded already.

@@ -4,7 +4,7 @@ ghost use Rattle.std.specs.Prelude.{◌≡◌, ◌+◌, ◌*◌, ◌%◌, ◌<�
 ghost use Rattle.grammar.specs.Numbers.{most_words, work_bytes};
 ghost use Rattle.collisions.specs.Names.{entries_at, entries_end, most_entries, set_bit, low_in, high_in, count_in};
 ghost use Rattle.collisions.specs.Names.{entry, has_bit, entry_name, has_name, Ordered, NamePut, Cleared};
-ghost use Rattle.collisions.specs.Order.{IsAt, Joined, Raised, Nearer, Insertable, Inserted, InSet};
+ghost use Rattle.collisions.specs.Order.{IsAt, Joined, Nearer, Insertable, Inserted, InSet};
 ghost use Rattle.words.specs.Sheet.{text};
 
 use planned::halves::{half, move_halves, put_half};
@@ -136,14 +136,6 @@ fn entry_at(work: &[u8], i: usize) -> u16
     half(work, lowest(work) + i)
 }
 
-// The halves from one place up to another stand one further behind.
-fn raise(work: &mut [u8], from: usize, to: usize)
-    requires { (from ≤ to) × (2 * to + 2 ≤ length work.old) }
-    ensures { Raised work.old work.new from to }
-{
-    work.copy_within(2 * from..2 * to, 2 * from + 2);
-}
-
 // One entry more behind k others, which come one half further in front; or those behind it go one further behind.
 fn insert_down(work: &mut [u8], low: usize, k: usize, v: u16)
     requires { Insertable work.old k × (low ≡ low_in work.old) × (entries_at < low) }
@@ -158,8 +150,9 @@ fn insert_up(work: &mut [u8], low: usize, high: usize, k: usize, v: u16)
     requires { Insertable work.old k × (low ≡ low_in work.old) × (high ≡ high_in work.old) × (high < entries_end) }
     ensures { Inserted work.old work.new k v }
 {
-    raise(work, low + k, high);
-    put_half(work, low + k, v);
+    let at = low + k;
+    move_halves(work, at, at + 1, high - at);
+    put_half(work, at, v);
     put_half(work, Names::HIGH, (high + 1) as u16);
 }
 

@@ -56,14 +56,14 @@ module _ (ws : List ℕ) (end : ℕ) where
 
     -- The hub at a place has room.
     pub record HubFits (at : ℕ) (t : List ℕ) : Type 0 where
-      pub fits : Space (rule_head at l.outa ++ body_words) (body_entries ++ closing (get_or ws at 0)) new_body.counters bs t p
+      pub fits : Space (rule_head at l.out.a ++ body_words) (body_entries ++ closing (get_or ws at 0)) new_body.counters bs t p
 
     -- Its fixed words and its alternatives are drawn, with their entries; and all of it, with its own.
     pub record BodyDrawn (at : ℕ) (after t t' : List ℕ) (p' : Pen) : Type 0 where
-      pub drawn : Drawn (rule_head at l.outa ++ body_words) body_entries new_body.counters bs after t t' p p'
+      pub drawn : Drawn (rule_head at l.out.a ++ body_words) body_entries new_body.counters bs after t t' p p'
 
     pub record HubDrawn (at : ℕ) (after t t' : List ℕ) (p' : Pen) : Type 0 where
-      pub drawn : Drawn (rule_head at l.outa ++ body_words) (body_entries ++ closing (get_or ws at 0)) new_body.counters bs after t t' p p'
+      pub drawn : Drawn (rule_head at l.out.a ++ body_words) (body_entries ++ closing (get_or ws at 0)) new_body.counters bs after t t' p p'
 
 -- Preserved ids and the trailer behind the rules.
 module _ (ws : List ℕ) (end to : ℕ) where

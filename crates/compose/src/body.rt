@@ -60,7 +60,7 @@ fn write_body(d: &mut Drawing<'_>, s: &Sheet, at: usize, l: Sizes)
     ensures drawn { BodyDrawn (text s.now) s.now.end d.old.out.now l d.old.pen at d.new.out.now
         d.old.trail.now d.new.trail.now d.new.pen }
 {
-    begin_rule(d, s, at, l.outa as u32);
+    begin_rule(d, s, at, l.out.a as u32);
     write_planned(d, s, l);
 }
 

@@ -5,25 +5,26 @@ ghost use Rattle.copies.specs.Copy.{AlternativeFits, AlternativeCopied, Alternat
 ghost use Rattle.words.specs.Sheet.{text};
 
 use crate::pen::Drawing;
+use planned::list::Item;
 use words::numbers::{Kind, Sort};
 use words::sheet::Sheet;
 use words::walk::{alternative_head, element_head, leaf_end};
 use words::words::word;
 
 impl Drawing<'_> {
-    // The element at `at`, made plain or not; returned is where it ends.
+    // An element, made plain or not; returned is where it ends.
     // Stays: this is no visitor of the common walk (words::visit). There, what fits at a place fits at each later one (`VisitorLaws.on`),
     // so it would ask for room for all that is behind. This asks for room for the one tree (`ElementFits`), and may not ask more.
     #[cycle(tree)]
-    pub fn copy_element(&mut self, s: &Sheet, depth: u32, at: usize, plain: bool) -> usize
-        requires element_fits { ElementFits (text s.now) s.now.end depth plain at self.old.out.now self.old.trail.now self.old.pen }
+    pub fn copy_element(&mut self, s: &Sheet, depth: u32, e: Item) -> usize
+        requires element_fits { ElementFits (text s.now) s.now.end depth e.plain e.at self.old.out.now self.old.trail.now self.old.pen }
         ensures same_out { self.old.out.ghost_name ≡ self.new.out.ghost_name }
         ensures same_trail { self.old.trail.ghost_name ≡ self.new.trail.ghost_name }
-        ensures copied { ElementCopied (text s.now) s.now.end depth plain at self.old.out.now self.new.out.now
+        ensures copied { ElementCopied (text s.now) s.now.end depth e.plain e.at self.old.out.now self.new.out.now
             self.old.trail.now self.new.trail.now self.old.pen result self.new.pen }
     {
-        let head = element_head(s, depth, at);
-        self.copy_head(s, at, head.payload, plain);
+        let head = element_head(s, depth, e.at);
+        self.copy_head(s, e, head.payload);
         match head.kind {
             Kind::Block => {
                 let count = word(s.bytes, head.payload);
@@ -31,7 +32,7 @@ impl Drawing<'_> {
                 self.copy_alternatives(s, depth - 1, count, head.payload + 1)
             }
             _ => {
-                let there = leaf_end(s, depth, at, head);
+                let there = leaf_end(s, depth, e.at, head);
                 self.copy_leaf(s, head.kind, head.payload, there);
                 there
             }
@@ -50,7 +51,11 @@ impl Drawing<'_> {
     {
         let mut p = at;
         for _ in 0..n {
-            p = self.copy_element(s, depth, p, false);
+            let e = Item {
+                at: p,
+                plain: false,
+            };
+            p = self.copy_element(s, depth, e);
         }
         p
     }

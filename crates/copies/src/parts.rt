@@ -10,6 +10,7 @@ ghost use Rattle.copies.specs.Heads.{MarkedRoom, BehindRoom, CopiedBehind, Marke
 ghost use Rattle.words.specs.Sheet.{text};
 
 use crate::pen::{Drawing, Given, Pen, Reason, fresh, write_words};
+use planned::list::Item;
 use words::numbers::{Kind, Sort};
 use words::sheet::Sheet;
 use words::words::word;
@@ -74,16 +75,17 @@ fn copy_behind(s: &[u8], at: usize, there: usize, given: Given, out: &mut [u8]) 
 
 impl Drawing<'_> {
     // An element's head, with fresh ids for it and its label.
-    pub fn copy_head(&mut self, s: &Sheet, at: usize, payload: usize, plain: bool)
-        requires { (payload ≤ s.now.end) × HeadRoom (text s.now) at payload self.old.out.now self.old.trail.now self.old.pen }
+    pub fn copy_head(&mut self, s: &Sheet, e: Item, payload: usize)
+        requires { (payload ≤ s.now.end) × HeadRoom (text s.now) e.at payload self.old.out.now self.old.trail.now self.old.pen }
         ensures same_out { self.old.out.ghost_name ≡ self.new.out.ghost_name }
         ensures same_trail { self.old.trail.ghost_name ≡ self.new.trail.ghost_name }
-        ensures copied { HeadCopied (text s.now) s.now.end at payload plain self.old.out.now self.new.out.now
+        ensures copied { HeadCopied (text s.now) s.now.end e.at payload e.plain self.old.out.now self.new.out.now
             self.old.trail.now self.new.trail.now self.old.pen self.new.pen }
     {
         let pen = self.pen;
+        let at = e.at;
         let to = pen.to + (payload - at);
-        let packed = packed(s.bytes, at + 2, plain);
+        let packed = packed(s.bytes, at + 2, e.plain);
         let owner = word(s.bytes, at);
         let given = fresh(self.trail, pen, Sort::Element, Reason::BlockBoundary, owner);
         let first = given.pen;

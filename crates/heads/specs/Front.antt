@@ -5,7 +5,7 @@ use Rattle.planned.specs.List.{InList}
 use Rattle.planned.specs.Reading.{ReadNext}
 use Rattle.planned.specs.declared.list.Sizes.{Sizes}
 use Rattle.planned.specs.declared.list.Listed.{Listed}
-use Rattle.planned.specs.declared.read.Cursor.{Cursor}
+use Rattle.planned.specs.declared.list.Cursor.{Cursor}
 
 -- The word of the work area from which the new sheet is composed. It is behind the list; the hand is free by then.
 abbrev pub compose_at : ℕ

@@ -6,12 +6,12 @@ ghost use Rattle.planned.specs.Reading.{OnTrack};
 ghost use Rattle.heads.specs.Front.{ReadHere};
 
 use planned::halves::half;
-use planned::list::{Listed, Sizes};
-use planned::read::{Cursor, Read, read_settled};
+use planned::list::{Cursor, Listed, Sizes};
+use planned::read::{Read, read_settled};
 
 // The settled alternative at a position, and the next position. Its parts are told by the positions, so that they stand in the list.
 pub fn read_here(work: &[u8], l: Sizes, c: Cursor) -> Read
-    requires { Laid work.now l × OnTrack work.now l c × (c.a < l.outa) }
+    requires { Laid work.now l × OnTrack work.now l c × (c.a < l.out.a) }
     ensures { ReadHere work.now l c result.x result.next }
 {
     let r = read_settled(work, l, c);

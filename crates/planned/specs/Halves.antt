@@ -8,10 +8,6 @@ pub record HalfPut (before after : List ℕ) (at v : ℕ) : Type 0 where
   pub other : (j : ℕ) → (j ≡ at → ⊥) → half after j ≡ half before j
   pub long : length after ≡ length before
 
--- A copy from the front on of n halves reads nothing that it wrote before.
-pub record Apart (from to n : ℕ) : Type 0 where
-  pub apart : from < to → from + n ≤ to
-
 -- n halves are copied.
 pub record HalvesMoved (before after : List ℕ) (from to n : ℕ) : Type 0 where
   pub here : (i : ℕ) → i < n → half after (to + i) ≡ half before (from + i)

@@ -6,6 +6,7 @@ use Rattle.grammar.specs.Parse.{got, bad}
 use Rattle.grammar.specs.Read.{element_at, block_at}
 use Rattle.reference.specs.Numbers.{most_alternatives, most_elements, most_options}
 use Rattle.reference.specs.Substitute.{Planned, plain}
+use Rattle.planned.specs.declared.list.Cursor.{Cursor}
 use Rattle.planned.specs.declared.list.Sizes.{Sizes}
 use Rattle.planned.specs.declared.list.Listed.{Listed}
 
@@ -62,6 +63,10 @@ record_at bs a x y =
       o = options_at + y;
     }
 
+-- Where an alternative that begins at a place ends.
+abbrev pub past : Cursor → Listed → Cursor
+past c x = record { a = c.a + 1; e = c.e + x.ne; o = c.o + x.no }
+
 module _ (ws : List ℕ) (end d : ℕ) where
   -- The element that stands at a place; what it is where none stands does not matter.
   unfoldable pub standing : ℕ → Element (Block d)
@@ -106,8 +111,8 @@ module _ (ws : List ℕ) (end d : ℕ) where
         meaning (record_at bs a x y) ∷ records_from n (suc a) (x + half bs (head_at a + 2)) (y + half bs (head_at a + 3))
 
     unfoldable pub settled : Sizes → List (Planned d)
-    settled l = records_from l.outa 0 0 0
+    settled l = records_from l.out.a 0 0 0
 
     -- The top comes first.
     unfoldable pub stack : Sizes → List (Planned d)
-    stack l = records_from (most_alternatives - l.topa) l.topa l.tope l.topo
+    stack l = records_from (most_alternatives - l.top.a) l.top.a l.top.e l.top.o

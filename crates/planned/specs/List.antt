@@ -10,13 +10,13 @@ use Rattle.planned.specs.declared.list.Listed.{Listed}
 
 -- How many alternatives, elements and options are in the list.
 abbrev pub alternatives_in : Sizes → ℕ
-alternatives_in l = l.outa + (most_alternatives - l.topa)
+alternatives_in l = l.out.a + (most_alternatives - l.top.a)
 
 abbrev pub elements_in : Sizes → ℕ
-elements_in l = l.oute + (most_elements - l.tope)
+elements_in l = l.out.e + (most_elements - l.top.e)
 
 abbrev pub options_in : Sizes → ℕ
-options_in l = l.outo + (most_options - l.topo)
+options_in l = l.out.o + (most_options - l.top.o)
 
 -- As much can still come.
 pub record HasRoom (l : Sizes) (a e o : ℕ) : Type 0 where
@@ -36,20 +36,20 @@ options_of bs (suc n) a = half bs (head_at a + 3) + options_of bs n (suc a)
 -- Both ends stay apart, and the heads speak of what stands there.
 pub record Laid (bs : List ℕ) (l : Sizes) : Type 0 where
   pub long : work_bytes ≤ length bs
-  pub out_a : l.outa ≤ l.topa
-  pub out_e : l.oute ≤ l.tope
-  pub out_o : l.outo ≤ l.topo
-  pub top_a : l.topa ≤ most_alternatives
-  pub top_e : l.tope ≤ most_elements
-  pub top_o : l.topo ≤ most_options
-  pub settled_e : elements_of bs l.outa 0 ≡ l.oute
-  pub settled_o : options_of bs l.outa 0 ≡ l.outo
-  pub stack_e : l.tope + elements_of bs (most_alternatives - l.topa) l.topa ≡ most_elements
-  pub stack_o : l.topo + options_of bs (most_alternatives - l.topa) l.topa ≡ most_options
+  pub out_a : l.out.a ≤ l.top.a
+  pub out_e : l.out.e ≤ l.top.e
+  pub out_o : l.out.o ≤ l.top.o
+  pub top_a : l.top.a ≤ most_alternatives
+  pub top_e : l.top.e ≤ most_elements
+  pub top_o : l.top.o ≤ most_options
+  pub settled_e : elements_of bs l.out.a 0 ≡ l.out.e
+  pub settled_o : options_of bs l.out.a 0 ≡ l.out.o
+  pub stack_e : l.top.e + elements_of bs (most_alternatives - l.top.a) l.top.a ≡ most_elements
+  pub stack_o : l.top.o + options_of bs (most_alternatives - l.top.a) l.top.a ≡ most_options
 
 -- The stack is not empty.
 pub record HasTop (l : Sizes) : Type 0 where
-  pub some : l.topa < most_alternatives
+  pub some : l.top.a < most_alternatives
 
 -- A record whose parts stand in the area of the list.
 pub record Located (bs : List ℕ) (x : Listed) : Type 0 where
@@ -59,8 +59,8 @@ pub record Located (bs : List ℕ) (x : Listed) : Type 0 where
 
 -- It may be put behind what is settled, or into the hand: its parts stand behind both ends' fronts.
 pub record Movable (l : Sizes) (x : Listed) : Type 0 where
-  pub elements : l.oute ≤ x.e
-  pub options : options_at + l.outo ≤ x.o
+  pub elements : l.out.e ≤ x.e
+  pub options : options_at + l.out.o ≤ x.o
   pub few_elements : x.ne ≤ most_elements
   pub few_options : x.no ≤ most_options
 
@@ -98,9 +98,9 @@ module _ (ws : List ℕ) (end d : ℕ) where
 
     -- So it is for all records of the list.
     pub record AllIn (l : Sizes) : Type 0 where
-      pub heads : (a : ℕ) → a < most_alternatives → (a < l.outa) ⊎ (l.topa ≤ a) → HeadIn (half bs (head_at a)) (half bs (head_at a + 1))
-      pub elements : (i : ℕ) → i < most_elements → (i < l.oute) ⊎ (l.tope ≤ i) → ElementIn (half bs i)
-      pub options : (i : ℕ) → i < most_options → (i < l.outo) ⊎ (l.topo ≤ i) → half bs (options_at + i) + 2 ≤ end
+      pub heads : (a : ℕ) → a < most_alternatives → (a < l.out.a) ⊎ (l.top.a ≤ a) → HeadIn (half bs (head_at a)) (half bs (head_at a + 1))
+      pub elements : (i : ℕ) → i < most_elements → (i < l.out.e) ⊎ (l.top.e ≤ i) → ElementIn (half bs i)
+      pub options : (i : ℕ) → i < most_options → (i < l.out.o) ⊎ (l.top.o ≤ i) → half bs (options_at + i) + 2 ≤ end
 
 -- The i-th of several elements stands at a place, and was made plain or not.
 pub record ItemAt (ws : List ℕ) (end d : ℕ) (es : List (Element (Block d))) (i at : ℕ) (made : Bool) : Type 0 where

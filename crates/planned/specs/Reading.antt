@@ -7,7 +7,7 @@ use Rattle.planned.specs.Layout.{half, head_at, options_at, meaning, settled, re
 use Rattle.planned.specs.List.{Located, ListedIn, AllIn, ItemAt, elements_of, options_of}
 use Rattle.planned.specs.declared.list.Sizes.{Sizes}
 use Rattle.planned.specs.declared.list.Listed.{Listed}
-use Rattle.planned.specs.declared.read.Cursor.{Cursor}
+use Rattle.planned.specs.declared.list.Cursor.{Cursor}
 
 -- There is a record whose head is the a-th, with elements and options from two places on.
 pub record RecordRoom (bs : List ℕ) (a x y : ℕ) : Type 0 where
@@ -33,11 +33,11 @@ pub record ItemIs (bs : List ℕ) (x : Listed) (i at : ℕ) (made : Bool) : Type
 
 -- The settled alternatives from a position on.
 unfoldable pub settled_from : (ws : List ℕ) (end d : ℕ) (bs : List ℕ) → Sizes → Cursor → List (Planned d)
-settled_from ws end d bs l c = records_from ws end d bs (l.outa - c.a) c.a c.e c.o
+settled_from ws end d bs l c = records_from ws end d bs (l.out.a - c.a) c.a c.e c.o
 
 -- A position among them.
 pub record OnTrack (bs : List ℕ) (l : Sizes) (c : Cursor) : Type 0 where
-  pub within : c.a ≤ l.outa
+  pub within : c.a ≤ l.out.a
   pub elements : c.e ≡ elements_of bs c.a 0
   pub options : c.o ≡ options_of bs c.a 0
 

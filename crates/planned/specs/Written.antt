@@ -3,7 +3,6 @@ use Rattle.std.specs.Prelude.{ℕ, ◌+◌, ◌-◌, ◌<◌, ◌≤◌, ◌≡�
 use Rattle.grammar.specs.Numbers.{work_bytes}
 use Rattle.reference.specs.Numbers.{most_alternatives, most_elements, most_options}
 use Rattle.planned.specs.Layout.{half, head_at, options_at, hand_at, hand_end}
-use Rattle.planned.specs.Halves.{Apart}
 use Rattle.planned.specs.Laws.Parts.{Copied}
 use Rattle.planned.specs.Laws.Kept.{Outside}
 use Rattle.planned.specs.declared.list.Listed.{Listed}
@@ -37,7 +36,6 @@ pub record Finishable (bs : List ℕ) (ne no from a o : ℕ) : Type 0 where
   pub elements : ne ≤ most_elements
   pub options : o + no ≤ most_options
   pub source : from + no ≤ hand_end
-  pub apart : Apart from (options_at + o) no
 
 -- n halves are copied without the one at an index.
 pub record CopiedWithout (before after : List ℕ) (from to n index : ℕ) : Type 0 where
@@ -47,13 +45,12 @@ pub record CopiedWithout (before after : List ℕ) (from to n index : ℕ) : Typ
   pub behind : (j : ℕ) → to + (n - 1) ≤ j → half after j ≡ half before j
   pub long : length after ≡ length before
 
--- As the a-th record a record may be listed again, with its elements and options from two places on: they stand no further back.
+-- As the a-th record a record may be listed again, with its elements and options from two places on. Its options, which are copied last,
+-- do not stand where its elements come.
 pub record Writable (x : Listed) (a e o : ℕ) : Type 0 where
   pub head : a < most_alternatives
   pub elements : e + x.ne ≤ most_elements
   pub options : o + x.no ≤ most_options
-  pub apart_elements : Apart x.e e x.ne
-  pub apart_options : Apart x.o (options_at + o) x.no
   pub behind : options_at ≤ x.o
 
 -- So it is listed again.

@@ -3,7 +3,7 @@
 // a way to bytes and back and their laws, in place of one line in each function.
 ghost use Rattle.std.specs.Prelude.{◌≡◌, ◌+◌, ◌*◌, ◌<◌, ◌≤◌, length};
 ghost use Rattle.planned.specs.Layout.{half};
-ghost use Rattle.planned.specs.Halves.{HalfPut, Apart, HalvesMoved};
+ghost use Rattle.planned.specs.Halves.{HalfPut, HalvesMoved};
 
 // The half at `at`, counted in halves.
 pub fn half(s: &[u8], at: usize) -> u16
@@ -23,7 +23,7 @@ pub fn put_half(s: &mut [u8], at: usize, v: u16)
 
 // The n halves from `to` on become the n halves that stand from `from` on; no other changes.
 pub fn move_halves(s: &mut [u8], from: usize, to: usize, n: usize)
-    requires { (2 * (from + n) ≤ length s.old) × (2 * (to + n) ≤ length s.old) × Apart from to n }
+    requires { (2 * (from + n) ≤ length s.old) × (2 * (to + n) ≤ length s.old) }
     ensures { HalvesMoved s.old s.new from to n }
 {
     s.copy_within(2 * from..2 * (from + n), 2 * to);

@@ -8,7 +8,7 @@ ghost use Rattle.planned.specs.Laws.Kept.{with_top};
 ghost use Rattle.planned.specs.Split.{MadePlain, WrotePresent, BareOf, PushedAbsent, PushedPresent};
 
 use crate::halves::{half, move_halves, put_half};
-use crate::list::{Hand, Listed, Mark, Sizes};
+use crate::list::{Cursor, Hand, Listed, Mark, Sizes};
 use crate::record::{copy_without, finish, write_record};
 
 // The top just taken comes into the hand.
@@ -52,12 +52,14 @@ fn bare(h: Listed) -> Listed
 // One alternative more on the stack, of so many elements and options.
 fn taller(l: Sizes, ne: usize, no: usize) -> Sizes
     requires { HasRoom l 1 ne no }
-    ensures { result ≡ with_top l (l.topa - 1) (l.tope - ne) (l.topo - no) }
+    ensures { result ≡ with_top l (l.top.a - 1) (l.top.e - ne) (l.top.o - no) }
 {
     Sizes {
-        topa: l.topa - 1,
-        tope: l.tope - ne,
-        topo: l.topo - no,
+        top: Cursor {
+            a: l.top.a - 1,
+            e: l.top.e - ne,
+            o: l.top.o - no,
+        },
         ..l
     }
 }
@@ -70,19 +72,19 @@ fn push_absent(work: &mut [u8], l: Sizes, x: Listed, index: usize) -> Sizes
 {
     let ne = x.ne - 1;
     let r = taller(l, ne, x.no);
-    copy_without(work, x.e, r.tope, x.ne, index);
-    finish(work, Listed { ne, ..x }, r.topa, r.topo);
+    copy_without(work, x.e, r.top.e, x.ne, index);
+    finish(work, Listed { ne, ..x }, r.top);
     r
 }
 
-// A record as the a-th, with the element at an index made plain.
-fn write_present(work: &mut [u8], x: Listed, index: usize, a: usize, e: usize, o: usize)
-    requires { Located work.old x × Writable x a e o × (index < x.ne) }
-    ensures { WrotePresent work.old work.new x index a e o }
+// A record at a place of the list, with the element at an index made plain.
+fn write_present(work: &mut [u8], x: Listed, index: usize, to: Cursor)
+    requires { Located work.old x × Writable x to.a to.e to.o × (index < x.ne) }
+    ensures { WrotePresent work.old work.new x index to.a to.e to.o }
 {
     let v = plain(half(work, x.e + index));
-    write_record(work, x, a, e, o);
-    put_half(work, e + index, v);
+    write_record(work, x, to);
+    put_half(work, to.e + index, v);
 }
 
 // The alternative in hand with the element at an index made plain comes on the stack.
@@ -92,7 +94,7 @@ fn push_present(work: &mut [u8], l: Sizes, x: Listed, index: usize) -> Sizes
     ensures { PushedPresent work.old work.new l result x index }
 {
     let r = taller(l, x.ne, x.no);
-    write_present(work, x, index, r.topa, r.tope, r.topo);
+    write_present(work, x, index, r.top);
     r
 }
 

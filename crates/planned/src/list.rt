@@ -1,21 +1,42 @@
 // The two ends of the planned list.
+ghost use Rattle.std.specs.Prelude.{◌≡◌, ◌+◌, ◌<◌, ◌≤◌};
+ghost use Rattle.reference.specs.Numbers.{most_alternatives, most_elements, most_options};
+ghost use Rattle.planned.specs.Layout.{past};
 ghost use Rattle.planned.specs.List.{Laid, HasTop, HasRoom, Located, Movable};
 ghost use Rattle.planned.specs.Moves.{IsEmpty, IsDrained, Took, Settled};
 
 use crate::record::{record_at, write_record};
 
-// Both ends, each of alternatives, elements and options: how many are settled, and where the stack begins.
+// A place in the list: how many alternatives, elements and options are in front of it.
+#[derive(Clone, Copy, Debug, Default, PartialEq, Eq)]
+pub struct Cursor {
+    pub a: usize,
+    pub e: usize,
+    pub o: usize,
+}
+
+impl Cursor {
+    // Where the alternative that begins here ends.
+    pub fn past(self, x: Listed) -> Cursor
+        requires { (self.a < most_alternatives) × (self.e + x.ne ≤ most_elements) × (self.o + x.no ≤ most_options) }
+        ensures { result ≡ past self x }
+    {
+        Cursor {
+            a: self.a + 1,
+            e: self.e + x.ne,
+            o: self.o + x.no,
+        }
+    }
+}
+
+// Both ends: where what is settled ends, and where the stack begins.
 // Stays: that it lies in the work area is a clause. Other lists share that buffer, and it is written between, so a value that kept the
 // fact would have to borrow the whole of it. `measure` (sizes) and `judge` (rewritable), which only read it, are handed it once each; the
 // second has the sheet in its `Ruled`, and would have to ask that a list with a sheet of its own has the same.
 #[derive(Clone, Copy, Debug, PartialEq, Eq)]
 pub struct Sizes {
-    pub outa: usize,
-    pub oute: usize,
-    pub outo: usize,
-    pub topa: usize,
-    pub tope: usize,
-    pub topo: usize,
+    pub out: Cursor,
+    pub top: Cursor,
 }
 
 impl Sizes {
@@ -37,12 +58,12 @@ impl Sizes {
         ensures { IsEmpty result }
     {
         Sizes {
-            outa: 0,
-            oute: 0,
-            outo: 0,
-            topa: Sizes::ALTERNATIVES,
-            tope: Sizes::ELEMENTS,
-            topo: Sizes::OPTIONS,
+            out: Cursor::default(),
+            top: Cursor {
+                a: Sizes::ALTERNATIVES,
+                e: Sizes::ELEMENTS,
+                o: Sizes::OPTIONS,
+            },
         }
     }
 }
@@ -95,22 +116,18 @@ pub struct Top {
 pub fn is_drained(l: Sizes) -> bool
     ensures { IsDrained l result }
 {
-    Sizes::ALTERNATIVES <= l.topa
+    Sizes::ALTERNATIVES <= l.top.a
 }
 
 pub fn take_top(work: &[u8], l: Sizes) -> Top
     requires { Laid work.now l × HasTop l }
     ensures { Took work.now l result.x result.rest }
 {
-    let x = record_at(work, l.topa, l.tope, l.topo);
+    let x = record_at(work, l.top);
+    let top = l.top.past(x);
     Top {
         x,
-        rest: Sizes {
-            topa: l.topa + 1,
-            tope: l.tope + x.ne,
-            topo: l.topo + x.no,
-            ..l
-        },
+        rest: Sizes { top, ..l },
     }
 }
 
@@ -119,11 +136,7 @@ pub fn settle(work: &mut [u8], l: Sizes, x: Listed) -> Sizes
     requires { Laid work.old l × Located work.old x × Movable l x × HasRoom l 1 x.ne x.no }
     ensures { Settled work.old work.new l result x }
 {
-    write_record(work, x, l.outa, l.oute, l.outo);
-    Sizes {
-        outa: l.outa + 1,
-        oute: l.oute + x.ne,
-        outo: l.outo + x.no,
-        ..l
-    }
+    write_record(work, x, l.out);
+    let out = l.out.past(x);
+    Sizes { out, ..l }
 }

@@ -1,11 +1,11 @@
 // The planned list read: its elements one by one, its settled alternatives from the first on.
 ghost use Rattle.std.specs.Prelude.{◌<◌};
 ghost use Rattle.planned.specs.List.{Laid, Located};
-ghost use Rattle.planned.specs.Reading.{ItemIs, OnTrack, AtFront, ReadNext};
+ghost use Rattle.planned.specs.Reading.{ItemIs, OnTrack, ReadNext};
 
 use crate::halves::half;
 use crate::hand::place;
-use crate::list::{Item, Listed, Mark, Sizes};
+use crate::list::{Cursor, Item, Listed, Mark, Sizes};
 use crate::record::record_at;
 
 // The element at an index of an alternative that is listed.
@@ -20,22 +20,6 @@ pub fn item(work: &[u8], x: Listed, i: usize) -> Item
     }
 }
 
-// A position among the settled alternatives.
-#[derive(Clone, Copy, Debug, Default, PartialEq, Eq)]
-pub struct Cursor {
-    pub a: usize,
-    pub e: usize,
-    pub o: usize,
-}
-
-impl Cursor {
-    pub fn front() -> Cursor
-        ensures { AtFront result }
-    {
-        Cursor::default()
-    }
-}
-
 // The settled alternative at a position, and the next position.
 #[derive(Clone, Copy, Debug, PartialEq, Eq)]
 pub struct Read {
@@ -43,18 +27,11 @@ pub struct Read {
     pub next: Cursor,
 }
 
-// Stays: take_top moves an end of the list on and this a position, so that what they could share is the one call of record_at.
 pub fn read_settled(work: &[u8], l: Sizes, c: Cursor) -> Read
-    requires { Laid work.now l × OnTrack work.now l c × (c.a < l.outa) }
+    requires { Laid work.now l × OnTrack work.now l c × (c.a < l.out.a) }
     ensures { ReadNext work.now l c result.x result.next }
 {
-    let x = record_at(work, c.a, c.e, c.o);
-    Read {
-        x,
-        next: Cursor {
-            a: c.a + 1,
-            e: c.e + x.ne,
-            o: c.o + x.no,
-        },
-    }
+    let x = record_at(work, c);
+    let next = c.past(x);
+    Read { x, next }
 }

@@ -7,23 +7,21 @@ ghost use Rattle.planned.specs.Reading.{RecordRoom, RecordIs};
 ghost use Rattle.planned.specs.Written.{HeadPut, Finishable, Finished, CopiedWithout, Writable, Wrote};
 
 use crate::halves::{half, move_halves, put_half};
-use crate::list::{Listed, Sizes};
+use crate::list::{Cursor, Listed, Sizes};
 
-// The record whose head is the a-th, with its elements and options from two places on.
-// Stays: where a record comes is three numbers. `read_settled` has them as a `Cursor`; `take_top`, `settle` and the splits have them as
-// an end of a list, three of the six fields of `Sizes`, out of which each would make a value for this one call.
-pub fn record_at(work: &[u8], a: usize, e: usize, o: usize) -> Listed
-    requires { RecordRoom work.now a e o }
-    ensures { RecordIs work.now a e o result }
+// The record that begins at a place of the list.
+pub fn record_at(work: &[u8], c: Cursor) -> Listed
+    requires { RecordRoom work.now c.a c.e c.o }
+    ensures { RecordIs work.now c.a c.e c.o result }
 {
-    let i = Sizes::HEADS + Sizes::HEAD * a;
+    let i = Sizes::HEADS + Sizes::HEAD * c.a;
     Listed {
         slot: half(work, i),
         origin: half(work, i + 1),
         ne: usize::from(half(work, i + 2)),
         no: usize::from(half(work, i + 3)),
-        e,
-        o: Sizes::FIRST_OPTION + o,
+        e: c.e,
+        o: Sizes::FIRST_OPTION + c.o,
     }
 }
 
@@ -39,13 +37,14 @@ pub fn put_head(work: &mut [u8], a: usize, slot: u16, origin: u16, ne: usize, no
     put_half(work, i + 3, no as u16);
 }
 
-// Options and head of a record as the a-th, behind its elements: its options, which stand from `x.o` on, come from `o` on.
-pub fn finish(work: &mut [u8], x: Listed, a: usize, o: usize)
-    requires { Finishable work.old x.ne x.no x.o a o }
-    ensures { Finished work.old work.new x.slot x.origin x.ne x.no x.o a o }
+// Options and head of a record at a place of the list, whose elements are there already: where they were, `x.e`, is not read, so
+// `x.ne` may be how many have come.
+pub fn finish(work: &mut [u8], x: Listed, to: Cursor)
+    requires { Finishable work.old x.ne x.no x.o to.a to.o }
+    ensures { Finished work.old work.new x.slot x.origin x.ne x.no x.o to.a to.o }
 {
-    move_halves(work, x.o, Sizes::FIRST_OPTION + o, x.no);
-    put_head(work, a, x.slot, x.origin, x.ne, x.no);
+    move_halves(work, x.o, Sizes::FIRST_OPTION + to.o, x.no);
+    put_head(work, to.a, x.slot, x.origin, x.ne, x.no);
 }
 
 // n halves, further in front, without the one at an index.
@@ -58,11 +57,11 @@ pub fn copy_without(work: &mut [u8], from: usize, to: usize, n: usize, index: us
     move_halves(work, from + next, to + index, n - next);
 }
 
-// The same record as the a-th, with its elements and options from two places on.
-pub fn write_record(work: &mut [u8], x: Listed, a: usize, e: usize, o: usize)
-    requires { Located work.old x × Writable x a e o }
-    ensures { Wrote work.old work.new x a e o }
+// The same record at a place of the list.
+pub fn write_record(work: &mut [u8], x: Listed, to: Cursor)
+    requires { Located work.old x × Writable x to.a to.e to.o }
+    ensures { Wrote work.old work.new x to.a to.e to.o }
 {
-    move_halves(work, x.e, e, x.ne);
-    finish(work, x, a, o);
+    move_halves(work, x.e, to.e, x.ne);
+    finish(work, x, to);
 }

@@ -57,7 +57,7 @@ ending_number E.NoCycle = 3
 -- In numbers: no refusal, so many cycles, how the decision ends; of a plan the hub's place, steps and alternatives, of a decline
 -- its clause.
 abbrev pub decision_numbers : ℕ → Result Plan Unplanned → List ℕ
-decision_numbers k (Ok p) = 0 ∷ k ∷ ending_number E.Planned ∷ capped p.hub ∷ 0 ∷ capped p.steps ∷ capped p.l.outa ∷ 0 ∷ []
+decision_numbers k (Ok p) = 0 ∷ k ∷ ending_number E.Planned ∷ capped p.hub ∷ 0 ∷ capped p.steps ∷ capped p.l.out.a ∷ 0 ∷ []
 decision_numbers k (Err (Declined c)) = 0 ∷ k ∷ ending_number E.Declined ∷ 0 ∷ clause_number (clause_of c) ∷ 0 ∷ 0 ∷ 0 ∷ []
 decision_numbers k (Err Overfull) = 0 ∷ k ∷ ending_number E.TooLarge ∷ 0 ∷ 0 ∷ 0 ∷ 0 ∷ 0 ∷ []
 

@@ -77,7 +77,7 @@ pub fn tell(cycles: u32, choice: Option<Result<Plan, Unplanned>>) -> Told
                     capped(p.hub),
                     0,
                     capped(p.steps),
-                    capped(l.outa),
+                    capped(l.out.a),
                     0,
                 ],
                 row,

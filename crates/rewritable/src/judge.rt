@@ -15,8 +15,8 @@ use crate::items::{may_be_rewritten, starts_with_call};
 use crate::walk::walk_alternative;
 use analysis::known::Known;
 use analysis::ruled::Ruled;
-use planned::list::Sizes;
-use planned::read::{Cursor, read_settled};
+use planned::list::{Cursor, Sizes};
+use planned::read::read_settled;
 use planned::shown::Shown;
 use reach::rows::{Row, is_empty, meet, union};
 use words::sheet::Sheet;
@@ -64,8 +64,8 @@ fn judge_list(
     let mut calls = [0u64; Row::WORDS];
     let mut primary = false;
     let mut recursive = false;
-    let mut c = Cursor::front();
-    for _ in 0..l.outa {
+    let mut c = Cursor::default();
+    for _ in 0..l.out.a {
         let r = read_settled(work, l, c);
         let a = judge_alternative(&Shown { s, work, x: r.x }, v, members, hub)?;
         calls = union(calls, a.calls);

@@ -8,49 +8,39 @@ use Rattle.grammar.specs.Found.{ElementSpans}
 use Rattle.reference.specs.Substitute.{Planned}
 use Rattle.reference.specs.Apply.{Fresh, fresh_each, renumber_element, renumber_block, apply_alternative}
 use Rattle.planned.specs.Layout.{made_if}
-use Rattle.sizes.specs.Tally.{ids_in, behind}
-use Rattle.sizes.specs.declared.tally.Tally.{Tally}
+use Rattle.sizes.specs.Tally.{ids_in, no_ids, behind}
 use Rattle.sizes.specs.declared.sums.Measure.{Measure}
-
--- The fresh ids of a measure.
-abbrev pub tally_of : Measure → Tally
-tally_of m =
-    record {
-      alternatives = m.alternatives;
-      elements = m.elements;
-      labels = m.labels;
-      actions = m.actions;
-      predicates = m.predicates;
-    }
 
 -- What is made with fresh ids is so large, whatever the counters are. Each fresh id has an entry.
 pub record Sized {A : Type 0} (enc : A → List ℕ) (make : Counters → Fresh A) (m : Measure) : Type 0 where
-  pub counters : (c : Counters) → (make c).counters ≡ behind c (tally_of m)
-  pub entries : (c : Counters) → length (make c).entries ≡ ids_in (tally_of m)
+  pub counters : (c : Counters) → (make c).counters ≡ behind c m.tally
+  pub entries : (c : Counters) → length (make c).entries ≡ ids_in m.tally
   pub words : (c : Counters) → length (enc (make c).node) ≡ m.words
 
 -- None of the six is above a number.
 pub record Under (m : Measure) (k : ℕ) : Type 0 where
-  pub alternatives : m.alternatives ≤ k
-  pub elements : m.elements ≤ k
-  pub labels : m.labels ≤ k
-  pub actions : m.actions ≤ k
-  pub predicates : m.predicates ≤ k
+  pub alternatives : m.tally.alternatives ≤ k
+  pub elements : m.tally.elements ≤ k
+  pub labels : m.tally.labels ≤ k
+  pub actions : m.tally.actions ≤ k
+  pub predicates : m.tally.predicates ≤ k
   pub words : m.words ≤ k
 
 -- Of no items.
 abbrev pub no_size : Measure
-no_size = record { alternatives = 0; elements = 0; labels = 0; actions = 0; predicates = 0; words = 0 }
+no_size = record { tally = no_ids; words = 0 }
 
 -- Of items one after the other.
 unfoldable pub plus : Measure → Measure → Measure
 plus m n =
     record {
-      alternatives = m.alternatives + n.alternatives;
-      elements = m.elements + n.elements;
-      labels = m.labels + n.labels;
-      actions = m.actions + n.actions;
-      predicates = m.predicates + n.predicates;
+      tally = record {
+        alternatives = m.tally.alternatives + n.tally.alternatives;
+        elements = m.tally.elements + n.tally.elements;
+        labels = m.tally.labels + n.tally.labels;
+        actions = m.tally.actions + n.tally.actions;
+        predicates = m.tally.predicates + n.tally.predicates;
+      };
       words = m.words + n.words;
     }
 

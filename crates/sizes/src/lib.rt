@@ -3,4 +3,4 @@
 
 pub mod measure;
 pub mod sums;
-mod tally;
+pub mod tally;

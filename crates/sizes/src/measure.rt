@@ -11,8 +11,8 @@ ghost use Rattle.words.specs.Sheet.{text};
 
 use crate::sums::Measure;
 use crate::tally::{Tally, element};
-use planned::list::{Mark, Sizes};
-use planned::read::{Cursor, read_settled};
+use planned::list::{Cursor, Mark, Sizes};
+use planned::read::read_settled;
 use planned::shown::Shown;
 use words::numbers::Block;
 use words::sheet::Sheet;
@@ -24,14 +24,8 @@ fn measure_element(s: &Sheet, at: usize) -> Measure
     ensures { ElementSized (text s.now) s.now.end inner_depth at result }
 {
     let r = element(s, Block::DEPTH, at, Tally::default());
-    let t = r.tally;
-    // Stays: a `From<Tally>` would write the same fields, for this one caller, and a number of words that is 0 until it is put in here.
     Measure {
-        alternatives: t.alternatives,
-        elements: t.elements,
-        labels: t.labels,
-        actions: t.actions,
-        predicates: t.predicates,
+        tally: r.tally,
         words: r.at - at,
     }
 }
@@ -56,16 +50,14 @@ fn measure_alternative(a: &Shown) -> Measure
     let m = measure_elements(a);
     let words = 5 + 2 * a.x.no + m.words;
     if a.x.slot < Mark::BIT {
-        return Measure {
-            alternatives: m.alternatives + 1,
-            words,
-            ..m
+        let tally = Tally {
+            alternatives: m.tally.alternatives + 1,
+            ..m.tally
         };
+        return Measure { tally, words };
     }
-    Measure {
-        words,
-        ..Measure::default()
-    }
+    let tally = Tally::default();
+    Measure { tally, words }
 }
 
 // The settled alternatives, for a hub's own body.
@@ -75,8 +67,8 @@ pub fn measure(s: &Sheet, work: &[u8], l: Sizes) -> Measure
     ensures { Measured inner_depth (settled (text s.now) s.now.end inner_depth work.now l) result }
 {
     let mut m = Measure::default();
-    let mut c = Cursor::front();
-    for _ in 0..l.outa {
+    let mut c = Cursor::default();
+    for _ in 0..l.out.a {
         let r = read_settled(work, l, c);
         m = m + measure_alternative(&Shown { s, work, x: r.x });
         c = r.next;

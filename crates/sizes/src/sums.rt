@@ -1,4 +1,5 @@
 // Measures, and their sums.
+use crate::tally::Tally;
 use std::ops::Add;
 
 // How many fresh ids of each sort, and how many words.
@@ -6,11 +7,7 @@ use std::ops::Add;
 // is added and what is judged have other bounds.
 #[derive(Clone, Copy, Debug, Default, PartialEq, Eq)]
 pub struct Measure {
-    pub alternatives: usize,
-    pub elements: usize,
-    pub labels: usize,
-    pub actions: usize,
-    pub predicates: usize,
+    pub tally: Tally,
     pub words: usize,
 }
 
@@ -26,12 +23,16 @@ impl Add for Measure {
     ghost add_gives = { λ m n r. r ≡ plus m n };
 
     fn add(self, n: Measure) -> Measure {
+        let s = self.tally;
+        let t = n.tally;
         Measure {
-            alternatives: self.alternatives + n.alternatives,
-            elements: self.elements + n.elements,
-            labels: self.labels + n.labels,
-            actions: self.actions + n.actions,
-            predicates: self.predicates + n.predicates,
+            tally: Tally {
+                alternatives: s.alternatives + t.alternatives,
+                elements: s.elements + t.elements,
+                labels: s.labels + t.labels,
+                actions: s.actions + t.actions,
+                predicates: s.predicates + t.predicates,
+            },
             words: self.words + n.words,
         }
     }

@@ -14,16 +14,14 @@ use crate::options::put_options;
 use crate::places::{parts_at, put_places};
 use planned::halves::move_halves;
 use planned::hand::place;
-use planned::list::{Listed, Sizes};
+use planned::list::{Cursor, Listed, Sizes};
 use planned::record::put_head;
-use words::numbers::Block;
 use words::sheet::Sheet;
 
 // The elements in hand, with the n from `at` on in place of the one at an index, listed from half `to` on; returned is where
 // those end.
 fn put_elements(
     s: &Sheet,
-    depth: u32,
     work: &mut [u8],
     h: Listed,
     index: usize,
@@ -32,26 +30,25 @@ fn put_elements(
     to: usize,
 ) -> usize
     requires bounds { (s.now.end ≤ most_words) × Located work.old h × (index < h.ne) }
-    requires found_elements { FoundElements (text s.now) s.now.end depth count at × (at ≤ s.now.end) × (to + (h.ne - 1 + count) ≤ h.e) }
-    ensures { ElementsPut (text s.now) s.now.end depth h index count at work.old work.new to result }
+    requires found_elements { FoundElements (text s.now) s.now.end inner_depth count at × (at ≤ s.now.end)
+        × (to + (h.ne - 1 + count) ≤ h.e) }
+    ensures { ElementsPut (text s.now) s.now.end inner_depth h index count at work.old work.new to result }
 {
     let next = index + 1;
     let mid = to + index;
     let back = mid + count as usize;
     let rest = h.ne - next;
     move_halves(work, h.e, to, index);
-    let r = put_places(s, depth, count, at, work, mid);
+    let r = put_places(s, count, at, work, mid);
     move_halves(work, h.e + next, back, rest);
     r
 }
 
-// The next alternative of the satellite, and where its record comes: which it is, and where its elements and options begin.
+// The next alternative of the satellite, and where its record comes.
 #[derive(Clone, Copy, Debug, PartialEq, Eq)]
 struct Spot {
     at: usize,
-    a: usize,
-    e: usize,
-    o: usize,
+    to: Cursor,
 }
 
 // How many elements a record has, and where its options end; and where the elements end that were taken from the sheet.
@@ -65,7 +62,6 @@ struct Ends {
 // Elements and options of what the alternative at `at` becomes, from two halves on.
 fn put_parts(
     s: &Sheet,
-    depth: u32,
     work: &mut [u8],
     h: Listed,
     index: usize,
@@ -73,46 +69,47 @@ fn put_parts(
     e: usize,
     to: usize,
 ) -> Ends
-    requires bounds { (s.now.end ≤ most_words) × HandIn (text s.now) s.now.end depth h index work.old }
-    requires found_alternative { FoundAlternative (text s.now) s.now.end depth at × (to ≤ h.o) }
-    requires parts_fit { PartsFit (text s.now) s.now.end depth h at work.old e to }
-    ensures { PartsPut (text s.now) s.now.end depth h index at work.old work.new
+    requires bounds { (s.now.end ≤ most_words) × HandIn (text s.now) s.now.end inner_depth h index work.old }
+    requires found_alternative { FoundAlternative (text s.now) s.now.end inner_depth at × (to ≤ h.o) }
+    requires parts_fit { PartsFit (text s.now) s.now.end inner_depth h at work.old e to }
+    ensures { PartsPut (text s.now) s.now.end inner_depth h index at work.old work.new
         e to result.at result.ne result.back }
 {
-    let p = parts_at(s, depth, at);
+    let p = parts_at(s, at);
     let ne = h.ne - 1 + p.ne;
-    let next = put_elements(s, depth, work, h, index, p.count, p.first, e);
-    let back = put_options(s, depth, work, h, at, to);
+    let next = put_elements(s, work, h, index, p.count, p.first, e);
+    let back = put_options(s, work, h, at, to);
     Ends { at: next, ne, back }
 }
 
 // What the alternative at `f.at` becomes, as a record; returned is what comes next.
-fn put_one(s: &Sheet, depth: u32, work: &mut [u8], h: Listed, index: usize, f: Spot) -> Spot
-    requires bounds { (s.now.end ≤ most_words) × HandIn (text s.now) s.now.end depth h index work.old }
-    requires found_alternative { FoundAlternative (text s.now) s.now.end depth f.at }
-    requires one_fits { OneFits (text s.now) s.now.end depth h f.at work.old f.a f.e f.o }
-    ensures a_value { result.a ≡ f.a + 1 }
-    ensures one_put { OnePut (text s.now) s.now.end depth h index f.at work.old work.new
-        f.a f.e f.o result.e result.o result.at }
+fn put_one(s: &Sheet, work: &mut [u8], h: Listed, index: usize, f: Spot) -> Spot
+    requires bounds { (s.now.end ≤ most_words) × HandIn (text s.now) s.now.end inner_depth h index work.old }
+    requires found_alternative { FoundAlternative (text s.now) s.now.end inner_depth f.at }
+    requires one_fits { OneFits (text s.now) s.now.end inner_depth h f.at work.old f.to.a f.to.e f.to.o }
+    ensures a_value { result.to.a ≡ f.to.a + 1 }
+    ensures one_put { OnePut (text s.now) s.now.end inner_depth h index f.at work.old work.new
+        f.to.a f.to.e f.to.o result.to.e result.to.o result.at }
 {
-    let to = Sizes::FIRST_OPTION + f.o;
-    let next = f.a + 1;
+    let options = Sizes::FIRST_OPTION + f.to.o;
+    let next = f.to.a + 1;
     let slot = place(h.slot);
-    let r = put_parts(s, depth, work, h, index, f.at, f.e, to);
+    let r = put_parts(s, work, h, index, f.at, f.to.e, options);
     let origin = f.at as u16;
-    put_head(work, f.a, slot, origin, r.ne, r.back - to);
+    put_head(work, f.to.a, slot, origin, r.ne, r.back - options);
     Spot {
         at: r.at,
-        a: next,
-        e: f.e + r.ne,
-        o: r.back - Sizes::FIRST_OPTION,
+        to: Cursor {
+            a: next,
+            e: f.to.e + r.ne,
+            o: r.back - Sizes::FIRST_OPTION,
+        },
     }
 }
 
 // What the n alternatives from `f.at` on become, as records on the stack of l.
 fn put_all(
     s: &Sheet,
-    depth: u32,
     work: &mut [u8],
     l: Sizes,
     h: Listed,
@@ -120,25 +117,22 @@ fn put_all(
     n: usize,
     f: Spot,
 ) -> Sizes
-    requires bounds { (s.now.end ≤ most_words) × HandIn (text s.now) s.now.end depth h index work.old }
-    requires all_fit { AllFit (text s.now) s.now.end depth h index n f.at work.old f.a f.e f.o l.tope l.topo }
-    ensures value { result ≡ with_top l f.a f.e f.o }
-    ensures all_put { AllPut (text s.now) s.now.end depth h index n f.at work.old work.new
-        f.a f.e f.o l.tope l.topo }
+    requires bounds { (s.now.end ≤ most_words) × HandIn (text s.now) s.now.end inner_depth h index work.old }
+    requires all_fit { AllFit (text s.now) s.now.end inner_depth h index n f.at work.old f.to.a f.to.e f.to.o l.top.e l.top.o }
+    ensures value { result ≡ with_top l f.to.a f.to.e f.to.o }
+    ensures all_put { AllPut (text s.now) s.now.end inner_depth h index n f.at work.old work.new
+        f.to.a f.to.e f.to.o l.top.e l.top.o }
 {
     let mut p = f;
     for _ in 0..n {
-        p = put_one(s, depth, work, h, index, p);
+        p = put_one(s, work, h, index, p);
     }
-    Sizes {
-        topa: f.a,
-        tope: f.e,
-        topo: f.o,
-        ..l
-    }
+    Sizes { top: f.to, ..l }
 }
 
 // How many alternatives, elements and options a splice comes to.
+// Stays: no `Cursor`, though that has three numbers by these names too. A size is how much, and is added up and held to limits; a
+// cursor is where, and a size is taken off it.
 #[derive(Clone, Copy, Debug, Default, PartialEq, Eq)]
 pub struct Size {
     pub a: usize,
@@ -165,9 +159,11 @@ pub fn push_splice(
 {
     let f = Spot {
         at: at + 4,
-        a: l.topa - z.a,
-        e: l.tope - z.e,
-        o: l.topo - z.o,
+        to: Cursor {
+            a: l.top.a - z.a,
+            e: l.top.e - z.e,
+            o: l.top.o - z.o,
+        },
     };
-    put_all(s, Block::DEPTH, work, l, h, index, z.a, f)
+    put_all(s, work, l, h, index, z.a, f)
 }

@@ -6,6 +6,7 @@ use planned::list::Sizes;
 use splices::splice::Size;
 
 // The least budget, and how large a planned list may be after a step.
+// Stays: the last three are no `Size`. They are named as in the definition (`reference`), and `most` gives them as one.
 #[derive(Clone, Copy, Debug, PartialEq, Eq)]
 pub struct Limits {
     pub floor: usize,

@@ -16,9 +16,8 @@ use crate::items::write_items;
 use copies::pen::{Drawing, Reason, fresh};
 use heads::head::write_head;
 use heads::read::read_here;
-use planned::list::{Listed, Mark, Sizes};
-use planned::read::Cursor;
-use words::numbers::{Block, Sort};
+use planned::list::{Cursor, Listed, Mark, Sizes};
+use words::numbers::Sort;
 use words::sheet::Sheet;
 use words::words::word;
 
@@ -39,7 +38,7 @@ fn begin(d: &mut Drawing<'_>, s: &Sheet, x: Listed, id: u32)
     ensures same_entries { d.old.trail.now ≡ d.new.trail.now }
     ensures drawn { HeadDrawn (text s.now) s.now.end inner_depth d.old.out.now x id d.new.out.now d.old.pen d.new.pen }
 {
-    write_head(s, Block::DEPTH, d.out, x, id, d.pen.to);
+    write_head(s, d.out, x, id, d.pen.to);
     d.pen.to += 5 + 2 * x.no;
 }
 
@@ -55,7 +54,7 @@ fn write_same(d: &mut Drawing<'_>, s: &Sheet, x: Listed)
 {
     let id = id_at(s, usize::from(x.origin));
     begin(d, s, x, id);
-    write_items(d, s, Block::DEPTH, x, false);
+    write_items(d, s, x, false);
 }
 
 // A new alternative: a fresh id, and fresh ids for all that is in it (SPECIFICATION 11.3).
@@ -78,7 +77,7 @@ fn write_new(d: &mut Drawing<'_>, s: &Sheet, x: Listed)
     );
     d.pen = given.pen;
     begin(d, s, x, given.id);
-    write_items(d, s, Block::DEPTH, x, true);
+    write_items(d, s, x, true);
 }
 
 fn write_one(d: &mut Drawing<'_>, s: &Sheet, x: Listed)
@@ -106,8 +105,8 @@ fn write_list(d: &mut Drawing<'_>, s: &Sheet, l: Sizes)
     ensures drawn { ListDrawn (text s.now) s.now.end inner_depth d.old.out.now l d.new.out.now
         d.old.trail.now d.new.trail.now d.old.pen d.new.pen }
 {
-    let mut c = Cursor::front();
-    for _ in 0..l.outa {
+    let mut c = Cursor::default();
+    for _ in 0..l.out.a {
         let out = &mut *d.out;
         let r = read_here(out, l, c);
         write_one(d, s, r.x);

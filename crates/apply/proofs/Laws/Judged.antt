@@ -11,7 +11,6 @@ use Rattle.reference.specs.Numbers.{counter_end, most_entries}
 use Rattle.reference.specs.Run.{are_words}
 use Rattle.writing.specs.Taken.{counters_of}
 use Rattle.writing.specs.declared.counters.Counters.{Counters}
-use Rattle.sizes.specs.Sized.{tally_of}
 use Rattle.sizes.specs.Tally.{behind, ids_in}
 use Rattle.sizes.specs.declared.sums.Measure.{Measure}
 use Rattle.words.specs.declared.numbers.Refusal.TheVariants.{CounterPastEnd, ResultTooLong}
@@ -25,9 +24,9 @@ and_chain true true true false p = refl
 and_chain true true true true p = sym (and-true p)
 
 pub all_last_lem : {c : Counters} {m : Measure} {a e l n p : Bool}
-    → a ≡ ltb (c.alternative + m.alternatives) counter_end → e ≡ ltb (c.element + m.elements) counter_end
-    → l ≡ ltb (c.label + m.labels) counter_end → n ≡ ltb (c.action + m.actions) counter_end
-    → p ≡ ltb (c.predicate + m.predicates) counter_end
+    → a ≡ ltb (c.alternative + m.tally.alternatives) counter_end → e ≡ ltb (c.element + m.tally.elements) counter_end
+    → l ≡ ltb (c.label + m.tally.labels) counter_end → n ≡ ltb (c.action + m.tally.actions) counter_end
+    → p ≡ ltb (c.predicate + m.tally.predicates) counter_end
     → AllLast (counters_of c) m ((((a && e) && l) && n) && p)
 unfolding are_words behind all
 all_last_lem {a} {e} {l} {n} {p} f g h i j = record { is = and_chain a e l n p ∙ rw (f, g, h, i, j) refl }
@@ -42,22 +41,22 @@ module _ {c : Counters} {m : Measure} {b : Bool} (e : AllLast (counters_of c) m 
     unfolding verdict verdict_on
     judged_long l = record { is = rw (sym e.is ∙ not-false b h, lt-leb words room l, verdict, verdict_on) refl }
 
-    pub judged_entries : {i : ℕ} → words ≤ room → i ≡ ids_in (tally_of m) → most_entries < recorded + i + 1
+    pub judged_entries : {i : ℕ} → words ≤ room → i ≡ ids_in m.tally → most_entries < recorded + i + 1
         → Judged (counters_of c) m words room recorded (Err ResultTooLong)
     unfolding verdict verdict_on
     judged_entries g i l =
-        let k : most_entries < recorded + (ids_in (tally_of m) + 1) = omega (arith, i, l) in
+        let k : most_entries < recorded + (ids_in m.tally + 1) = omega (arith, i, l) in
         record {
-          is = rw (sym e.is ∙ not-false b h, le-leb words room g, lt-leb (recorded + (ids_in (tally_of m) + 1)) most_entries k, verdict, verdict_on) refl;
+          is = rw (sym e.is ∙ not-false b h, le-leb words room g, lt-leb (recorded + (ids_in m.tally + 1)) most_entries k, verdict, verdict_on) refl;
         }
 
-    pub judged_good : {i : ℕ} → words ≤ room → i ≡ ids_in (tally_of m) → recorded + i + 1 ≤ most_entries
+    pub judged_good : {i : ℕ} → words ≤ room → i ≡ ids_in m.tally → recorded + i + 1 ≤ most_entries
         → Judged (counters_of c) m words room recorded (Ok tt)
     unfolding verdict verdict_on
     judged_good g i l =
-        let k : recorded + (ids_in (tally_of m) + 1) ≤ most_entries = omega (arith, i, l) in
+        let k : recorded + (ids_in m.tally + 1) ≤ most_entries = omega (arith, i, l) in
         record {
-          is = rw (sym e.is ∙ not-false b h, le-leb words room g, le-leb (recorded + (ids_in (tally_of m) + 1)) most_entries k, verdict, verdict_on) refl;
+          is = rw (sym e.is ∙ not-false b h, le-leb words room g, le-leb (recorded + (ids_in m.tally + 1)) most_entries k, verdict, verdict_on) refl;
         }
 
 pub ruleset judgements = (judged_past, judged_long, judged_entries, judged_good)

@@ -21,7 +21,7 @@ use Rattle.records.specs.declared.rules.Rules.{Rules}
 use Rattle.analysis.specs.Facts.{Among}
 use Rattle.analysis.proofs.Laws.Standing.{among, id_at}
 use Rattle.planned.specs.Layout.{settled}
-use Rattle.sizes.specs.Sized.{Measured, tally_of}
+use Rattle.sizes.specs.Sized.{Measured}
 use Rattle.sizes.specs.Tally.{behind, ids_in}
 use Rattle.sizes.specs.declared.sums.Measure.{Measure}
 use Rattle.words.specs.declared.numbers.Refusal.{Refusal}
@@ -46,11 +46,11 @@ module _ {result work : List ℕ} {end to : ℕ} {rules : Rules} {p : Plan} {m :
   same_list : body ≡ listed
   same_list = ap (λ ps. fresh_each (apply_alternative inner_depth) ps (counters_of c)) x.same.alternatives
 
-  pub after_counters : (after_of x c).counters ≡ behind (counters_of c) (tally_of m)
+  pub after_counters : (after_of x c).counters ≡ behind (counters_of c) m.tally
   unfolding apply_plan
   after_counters = ap (λ f. f.counters) same_list ∙ w.is.counters (counters_of c)
 
-  pub after_entries : length (after_of x c).entries ≡ ids_in (tally_of m) + 1
+  pub after_entries : length (after_of x c).entries ≡ ids_in m.tally + 1
   unfolding apply_plan
   after_entries =
       length-append body.entries _
@@ -66,9 +66,9 @@ module _ {result work : List ℕ} {end to : ℕ} {rules : Rules} {p : Plan} {m :
       → number_in r ≡ refusal_of x.sheet.kind x.sheet.preserved (after_of x c) recorded
   unfolding refusal_of is_short verdict verdict_on
   refusal_is {n} {room} {recorded} {r} e f j =
-      let es = recorded + (ids_in (tally_of m) + 1) in
+      let es = recorded + (ids_in m.tally + 1) in
       j.is
-      ∙ ap₂ (λ a b. verdict_on (behind (counters_of c) (tally_of m)) a b es) e f
+      ∙ ap₂ (λ a b. verdict_on (behind (counters_of c) m.tally) a b es) e f
       ∙ ap₂ (λ a b. verdict_on a (length (encode (sheet_with x.sheet.kind x.sheet.preserved (after_of x c)))) most_words (recorded + b))
       (sym after_counters) (sym after_entries)
 
@@ -128,6 +128,6 @@ pub refused_by : {result work : List ℕ} {end to : ℕ} {rules : Rules} {p : Pl
 refused_by {c = c} w a e j = record { is = λ x. refusal_is w x c (a.is x c) e j }
 
 pub entries_after : {result work : List ℕ} {end to : ℕ} {rules : Rules} {p : Plan} {m : Measure} {recorded i n : ℕ}
-    → Measured inner_depth (settled (words result) end inner_depth work p.l) m → i ≡ ids_in (tally_of m) → n ≡ recorded + i + 1
+    → Measured inner_depth (settled (words result) end inner_depth work p.l) m → i ≡ ids_in m.tally → n ≡ recorded + i + 1
     → EntriesAfter result work end to rules p recorded n
 entries_after w e f = record { is = λ x c. let l = after_entries w x c in omega arith }

@@ -31,8 +31,8 @@ module _ {xs b m : List ℕ} {p q : Pen} {l : Sizes} (low : compose_at ≤ p.to)
   moved_in = front_all_in (front_wrote low h.wrote) laid
 
 module _ {ws : List ℕ} {end at : ℕ} {b m t : List ℕ} {l : Sizes} {n : ℕ} {p inside : Pen} (f : HubFits ws end b l p at t) (laid : Laid b l)
-    (low : compose_at ≤ p.to) (h : Moved (rule_head ws end at n) b m p inside) (count : n ≡ l.outa) where
-  head : Drawn (rule_head ws end at l.outa) [] (counters_of p.counters) b m t t p inside
+    (low : compose_at ≤ p.to) (h : Moved (rule_head ws end at n) b m p inside) (count : n ≡ l.out.a) where
+  head : Drawn (rule_head ws end at l.out.a) [] (counters_of p.counters) b m t t p inside
   head =
       subst (λ k. Drawn (rule_head ws end at k) [] (counters_of p.counters) b m t t p inside) count
       (drawn_words t h.wrote h.to h.trail h.counters)
@@ -78,7 +78,7 @@ module _ {ws : List ℕ} {end at : ℕ} {b a t t' : List ℕ} {l : Sizes} {p q :
   hub_drawn {t''} {r} {id} e c =
       record {
         drawn =
-            drawn_then (sym (append-nil (rule_head ws end at l.outa ++ body_words ws end b l p))) refl d.drawn
+            drawn_then (sym (append-nil (rule_head ws end at l.out.a ++ body_words ws end b l p))) refl d.drawn
             (record {
               wrote = wrote_nothing a q.to;
               told = subst (λ i. Wrote t' t'' q.trail (closing i)) e c.told;

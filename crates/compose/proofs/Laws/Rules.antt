@@ -31,11 +31,11 @@ use Rattle.compose.specs.Hub.{rule_head, closing, new_body, body_words, HubFits,
 use Rattle.compose.specs.Hub.{NewHubFits, NewHubAdded, new_rules, NewRulesFit, NewRulesAdded}
 
 -- As many alternatives as are settled.
-body_count : (ws : List ℕ) (end : ℕ) (bs : List ℕ) (l : Sizes) (p : Pen) → length (new_body ws end bs l p).node ≡ l.outa
+body_count : (ws : List ℕ) (end : ℕ) (bs : List ℕ) (l : Sizes) (p : Pen) → length (new_body ws end bs l p).node ≡ l.out.a
 unfolding settled
 body_count ws end bs l p =
     each_count (apply_alternative inner_depth) (settled ws end inner_depth bs l) (counters_of p.counters)
-    ∙ run_count bs ws end inner_depth l.outa 0 0 0
+    ∙ run_count bs ws end inner_depth l.out.a 0 0 0
 
 -- The words of a rule with another body.
 hub_words : (r : Rule) (b : Block body_depth)
@@ -53,7 +53,7 @@ module _ (ws : List ℕ) (end : ℕ) (rules : Rules) (p : Plan) (work trail : Li
         (w.id, w.named, w.flags_are)
 
     hub_encoded : encode_rules (new_hub ws end rules p work a x.rule ∷ [])
-        ≡ rule_head ws end at p.l.outa ++ body_words ws end work p.l a.pen
+        ≡ rule_head ws end at p.l.out.a ++ body_words ws end work p.l a.pen
     hub_encoded =
         let w = spanned in
         append-nil _

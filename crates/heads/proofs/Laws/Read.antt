@@ -4,17 +4,17 @@ use mathlib.Core.Path.{◌≡◌, refl, sym, ap, ◌∙◌}
 use mathlib.Core.List.{List, ◌∷◌, []}
 use native.Mathlib.Omega.{arith}
 use lib.ListN.{length}
-use Rattle.planned.specs.Layout.{options_at, record_at, meaning, options_from, elements_from}
+use Rattle.planned.specs.Layout.{options_at, record_at, past, meaning, options_from, elements_from}
 use Rattle.planned.specs.List.{Laid, ListedIn, AllIn, elements_of, options_of}
 use Rattle.planned.specs.Reading.{RecordIs, settled_from, OnTrack, ReadNext}
 use Rattle.planned.specs.Laws.Runs.{run_count}
 use Rattle.planned.proofs.Laws.Reading.{settled_room, settled_next}
 use Rattle.planned.specs.declared.list.Sizes.{Sizes}
 use Rattle.planned.specs.declared.list.Listed.{Listed}
-use Rattle.planned.specs.declared.read.Cursor.{Cursor}
+use Rattle.planned.specs.declared.list.Cursor.{Cursor}
 use Rattle.heads.specs.Front.{ReadHere}
 
-module _ {bs : List ℕ} {l : Sizes} {c : Cursor} (laid : Laid bs l) (on : OnTrack bs l c) (more : c.a < l.outa)
+module _ {bs : List ℕ} {l : Sizes} {c : Cursor} (laid : Laid bs l) (on : OnTrack bs l c) (more : c.a < l.out.a)
     {x : Listed} {next : Cursor} (n : ReadNext bs l c x next) where
   abbrev r : Listed
   r = record_at bs c.a c.e c.o
@@ -33,15 +33,15 @@ module _ {bs : List ℕ} {l : Sizes} {c : Cursor} (laid : Laid bs l) (on : OnTra
         options = m.options;
       }
 
-  by : ReadNext bs l c r (record { a = c.a + 1; e = c.e + r.ne; o = c.o + r.no })
-  by = settled_next laid on more whole
+  by : ReadNext bs l c r (past c r)
+  by = settled_next laid on more whole refl
 
   one_on : next.a ≡ c.a + 1
   unfolding settled_from
   one_on =
       let e = ap length (n.first [] 0 0) in
-      let a = run_count bs [] 0 0 (l.outa - c.a) c.a c.e c.o in
-      let b = run_count bs [] 0 0 (l.outa - next.a) next.a next.e next.o in
+      let a = run_count bs [] 0 0 (l.out.a - c.a) c.a c.e c.o in
+      let b = run_count bs [] 0 0 (l.out.a - next.a) next.a next.e next.o in
       let w = n.on.within in
       omega arith
 

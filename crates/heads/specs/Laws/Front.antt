@@ -11,7 +11,7 @@ use Rattle.planned.specs.Laws.Runs.{SameHeads, elements_of_same, options_of_same
 use Rattle.planned.specs.Laws.Kept.{kept}
 use Rattle.planned.specs.declared.list.Sizes.{Sizes}
 use Rattle.planned.specs.declared.list.Listed.{Listed}
-use Rattle.planned.specs.declared.read.Cursor.{Cursor}
+use Rattle.planned.specs.declared.list.Cursor.{Cursor}
 use Rattle.writing.specs.Wrote.{Wrote}
 use Rattle.heads.specs.Front.{compose_at, SameFront}
 
@@ -44,7 +44,7 @@ module _ {before after : List ℕ} (s : SameFront before after) where
   module _ {l : Sizes} (laid : Laid before l) where
     front_ends : SameEnds before after l l
     front_ends =
-        kept {a = l.outa} {b = l.outa} {x = l.oute} {z = l.oute} {y = l.outo} {w = l.outo} laid
+        kept {a = l.out.a} {b = l.out.a} {x = l.out.e} {z = l.out.e} {y = l.out.o} {w = l.out.o} laid
         (record {
           out_a = omega arith;
           out_e = omega arith;
@@ -71,7 +71,7 @@ module _ {before after : List ℕ} (s : SameFront before after) where
 
     -- A position among the settled ones, and those behind it.
     module _ {c : Cursor} (on : OnTrack before l c) where
-      front_heads : (n a : ℕ) → a + n ≤ l.outa → SameHeads before after n a
+      front_heads : (n a : ℕ) → a + n ≤ l.out.a → SameHeads before after n a
       front_heads n a h = record { same = λ j g m. front_half j (omega arith) }
 
       pub front_track : OnTrack after l c
@@ -86,8 +86,8 @@ module _ {before after : List ℕ} (s : SameFront before after) where
       pub front_from : (ws : List ℕ) (end d : ℕ) → settled_from ws end d after l c ≡ settled_from ws end d before l c
       unfolding settled_from
       front_from ws end d =
-          let n = l.outa - c.a in
-          let k : c.a + n ≡ l.outa = omega arith in
+          let n = l.out.a - c.a in
+          let k : c.a + n ≡ l.out.a = omega arith in
           let z : 0 + c.a ≡ c.a = omega arith in
           let e = rw (k, z) at (elements_of_append before c.a n 0) in
           let o = rw (k, z) at (options_of_append before c.a n 0) in

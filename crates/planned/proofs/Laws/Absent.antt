@@ -91,8 +91,8 @@ module _ {b₀ b₁ b₂ : List ℕ} {l : Sizes} {x : Listed} {index k a e o : �
       }
 
 pub pushed_absent : {b₀ b₁ b₂ : List ℕ} {l : Sizes} {x : Listed} {index : ℕ} → Laid b₀ l → InHand x → HasRoom l 1 (x.ne - 1) x.no
-    → index < x.ne → x.slot < marked → CopiedWithout b₀ b₁ x.e (l.tope - (x.ne - 1)) x.ne index
-    → Finished b₁ b₂ x.slot x.origin (x.ne - 1) x.no x.o (l.topa - 1) (l.topo - x.no)
-    → PushedAbsent b₀ b₂ l (with_top l (l.topa - 1) (l.tope - (x.ne - 1)) (l.topo - x.no)) x index
+    → index < x.ne → x.slot < marked → CopiedWithout b₀ b₁ x.e (l.top.e - (x.ne - 1)) x.ne index
+    → Finished b₁ b₂ x.slot x.origin (x.ne - 1) x.no x.o (l.top.a - 1) (l.top.o - x.no)
+    → PushedAbsent b₀ b₂ l (with_top l (l.top.a - 1) (l.top.e - (x.ne - 1)) (l.top.o - x.no)) x index
 pushed_absent g h r f s p q =
     let w = placed g h r (omega arith) in absent_pushed g w (omega arith) f s p q (place_grown w)

@@ -29,7 +29,7 @@ module _ {l : Sizes} {x : Listed} (m : Movable l x) (i : InList x) where
 
     same_list : Laid b₀ l → SameEnds b₀ b₂ l l
     same_list laid =
-        kept {a = l.outa} {b = l.outa} {x = l.oute} {z = l.oute} {y = l.outo} {w = l.outo} laid
+        kept {a = l.out.a} {b = l.out.a} {x = l.out.e} {z = l.out.e} {y = l.out.o} {w = l.out.o} laid
         (record { out_a = omega arith; out_e = omega arith; out_o = omega arith; top_a = laid.out_a; top_e = laid.out_e; top_o = laid.out_o })
         (record {
           heads = λ j h k c. in_front j (omega arith);

@@ -24,15 +24,15 @@ means_other ws end d x y es l s g m o e = rw (s, g, m, e, options_copied ws end 
 
 -- Where a record of n elements and the options of one in hand comes on the stack.
 pub record Place (l : Sizes) (x : Listed) (n a e o : ℕ) : Type 0 where
-  pub out_a : l.outa ≤ a
-  pub out_e : l.oute ≤ e
-  pub out_o : l.outo ≤ o
-  pub head : a + 1 ≡ l.topa
-  pub elements : e + n ≡ l.tope
-  pub options : o + x.no ≡ l.topo
-  pub top_a : l.topa ≤ most_alternatives
-  pub top_e : l.tope ≤ most_elements
-  pub top_o : l.topo ≤ most_options
+  pub out_a : l.out.a ≤ a
+  pub out_e : l.out.e ≤ e
+  pub out_o : l.out.o ≤ o
+  pub head : a + 1 ≡ l.top.a
+  pub elements : e + n ≡ l.top.e
+  pub options : o + x.no ≡ l.top.o
+  pub top_a : l.top.a ≤ most_alternatives
+  pub top_e : l.top.e ≤ most_elements
+  pub top_o : l.top.o ≤ most_options
   pub hand_e : hand_at ≤ x.e
   pub hand_o : hand_at ≤ x.o
 
@@ -54,7 +54,7 @@ pub place_grown : {l : Sizes} {x : Listed} {n a e o : ℕ} → Place l x n a e o
 place_grown w = record { alternatives = omega arith; elements = omega arith; options = omega arith }
 
 pub placed : {bs : List ℕ} {l : Sizes} {x : Listed} {n : ℕ} → Laid bs l → InHand x → HasRoom l 1 n x.no → x.ne ≤ n + 1
-    → Place l x n (l.topa - 1) (l.tope - n) (l.topo - x.no)
+    → Place l x n (l.top.a - 1) (l.top.e - n) (l.top.o - x.no)
 placed g h r k =
     record {
       out_a = omega arith;

@@ -133,7 +133,7 @@ module _ {b₀ b₂ : List ℕ} {l : Sizes} {x : Listed} {index a e o : ℕ} (la
       }
 
 module _ {b₀ : List ℕ} {l : Sizes} {x : Listed} (g : Laid b₀ l) (h : InHand x) (r : HasRoom l 1 x.ne x.no) where
-  pub present_writable : Writable x (l.topa - 1) (l.tope - x.ne) (l.topo - x.no)
+  pub present_writable : Writable x (l.top.a - 1) (l.top.e - x.ne) (l.top.o - x.no)
   present_writable = go (placed g h r (omega arith))
     where
       go : {a e o : ℕ} → Place l x x.ne a e o → Writable x a e o
@@ -142,12 +142,10 @@ module _ {b₀ : List ℕ} {l : Sizes} {x : Listed} (g : Laid b₀ l) (h : InHan
             head = omega arith;
             elements = omega arith;
             options = omega arith;
-            apart_elements = record { apart = λ z. omega arith };
-            apart_options = record { apart = λ z. omega arith };
             behind = omega arith;
           }
 
   pub pushed_present : {b₂ : List ℕ} {index : ℕ} → index < x.ne → x.slot < marked
-      → WrotePresent b₀ b₂ x index (l.topa - 1) (l.tope - x.ne) (l.topo - x.no)
-      → PushedPresent b₀ b₂ l (with_top l (l.topa - 1) (l.tope - x.ne) (l.topo - x.no)) x index
+      → WrotePresent b₀ b₂ x index (l.top.a - 1) (l.top.e - x.ne) (l.top.o - x.no)
+      → PushedPresent b₀ b₂ l (with_top l (l.top.a - 1) (l.top.e - x.ne) (l.top.o - x.no)) x index
   pushed_present f s p = present_pushed g (placed g h r (omega arith)) f s p

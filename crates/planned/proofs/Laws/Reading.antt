@@ -9,14 +9,14 @@ use native.Mathlib.Numerals.{add-one}
 use lib.Dec.{leb}
 use borrow.Author.Tests.{leb-true, leb-false}
 use Rattle.reference.specs.Numbers.{most_alternatives, most_elements, most_options}
-use Rattle.planned.specs.Layout.{half, head_at, options_at, record_at, meaning, records_from, settled, stack}
+use Rattle.planned.specs.Layout.{half, head_at, options_at, record_at, past, meaning, records_from, settled, stack}
 use Rattle.planned.specs.List.{elements_of, options_of, Laid, HasTop, Located, ListedIn, AllIn}
 use Rattle.planned.specs.Moves.{IsEmpty, IsDrained, Took}
-use Rattle.planned.specs.Reading.{RecordRoom, RecordIs, settled_from, OnTrack, AtFront, ReadNext}
+use Rattle.planned.specs.Reading.{RecordRoom, RecordIs, settled_from, OnTrack, ReadNext}
 use Rattle.planned.specs.Laws.Runs.{elements_of_append, options_of_append, elements_of_one, options_of_one}
 use Rattle.planned.specs.declared.list.Sizes.{Sizes}
 use Rattle.planned.specs.declared.list.Listed.{Listed}
-use Rattle.planned.specs.declared.read.Cursor.{Cursor}
+use Rattle.planned.specs.declared.list.Cursor.{Cursor}
 
 module _ {bs : List ℕ} {a x y : ℕ} {r : Listed} (is : RecordIs bs a x y r) where
   pub record_means : (ws : List ℕ) (end d : ℕ) → meaning ws end d bs (record_at bs a x y) ≡ meaning ws end d bs r
@@ -32,8 +32,8 @@ module _ {bs : List ℕ} {a x y : ℕ} {r : Listed} (is : RecordIs bs a x y r) w
   record_located g = record { long = g.long; elements = omega arith; options = omega arith }
 
   -- It stands among those of a list.
-  pub record_listed : {l : Sizes} → a < most_alternatives → (a < l.outa) ⊎ (l.topa ≤ a) → (x + r.ne ≤ l.oute) ⊎ (l.tope ≤ x)
-      → (y + r.no ≤ l.outo) ⊎ (l.topo ≤ y) → (ws : List ℕ) (end d : ℕ) → AllIn ws end d bs l → ListedIn ws end d bs r
+  pub record_listed : {l : Sizes} → a < most_alternatives → (a < l.out.a) ⊎ (l.top.a ≤ a) → (x + r.ne ≤ l.out.e) ⊎ (l.top.e ≤ x)
+      → (y + r.no ≤ l.out.o) ⊎ (l.top.o ≤ y) → (ws : List ℕ) (end d : ℕ) → AllIn ws end d bs l → ListedIn ws end d bs r
   record_listed h m e o ws end d all =
       record {
         head = rw (is.slot_is, is.origin_is) (all.heads a h m);
@@ -44,7 +44,7 @@ module _ {bs : List ℕ} {a x y : ℕ} {r : Listed} (is : RecordIs bs a x y r) w
             rw (is.o_is, n) (all.options (y + i) (omega arith) (⊎_map (λ t. omega arith) (λ t. omega arith) o));
       }
 
-module _ {bs : List ℕ} {l : Sizes} {c : Cursor} (laid : Laid bs l) (on : OnTrack bs l c) (more : c.a < l.outa) where
+module _ {bs : List ℕ} {l : Sizes} {c : Cursor} (laid : Laid bs l) (on : OnTrack bs l c) (more : c.a < l.out.a) where
   -- The elements and options of the settled alternatives up to the next one are among all.
   next_elements : elements_of bs (c.a + 1) 0 ≡ c.e + half bs (head_at c.a + 2)
   next_elements =
@@ -62,19 +62,19 @@ module _ {bs : List ℕ} {l : Sizes} {c : Cursor} (laid : Laid bs l) (on : OnTra
       let t = on.options in
       omega arith
 
-  within_elements : c.e + half bs (head_at c.a + 2) ≤ l.oute
+  within_elements : c.e + half bs (head_at c.a + 2) ≤ l.out.e
   within_elements =
-      let e : l.outa ≡ c.a + 1 + (l.outa - (c.a + 1)) = omega arith in
-      let h = elements_of_append bs (c.a + 1) (l.outa - (c.a + 1)) 0 in
+      let e : l.out.a ≡ c.a + 1 + (l.out.a - (c.a + 1)) = omega arith in
+      let h = elements_of_append bs (c.a + 1) (l.out.a - (c.a + 1)) 0 in
       let g = rw (← e) at h in
       let n = next_elements in
       let s = laid.settled_e in
       omega arith
 
-  within_options : c.o + half bs (head_at c.a + 3) ≤ l.outo
+  within_options : c.o + half bs (head_at c.a + 3) ≤ l.out.o
   within_options =
-      let e : l.outa ≡ c.a + 1 + (l.outa - (c.a + 1)) = omega arith in
-      let h = options_of_append bs (c.a + 1) (l.outa - (c.a + 1)) 0 in
+      let e : l.out.a ≡ c.a + 1 + (l.out.a - (c.a + 1)) = omega arith in
+      let h = options_of_append bs (c.a + 1) (l.out.a - (c.a + 1)) 0 in
       let g = rw (← e) at h in
       let n = next_options in
       let s = laid.settled_o in
@@ -87,69 +87,53 @@ module _ {bs : List ℕ} {l : Sizes} {c : Cursor} (laid : Laid bs l) (on : OnTra
       record { long = laid.long; head = omega arith; elements = omega arith; options = omega arith }
 
   module _ {r : Listed} (is : RecordIs bs c.a c.e c.o r) where
-    pub settled_next : ReadNext bs l c r (record { a = c.a + 1; e = c.e + r.ne; o = c.o + r.no })
+    settled_past : ReadNext bs l c r (past c r)
     unfolding settled_from
-    settled_next =
+    settled_past =
         let e = within_elements in
         let o = within_options in
         let m = next_elements in
         let n = next_options in
-        let k : l.outa - c.a ≡ suc (l.outa - (c.a + 1)) = omega arith in
+        let k : l.out.a - c.a ≡ suc (l.out.a - (c.a + 1)) = omega arith in
         record {
           on = record { within = omega arith; elements = omega arith; options = omega arith };
-          first = λ ws end d. rw k (first_record is ws end d (l.outa - (c.a + 1)));
+          first = λ ws end d. rw k (first_record is ws end d (l.out.a - (c.a + 1)));
           listed = record_listed is (omega arith) (inl more) (inl (omega arith)) (inl (omega arith));
           located = record_located is laid;
         }
 
-pub at_front : AtFront (record { a = 0; e = 0; o = 0 })
-unfolding elements_of options_of settled settled_from
-at_front =
-    record {
-      on = λ bs l. record { within = omega arith; elements = refl; options = refl };
-      all = λ ws end d bs l. let e : l.outa - 0 ≡ l.outa = omega arith in rw e;
-    }
+    pub settled_next : {next : Cursor} → next ≡ past c r → ReadNext bs l c r next
+    settled_next e = rw e settled_past
 
 -- The stack.
 module _ {bs : List ℕ} {l : Sizes} (laid : Laid bs l) (top : HasTop l) where
-  top_elements : half bs (head_at l.topa + 2) + elements_of bs (most_alternatives - (l.topa + 1)) (l.topa + 1)
-      ≡ elements_of bs (most_alternatives - l.topa) l.topa
+  top_elements : half bs (head_at l.top.a + 2) + elements_of bs (most_alternatives - (l.top.a + 1)) (l.top.a + 1)
+      ≡ elements_of bs (most_alternatives - l.top.a) l.top.a
   unfolding elements_of
   top_elements =
       let t = top.some in
-      let k : most_alternatives - l.topa ≡ suc (most_alternatives - (l.topa + 1)) = omega arith in rw (k, add-one l.topa)
+      let k : most_alternatives - l.top.a ≡ suc (most_alternatives - (l.top.a + 1)) = omega arith in rw (k, add-one l.top.a)
 
-  top_options : half bs (head_at l.topa + 3) + options_of bs (most_alternatives - (l.topa + 1)) (l.topa + 1)
-      ≡ options_of bs (most_alternatives - l.topa) l.topa
+  top_options : half bs (head_at l.top.a + 3) + options_of bs (most_alternatives - (l.top.a + 1)) (l.top.a + 1)
+      ≡ options_of bs (most_alternatives - l.top.a) l.top.a
   unfolding options_of
   top_options =
       let t = top.some in
-      let k : most_alternatives - l.topa ≡ suc (most_alternatives - (l.topa + 1)) = omega arith in rw (k, add-one l.topa)
+      let k : most_alternatives - l.top.a ≡ suc (most_alternatives - (l.top.a + 1)) = omega arith in rw (k, add-one l.top.a)
 
-  pub top_room : RecordRoom bs l.topa l.tope l.topo
+  pub top_room : RecordRoom bs l.top.a l.top.e l.top.o
   top_room =
       let e = top_elements in
       let o = top_options in
       record { long = laid.long; head = omega arith; elements = omega arith; options = omega arith }
 
-  module _ {r : Listed} (is : RecordIs bs l.topa l.tope l.topo r) where
-    abbrev rest : Sizes
-    rest =
-        record {
-          outa = l.outa;
-          oute = l.oute;
-          outo = l.outo;
-          topa = l.topa + 1;
-          tope = l.tope + r.ne;
-          topo = l.topo + r.no;
-        }
-
-    pub took : Took bs l r rest
+  module _ {r : Listed} (is : RecordIs bs l.top.a l.top.e l.top.o r) where
+    took_past : Took bs l r (record { out = l.out; top = past l.top r })
     unfolding settled stack
-    took =
+    took_past =
         let e = top_elements in
         let o = top_options in
-        let k : most_alternatives - l.topa ≡ suc (most_alternatives - (l.topa + 1)) = omega arith in
+        let k : most_alternatives - l.top.a ≡ suc (most_alternatives - (l.top.a + 1)) = omega arith in
         record {
           laid = record {
             long = laid.long;
@@ -165,7 +149,7 @@ module _ {bs : List ℕ} {l : Sizes} (laid : Laid bs l) (top : HasTop l) where
             stack_o = omega arith;
           };
           settled_same = λ ws end d. refl;
-          stack_is = λ ws end d. rw k (first_record is ws end d (most_alternatives - (l.topa + 1)));
+          stack_is = λ ws end d. rw k (first_record is ws end d (most_alternatives - (l.top.a + 1)));
           all_in = λ ws end d all.
               record {
                 heads = λ a h m. all.heads a h (⊎_map (λ t. t) (λ t. omega arith) m);
@@ -179,17 +163,27 @@ module _ {bs : List ℕ} {l : Sizes} (laid : Laid bs l) (top : HasTop l) where
           fewer = record { alternatives = omega arith; elements = omega arith; options = omega arith };
         }
 
-pub drained : {l : Sizes} {r : Bool} → r ≡ leb most_alternatives l.topa → IsDrained l r
+    pub took : {top : Cursor} → top ≡ past l.top r → Took bs l r (record { out = l.out; top = top })
+    took e = rw e took_past
+
+pub drained : {l : Sizes} {r : Bool} → r ≡ leb most_alternatives l.top.a → IsDrained l r
 unfolding stack records_from
 drained {l} {r} e =
     record {
       done = λ t ws end d bs g.
-          let h = leb-true most_alternatives l.topa (sym e ∙ t) in
-          let k : most_alternatives - l.topa ≡ 0 = omega arith in rw k;
-      more = λ t. record { some = leb-false most_alternatives l.topa (sym e ∙ t) };
+          let h = leb-true most_alternatives l.top.a (sym e ∙ t) in
+          let k : most_alternatives - l.top.a ≡ 0 = omega arith in rw k;
+      more = λ t. record { some = leb-false most_alternatives l.top.a (sym e ∙ t) };
     }
 
-pub empty : IsEmpty (record { outa = 0; oute = 0; outo = 0; topa = most_alternatives; tope = most_elements; topo = most_options })
+pub empty : IsEmpty (record {
+  out = record { a = 0; e = 0; o = 0 };
+  top = record {
+    a = most_alternatives;
+    e = most_elements;
+    o = most_options;
+  };
+})
 unfolding elements_of options_of settled stack records_from
 empty =
     record {
@@ -218,6 +212,6 @@ empty =
       none = (refl, refl, refl);
     }
 
-pub ruleset reading = (settled_room, settled_next, at_front)
+pub ruleset reading = (settled_room, settled_next)
 
 pub ruleset tops = (top_room, took, drained, empty)

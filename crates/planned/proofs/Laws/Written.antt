@@ -63,7 +63,6 @@ module _ {x : Listed} {a e o : ℕ} (w : Writable x a e o) where
         elements = omega arith;
         options = w.options;
         source = g.options;
-        apart = w.apart_options;
       }
 
   module _ {b₀ b₁ b₂ : List ℕ} (p : HalvesMoved b₀ b₁ x.e e x.ne)

@@ -46,20 +46,20 @@ module _ (ws : List ℕ) (end d : ℕ) (bs : List ℕ) where
     pub alternatives_in_lem : alternatives_in l ≡ length (settled ws end d bs l) + length (stack ws end d bs l)
     unfolding settled stack
     alternatives_in_lem =
-        let f = run_count bs ws end d l.outa 0 0 0 in
-        let b = run_count bs ws end d (most_alternatives - l.topa) l.topa l.tope l.topo in
+        let f = run_count bs ws end d l.out.a 0 0 0 in
+        let b = run_count bs ws end d (most_alternatives - l.top.a) l.top.a l.top.e l.top.o in
         omega arith
 
     pub elements_in_lem : elements_in l ≡ elements_all (settled ws end d bs l) + elements_all (stack ws end d bs l)
     unfolding settled stack
     elements_in_lem =
-        let f = run_elements bs ws end d l.outa 0 0 0 in
-        let b = run_elements bs ws end d (most_alternatives - l.topa) l.topa l.tope l.topo in
+        let f = run_elements bs ws end d l.out.a 0 0 0 in
+        let b = run_elements bs ws end d (most_alternatives - l.top.a) l.top.a l.top.e l.top.o in
         omega arith
 
     pub options_in_lem : options_in l ≡ options_all (settled ws end d bs l) + options_all (stack ws end d bs l)
     unfolding settled stack
     options_in_lem =
-        let f = run_options bs ws end d l.outa 0 0 0 in
-        let b = run_options bs ws end d (most_alternatives - l.topa) l.topa l.tope l.topo in
+        let f = run_options bs ws end d l.out.a 0 0 0 in
+        let b = run_options bs ws end d (most_alternatives - l.top.a) l.top.a l.top.e l.top.o in
         omega arith

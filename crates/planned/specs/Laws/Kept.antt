@@ -21,19 +21,19 @@ pub record Outside (before after : List ℕ) (a b x z y w : ℕ) : Type 0 where
 
 -- Neither end has a part there.
 pub record Free (l : Sizes) (a b x z y w : ℕ) : Type 0 where
-  pub out_a : l.outa ≤ a
-  pub out_e : l.oute ≤ x
-  pub out_o : l.outo ≤ y
-  pub top_a : b ≤ l.topa
-  pub top_e : z ≤ l.tope
-  pub top_o : w ≤ l.topo
+  pub out_a : l.out.a ≤ a
+  pub out_e : l.out.e ≤ x
+  pub out_o : l.out.o ≤ y
+  pub top_a : b ≤ l.top.a
+  pub top_e : z ≤ l.top.e
+  pub top_o : w ≤ l.top.o
 
 module _ {before after : List ℕ} {l : Sizes} {a b x z y w : ℕ} (laid : Laid before l) (free : Free l a b x z y w)
     (out : Outside before after a b x z y w) where
-  front_heads : SameHeads before after l.outa 0
+  front_heads : SameHeads before after l.out.a 0
   front_heads = record { same = λ j h g. out.heads j (omega arith) (omega arith) (inl (omega arith)) }
 
-  back_heads : SameHeads before after (most_alternatives - l.topa) l.topa
+  back_heads : SameHeads before after (most_alternatives - l.top.a) l.top.a
   back_heads = record { same = λ j h g. out.heads j (omega arith) (omega arith) (inr (omega arith)) }
 
   kept_laid : Laid after l
@@ -46,10 +46,10 @@ module _ {before after : List ℕ} {l : Sizes} {a b x z y w : ℕ} (laid : Laid 
         top_a = laid.top_a;
         top_e = laid.top_e;
         top_o = laid.top_o;
-        settled_e = elements_of_same l.outa 0 front_heads ∙ laid.settled_e;
-        settled_o = options_of_same l.outa 0 front_heads ∙ laid.settled_o;
-        stack_e = rw (elements_of_same (most_alternatives - l.topa) l.topa back_heads) laid.stack_e;
-        stack_o = rw (options_of_same (most_alternatives - l.topa) l.topa back_heads) laid.stack_o;
+        settled_e = elements_of_same l.out.a 0 front_heads ∙ laid.settled_e;
+        settled_o = options_of_same l.out.a 0 front_heads ∙ laid.settled_o;
+        stack_e = rw (elements_of_same (most_alternatives - l.top.a) l.top.a back_heads) laid.stack_e;
+        stack_o = rw (options_of_same (most_alternatives - l.top.a) l.top.a back_heads) laid.stack_o;
       }
 
   kept_settled : (ws : List ℕ) (end d : ℕ) → settled ws end d after l ≡ settled ws end d before l
@@ -57,7 +57,7 @@ module _ {before after : List ℕ} {l : Sizes} {a b x z y w : ℕ} (laid : Laid 
   kept_settled ws end d =
       let e = laid.settled_e in
       let o = laid.settled_o in
-      run_same ws end d l.outa 0 0 0 front_heads
+      run_same ws end d l.out.a 0 0 0 front_heads
       (record { same = λ j h g. out.elements j (omega arith) (inl (omega arith)) })
       (record { same = λ j h g. out.options j (omega arith) (omega arith) (inl (omega arith)) })
 
@@ -66,7 +66,7 @@ module _ {before after : List ℕ} {l : Sizes} {a b x z y w : ℕ} (laid : Laid 
   kept_stack ws end d =
       let e = laid.stack_e in
       let o = laid.stack_o in
-      run_same ws end d (most_alternatives - l.topa) l.topa l.tope l.topo back_heads
+      run_same ws end d (most_alternatives - l.top.a) l.top.a l.top.e l.top.o back_heads
       (record { same = λ j h g. out.elements j (omega arith) (inr (omega arith)) })
       (record { same = λ j h g. out.options j (omega arith) (omega arith) (inr (omega arith)) })
 
@@ -107,29 +107,29 @@ record_stands a x y t =
 
 -- k records more on the stack, with their elements and options from two places on.
 abbrev pub with_top : Sizes → (a x y : ℕ) → Sizes
-with_top l a x y = record { outa = l.outa; oute = l.oute; outo = l.outo; topa = a; tope = x; topo = y }
+with_top l a x y = record { out = l.out; top = record { a = a; e = x; o = y } }
 
 pub record RunOn (bs : List ℕ) (l : Sizes) (k a x y : ℕ) : Type 0 where
-  pub out_a : l.outa ≤ a
-  pub out_e : l.oute ≤ x
-  pub out_o : l.outo ≤ y
-  pub heads : a + k ≡ l.topa
-  pub elements : x + elements_of bs k a ≡ l.tope
-  pub options : y + options_of bs k a ≡ l.topo
+  pub out_a : l.out.a ≤ a
+  pub out_e : l.out.e ≤ x
+  pub out_o : l.out.o ≤ y
+  pub heads : a + k ≡ l.top.a
+  pub elements : x + elements_of bs k a ≡ l.top.e
+  pub options : y + options_of bs k a ≡ l.top.o
 
 module _ {before after : List ℕ} {l : Sizes} {k a x y : ℕ} (laid : Laid before l) (on : RunOn after l k a x y)
-    (out : Outside before after a l.topa x l.tope y l.topo) where
-  room_on : Free l a l.topa x l.tope y l.topo
+    (out : Outside before after a l.top.a x l.top.e y l.top.o) where
+  room_on : Free l a l.top.a x l.top.e y l.top.o
   room_on = record { out_a = on.out_a; out_e = on.out_e; out_o = on.out_o; top_a = omega arith; top_e = omega arith; top_o = omega arith }
 
-  all_on : most_alternatives - a ≡ k + (most_alternatives - l.topa)
+  all_on : most_alternatives - a ≡ k + (most_alternatives - l.top.a)
   all_on = let h = on.heads in let t = laid.top_a in omega arith
 
   pub pushed_laid : Laid after (with_top l a x y)
   pushed_laid =
       let g = (kept laid room_on out).laid in
-      let e = elements_of_append after k (most_alternatives - l.topa) a in
-      let o = options_of_append after k (most_alternatives - l.topa) a in
+      let e = elements_of_append after k (most_alternatives - l.top.a) a in
+      let o = options_of_append after k (most_alternatives - l.top.a) a in
       let h = on.heads in
       let u = on.elements in
       let v = on.options in
@@ -154,7 +154,7 @@ module _ {before after : List ℕ} {l : Sizes} {k a x y : ℕ} (laid : Laid befo
         stack_o = rw all_on (omega arith);
       }
 
-  pub pushed_run : (ws : List ℕ) (end d : ℕ) → StandsIn ws end d after a l.topa x l.tope y l.topo
+  pub pushed_run : (ws : List ℕ) (end d : ℕ) → StandsIn ws end d after a l.top.a x l.top.e y l.top.o
       → Pushed ws end d before after l (with_top l a x y) (records_from ws end d after k a x y)
   unfolding settled stack
   pushed_run ws end d new =
@@ -166,32 +166,32 @@ module _ {before after : List ℕ} {l : Sizes} {k a x y : ℕ} (laid : Laid befo
         laid = pushed_laid;
         settled_same = s.settled_same ws end d;
         stack_more =
-            rw (all_on, runs_append after ws end d k (most_alternatives - l.topa) a x y, h, u, v)
+            rw (all_on, runs_append after ws end d k (most_alternatives - l.top.a) a x y, h, u, v)
             (ap (λ ps. records_from ws end d after k a x y ++ ps) (s.stack_same ws end d));
         all_in = λ all.
             let old = s.all_in ws end d all in
             record {
               heads = λ i n m.
                   ⊎_elim (λ t. old.heads i n (inl t))
-                  (λ t. ⊎_elim (λ c. new.heads i t c) (λ c. old.heads i n (inr c)) (cases_lt i l.topa)) m;
+                  (λ t. ⊎_elim (λ c. new.heads i t c) (λ c. old.heads i n (inr c)) (cases_lt i l.top.a)) m;
               elements = λ i n m.
                   ⊎_elim (λ t. old.elements i n (inl t))
-                  (λ t. ⊎_elim (λ c. new.elements i t c) (λ c. old.elements i n (inr c)) (cases_lt i l.tope)) m;
+                  (λ t. ⊎_elim (λ c. new.elements i t c) (λ c. old.elements i n (inr c)) (cases_lt i l.top.e)) m;
               options = λ i n m.
                   ⊎_elim (λ t. old.options i n (inl t))
-                  (λ t. ⊎_elim (λ c. new.options i t c) (λ c. old.options i n (inr c)) (cases_lt i l.topo)) m;
+                  (λ t. ⊎_elim (λ c. new.options i t c) (λ c. old.options i n (inr c)) (cases_lt i l.top.o)) m;
             };
         long = out.long;
       }
 
 -- One record more on the stack.
 pub record OneOn (bs : List ℕ) (l : Sizes) (a x y n m : ℕ) : Type 0 where
-  pub out_a : l.outa ≤ a
-  pub out_e : l.oute ≤ x
-  pub out_o : l.outo ≤ y
-  pub head : a + 1 ≡ l.topa
-  pub elements : x + n ≡ l.tope
-  pub options : y + m ≡ l.topo
+  pub out_a : l.out.a ≤ a
+  pub out_e : l.out.e ≤ x
+  pub out_o : l.out.o ≤ y
+  pub head : a + 1 ≡ l.top.a
+  pub elements : x + n ≡ l.top.e
+  pub options : y + m ≡ l.top.o
   pub ne_is : half bs (head_at a + 2) ≡ n
   pub no_is : half bs (head_at a + 3) ≡ m
 
@@ -210,7 +210,7 @@ module _ {before after : List ℕ} {l : Sizes} {a x y n m : ℕ} (laid : Laid be
         options = omega arith;
       }
 
-  out_on : Outside before after a l.topa x l.tope y l.topo
+  out_on : Outside before after a l.top.a x l.top.e y l.top.o
   out_on = rw (on.head, on.elements, on.options) at out
 
   pub one_laid : Laid after (with_top l a x y)

@@ -11,7 +11,7 @@ use Rattle.planned.specs.Laws.Runs.{SameHeads, elements_of_same, options_of_same
 use Rattle.planned.specs.Laws.Kept.{kept}
 use Rattle.planned.specs.declared.list.Sizes.{Sizes}
 use Rattle.planned.specs.declared.list.Listed.{Listed}
-use Rattle.planned.specs.declared.read.Cursor.{Cursor}
+use Rattle.planned.specs.declared.list.Cursor.{Cursor}
 
 pub same_refl : (bs : List ℕ) → SameList bs bs
 same_refl bs = record { long = refl; halves = λ j h. refl }
@@ -43,7 +43,7 @@ module _ {before after : List ℕ} (s : SameList before after) where
   module _ {l : Sizes} (laid : Laid before l) where
     pub same_ends : SameEnds before after l l
     same_ends =
-        kept {a = l.outa} {b = l.outa} {x = l.oute} {z = l.oute} {y = l.outo} {w = l.outo} laid
+        kept {a = l.out.a} {b = l.out.a} {x = l.out.e} {z = l.out.e} {y = l.out.o} {w = l.out.o} laid
         (record {
           out_a = omega arith;
           out_e = omega arith;
@@ -73,7 +73,7 @@ module _ {before after : List ℕ} (s : SameList before after) where
 
     -- A position among the settled ones, and those behind it.
     module _ {c : Cursor} (on : OnTrack before l c) where
-      same_heads : (n a : ℕ) → a + n ≤ l.outa → SameHeads before after n a
+      same_heads : (n a : ℕ) → a + n ≤ l.out.a → SameHeads before after n a
       same_heads n a h = record { same = λ j g m. same_half j (omega arith) }
 
       pub same_track : OnTrack after l c
@@ -88,8 +88,8 @@ module _ {before after : List ℕ} (s : SameList before after) where
       pub same_from : (ws : List ℕ) (end d : ℕ) → settled_from ws end d after l c ≡ settled_from ws end d before l c
       unfolding settled_from
       same_from ws end d =
-          let n = l.outa - c.a in
-          let k : c.a + n ≡ l.outa = omega arith in
+          let n = l.out.a - c.a in
+          let k : c.a + n ≡ l.out.a = omega arith in
           let z : 0 + c.a ≡ c.a = omega arith in
           let e = rw (k, z) at (elements_of_append before c.a n 0) in
           let o = rw (k, z) at (options_of_append before c.a n 0) in

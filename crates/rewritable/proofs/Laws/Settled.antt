@@ -19,10 +19,11 @@ use Rattle.analysis.specs.Survey.{View, reading}
 use Rattle.planned.specs.Layout.{meaning, settled, records_from}
 use Rattle.planned.specs.List.{ListedIn, AllIn}
 use Rattle.planned.specs.Reading.{settled_from, OnTrack, AtFront, ReadNext}
+use Rattle.planned.specs.Laws.Ahead.{at_front}
 use Rattle.planned.specs.Laws.Runs.{run_count}
 use Rattle.planned.specs.declared.list.Sizes.{Sizes}
 use Rattle.planned.specs.declared.list.Listed.{Listed}
-use Rattle.planned.specs.declared.read.Cursor.{Cursor}
+use Rattle.planned.specs.declared.list.Cursor.{Cursor}
 use Rattle.rewritable.specs.Walks.{Agreeing}
 use Rattle.rewritable.specs.Judge.{FitAs, AreJudged, VerdictOf, JudgedOf}
 use Rattle.rewritable.specs.declared.judge.Verdict.{Verdict}
@@ -119,12 +120,12 @@ module _ (c : Corners) (g : Grammar) (ids : List ℕ) (n : ℕ) (cycle : List �
         }
 
 -- Reading one brings the end nearer.
-next_place : {bs : List ℕ} {l : Sizes} {c : Cursor} {x : Listed} {next : Cursor} → ReadNext bs l c x next → c.a < l.outa → next.a ≡ c.a + 1
+next_place : {bs : List ℕ} {l : Sizes} {c : Cursor} {x : Listed} {next : Cursor} → ReadNext bs l c x next → c.a < l.out.a → next.a ≡ c.a + 1
 unfolding settled_from
 next_place {bs} {l} {c} {x} {next} n low =
     let e = ap length (n.first [] 0 0) in
-    let a = run_count bs [] 0 0 (l.outa - c.a) c.a c.e c.o in
-    let b = run_count bs [] 0 0 (l.outa - next.a) next.a next.e next.o in
+    let a = run_count bs [] 0 0 (l.out.a - c.a) c.a c.e c.o in
+    let b = run_count bs [] 0 0 (l.out.a - next.a) next.a next.e next.o in
     let w = n.on.within in
     omega arith
 
@@ -140,7 +141,7 @@ module _ (v : View) (members : List ℕ) (hub : ℕ) (ws : List ℕ) (end d : �
 
   pub judge_none : AllIn ws end d bs l → {c : Cursor} → AtFront c → Judging 0 c false false (replicate 2 0)
   judge_none a {c} f =
-      let none : Sizes = record { outa = 0; oute = 0; outo = 0; topa = 0; tope = 0; topo = 0 } in
+      let none : Sizes = record { out = record { a = 0; e = 0; o = 0 }; top = record { a = 0; e = 0; o = 0 } } in
       let w = (f.on bs none).within in
       record {
         at = omega arith;
@@ -159,15 +160,15 @@ module _ (v : View) (members : List ℕ) (hub : ℕ) (ws : List ℕ) (end d : �
     pub judge_on : OnTrack bs l c
     judge_on = g.on
 
-    pub judge_low : k < l.outa → c.a < l.outa
+    pub judge_low : k < l.out.a → c.a < l.out.a
     judge_low h = let e = g.at in omega arith
 
-    pub judge_all : l.outa ≤ k → {b : Bool} → b ≡ (primary && recursive) → {r : Opt (List ℕ)} → r ≡ then_some b row
+    pub judge_all : l.out.a ≤ k → {b : Bool} → b ≡ (primary && recursive) → {r : Opt (List ℕ)} → r ≡ then_some b row
         → JudgedOf v members hub d (settled ws end d bs l) r
     unfolding settled_from records_from
     judge_all p {b} both is =
         let none : settled_from ws end d bs l c ≡ [] =
-        ap (λ k. records_from ws end d bs k c.a c.e c.o) (let z : l.outa - c.a ≡ 0 = let e = g.at in omega arith in z) in
+        ap (λ k. records_from ws end d bs k c.a c.e c.o) (let z : l.out.a - c.a ≡ 0 = let e = g.at in omega arith in z) in
         record { by = λ w cycle r. left_done _ _ _ _ _ _ _ _ (g.by w cycle r) none b both is }
 
     module _ {x : Listed} {next : Cursor} (n : ReadNext bs l c x next) where
@@ -180,7 +181,7 @@ module _ (v : View) (members : List ℕ) (hub : ℕ) (ws : List ℕ) (end d : �
           rw e
           (record { by = λ w cycle m. left_stop _ _ _ _ _ _ _ _ (g.by w cycle m) (n.first ws end d) ((y.by w cycle m).unfit refl) })
 
-      pub judge_more : k < l.outa → {r : Verdict} → VerdictOf v members hub d (meaning ws end d bs x).elements (Some r)
+      pub judge_more : k < l.out.a → {r : Verdict} → VerdictOf v members hub d (meaning ws end d bs x).elements (Some r)
           → {more : List ℕ} → Union row r.calls more → Judging (k + 1) next (primary || not r.recursive) (recursive || r.recursive) more
       judge_more h {r} y u =
           record {
@@ -190,4 +191,4 @@ module _ (v : View) (members : List ℕ) (hub : ℕ) (ws : List ℕ) (end d : �
             by = λ w cycle m. left_more _ _ _ _ _ _ _ _ (g.by w cycle m) (n.first ws end d) ((y.by w cycle m).fit r refl) u;
           }
 
-pub ruleset judging = (judge_none, judge_on, judge_low, judge_all, judge_listed, judge_stop, judge_more)
+pub ruleset judging = (at_front, judge_none, judge_on, judge_low, judge_all, judge_listed, judge_stop, judge_more)

@@ -32,15 +32,7 @@ no_ids_is p q r s t i = record { alternatives = p i; elements = q i; labels = r 
 
 pub element_sized : {ws : List ℕ} {end : ℕ} (d : ℕ) {at p : ℕ} {none t : Tally} → none ≡ no_ids
     → ElementWalked counting ws end d at none p t → ids_in t ≤ p → end ≤ most_words
-    → ElementSized ws end d at
-    (record {
-      alternatives = t.alternatives;
-      elements = t.elements;
-      labels = t.labels;
-      actions = t.actions;
-      predicates = t.predicates;
-      words = p - at;
-    })
+    → ElementSized ws end d at (record { tally = t; words = p - at })
 element_sized {ws} {end} d {at} {p} {none} {t} z walked few low =
     let w = rw z at walked in
     record {

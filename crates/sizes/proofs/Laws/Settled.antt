@@ -17,32 +17,36 @@ use Rattle.planned.specs.Reading.{settled_from, OnTrack, AtFront, ReadNext}
 use Rattle.planned.specs.Laws.Counts.{elements_all, options_all, alternatives_in_lem, elements_in_lem, options_in_lem}
 use Rattle.planned.specs.Laws.Items.{unmarked, is_marked_lem}
 use Rattle.planned.specs.Laws.Shown.{elements_many, options_many}
-use Rattle.planned.specs.Laws.Ahead.{all_ahead, one_ahead}
+use Rattle.planned.specs.Laws.Ahead.{at_front, all_ahead, one_ahead}
 use Rattle.planned.specs.Shown.{meant}
 use Rattle.planned.specs.declared.list.Sizes.{Sizes}
 use Rattle.planned.specs.declared.list.Listed.{Listed}
-use Rattle.planned.specs.declared.read.Cursor.{Cursor}
+use Rattle.planned.specs.declared.list.Cursor.{Cursor}
 use Rattle.planned.specs.declared.shown.Shown.{Shown}
-use Rattle.sizes.specs.Tally.{behind}
+use Rattle.sizes.specs.Tally.{no_ids, behind}
 use Rattle.sizes.specs.Sized.{Under, no_size, plus, ElementsSized, most_of, AlternativeSized, Measured}
 use Rattle.sizes.specs.declared.sums.Measure.{Measure}
+use Rattle.sizes.specs.declared.tally.Tally.{Tally}
 use Rattle.sizes.proofs.Laws.Renumber.{same_counters}
 use Rattle.sizes.proofs.Laws.Lengths.{words_of, copies_length}
 use Rattle.sizes.proofs.Laws.Sums.{none_is, Summing, summing_all, summing_done, summing_more, under_sum, under_more, under_none}
 
 module _ (d : ℕ) (p : Planned d) {m : Measure} (s : ElementsSized d p.elements m) (w : ℕ)
     (e : w ≡ 5 + 2 * length p.options + m.words) where
+  abbrev one_more : Tally
+  one_more =
+      record {
+        alternatives = m.tally.alternatives + 1;
+        elements = m.tally.elements;
+        labels = m.tally.labels;
+        actions = m.tally.actions;
+        predicates = m.tally.predicates;
+      }
+
   -- A new one: its own id, and its copies.
   new_sized : p.verbatim ≡ false
       → AlternativeSized d p
-      (record {
-        alternatives = m.alternatives + 1;
-        elements = m.elements;
-        labels = m.labels;
-        actions = m.actions;
-        predicates = m.predicates;
-        words = w;
-      })
+      (record { tally = one_more; words = w })
   unfolding apply_alternative renumber_elements behind
   new_sized f =
       let new : (c : Counters) → apply_alternative d p c ≡ apply_new d p c = λ c. rw f refl in
@@ -70,7 +74,7 @@ module _ (d : ℕ) (p : Planned d) {m : Measure} (s : ElementsSized d p.elements
 
   -- One that is as it was: its words alone.
   kept_sized : p.verbatim ≡ true
-      → AlternativeSized d p (record { alternatives = 0; elements = 0; labels = 0; actions = 0; predicates = 0; words = w })
+      → AlternativeSized d p (record { tally = no_ids; words = w })
   unfolding apply_alternative behind
   kept_sized f =
       let kept : (c : Counters) → apply_alternative d p c ≡ record { node = placed d p.origin p.elements p; counters = c; entries = [] } =
@@ -97,11 +101,13 @@ module _ (a : Shown) {m : Measure} (s : ElementsSized inner_depth (meant a).elem
   pub listed_new : a.x.slot < marked
       → AlternativeSized inner_depth (meant a)
       (record {
-        alternatives = m.alternatives + 1;
-        elements = m.elements;
-        labels = m.labels;
-        actions = m.actions;
-        predicates = m.predicates;
+        tally = record {
+          alternatives = m.tally.alternatives + 1;
+          elements = m.tally.elements;
+          labels = m.tally.labels;
+          actions = m.tally.actions;
+          predicates = m.tally.predicates;
+        };
         words = 5 + 2 * a.x.no + m.words;
       })
   unfolding meaning
@@ -109,12 +115,11 @@ module _ (a : Shown) {m : Measure} (s : ElementsSized inner_depth (meant a).elem
       new_sized inner_depth (meant a) s (5 + 2 * a.x.no + m.words) (let z = options_many a in omega arith)
       (unmarked h)
 
-  pub listed_kept : marked ≤ a.x.slot → {t e l c p : ℕ} → t ≡ 0 → e ≡ 0 → l ≡ 0 → c ≡ 0 → p ≡ 0
-      → AlternativeSized inner_depth (meant a)
-      (record { alternatives = t; elements = e; labels = l; actions = c; predicates = p; words = 5 + 2 * a.x.no + m.words })
+  pub listed_kept : marked ≤ a.x.slot → {t : Tally} → t ≡ no_ids
+      → AlternativeSized inner_depth (meant a) (record { tally = t; words = 5 + 2 * a.x.no + m.words })
   unfolding meaning
-  listed_kept h i j k n o =
-      rw (i, j, k, n, o)
+  listed_kept h none =
+      rw none
       (kept_sized inner_depth (meant a) s (5 + 2 * a.x.no + m.words) (let z = options_many a in omega arith)
       (is_marked_lem h))
 
@@ -130,7 +135,7 @@ most_of_all d ps = most_words * elements_all ps + 2 * options_all ps + 5 * lengt
 module _ (ws : List ℕ) (end d : ℕ) (bs : List ℕ) (l : Sizes) where
   pub record Measuring (i : ℕ) (c : Cursor) (m : Measure) : Type 0 where
     pub on : OnTrack bs l c
-    pub place : l.outa - c.a ≡ l.outa - i
+    pub place : l.out.a - c.a ≡ l.out.a - i
     pub listed : AllIn ws end d bs l
     pub sum : Summing (encode_alternative (encode_block d)) (apply_alternative d) (settled ws end d bs l) (settled_from ws end d bs l c) m
     pub most : ℕ
@@ -155,17 +160,17 @@ module _ (ws : List ℕ) (end d : ℕ) (bs : List ℕ) (l : Sizes) where
       }
 
   module _ {i : ℕ} {c : Cursor} {m : Measure} (g : Measuring i c m) where
-    pub measuring_before : i < l.outa → c.a < l.outa
+    pub measuring_before : i < l.out.a → c.a < l.out.a
     measuring_before h = let z = g.place in omega arith
 
     pub measuring_on : OnTrack bs l c
     measuring_on = g.on
 
-    pub measuring_all : l.outa ≤ i → Measured d (settled ws end d bs l) m
+    pub measuring_all : l.out.a ≤ i → Measured d (settled ws end d bs l) m
     unfolding settled_from records_from
     measuring_all p =
         let none : settled_from ws end d bs l c ≡ [] =
-        ap (λ k. records_from ws end d bs k c.a c.e c.o) (let z = g.place in let y : l.outa - c.a ≡ 0 = omega arith in y) in
+        ap (λ k. records_from ws end d bs k c.a c.e c.o) (let z = g.place in let y : l.out.a - c.a ≡ 0 = omega arith in y) in
         record {
           is = summing_done (encode_alternative (encode_block d)) (apply_alternative d) g.sum none;
           few = let r = g.room in under_more g.few (omega arith);
@@ -189,7 +194,7 @@ module _ (ws : List ℕ) (end d : ℕ) (bs : List ℕ) (l : Sizes) where
         pub measuring_one : Under k (2 ^ 32)
         measuring_one = let r = room_here in under_more s.few (omega arith)
 
-        pub measuring_more : i < l.outa → {r : Measure} → r ≡ plus m k → Measuring (i + 1) next r
+        pub measuring_more : i < l.out.a → {r : Measure} → r ≡ plus m k → Measuring (i + 1) next r
         measuring_more h {r} e =
             record {
               on = n.on;
@@ -202,4 +207,4 @@ module _ (ws : List ℕ) (end d : ℕ) (bs : List ℕ) (l : Sizes) where
             }
 
 pub ruleset measuring =
-    (none_is, measuring_none, measuring_before, measuring_on, measuring_all, measuring_under, measuring_listed, measuring_located, measuring_one, measuring_more)
+    (none_is, at_front, measuring_none, measuring_before, measuring_on, measuring_all, measuring_under, measuring_listed, measuring_located, measuring_one, measuring_more)

@@ -8,17 +8,21 @@ use Rattle.grammar.specs.Tree.{Counters}
 use Rattle.grammar.specs.Lists.{each}
 use Rattle.reference.specs.Apply.{Fresh, fresh_each}
 use Rattle.sizes.specs.Tally.{behind}
-use Rattle.sizes.specs.Sized.{tally_of, Sized, Under, no_size, plus}
+use Rattle.sizes.specs.Sized.{Sized, Under, no_size, plus}
 use Rattle.sizes.specs.declared.sums.Measure.{Measure}
 use Rattle.sizes.proofs.Laws.Renumber.{same_counters}
 
-same_measure : (a b : Measure) → a.alternatives ≡ b.alternatives → a.elements ≡ b.elements → a.labels ≡ b.labels
-    → a.actions ≡ b.actions → a.predicates ≡ b.predicates → a.words ≡ b.words → a ≡ b
+same_measure : (a b : Measure) → a.tally.alternatives ≡ b.tally.alternatives → a.tally.elements ≡ b.tally.elements
+    → a.tally.labels ≡ b.tally.labels → a.tally.actions ≡ b.tally.actions → a.tally.predicates ≡ b.tally.predicates → a.words ≡ b.words
+    → a ≡ b
 same_measure a b p q r s t u i =
-    record { alternatives = p i; elements = q i; labels = r i; actions = s i; predicates = t i; words = u i }
+    record {
+      tally = record { alternatives = p i; elements = q i; labels = r i; actions = s i; predicates = t i };
+      words = u i;
+    }
 
-pub none_is : {m : Measure} → m.alternatives ≡ 0 → m.elements ≡ 0 → m.labels ≡ 0 → m.actions ≡ 0 → m.predicates ≡ 0 → m.words ≡ 0
-    → m ≡ no_size
+pub none_is : {m : Measure} → m.tally.alternatives ≡ 0 → m.tally.elements ≡ 0 → m.tally.labels ≡ 0 → m.tally.actions ≡ 0
+    → m.tally.predicates ≡ 0 → m.words ≡ 0 → m ≡ no_size
 none_is {m} p q r s t u = same_measure m no_size p q r s t u
 
 plus_none : (m : Measure) → plus m no_size ≡ m
@@ -50,7 +54,7 @@ module _ {A B : Type 0} (enc : B → List ℕ) (f : A → Counters → Fresh B) 
   sized_more a as' {m} {n} x y =
       record {
         counters = λ c.
-            y.counters (f a c).counters ∙ ap (λ z. behind z (tally_of n)) (x.counters c)
+            y.counters (f a c).counters ∙ ap (λ z. behind z n.tally) (x.counters c)
             ∙ same_counters _ _ (omega arith) (omega arith) (omega arith) (omega arith) (omega arith);
         entries = λ c.
             let r = fresh_each f as' (f a c).counters in

@@ -11,7 +11,7 @@ use Rattle.grammar.specs.Tree.{OptionDecl}
 use Rattle.grammar.specs.Found.{FoundAlternative}
 use Rattle.reference.specs.Substitute.{union_options}
 use Rattle.planned.specs.Layout.{half, option_of, options_from}
-use Rattle.planned.specs.Halves.{HalvesMoved, Apart}
+use Rattle.planned.specs.Halves.{HalvesMoved}
 use Rattle.splices.specs.Options.{meets, standing_options, OptionsIn, NewPut, NonePut, PutIfNew, UnionFits, OptionsFit, OptionsPut}
 use Rattle.splices.specs.Places.{OptionCount}
 use Rattle.planned.specs.Laws.Parts.{Copied, options_copied, options_count}
@@ -193,9 +193,6 @@ module _ {ws : List ℕ} {end d at : ℕ} {before : List ℕ} {h : Listed} {to :
       own_room : FoundAlternative ws end d at → at + 5 + 2 * get_or ws (at + 3) 0 ≤ end
       own_room f = (option_counted d f refl).room
 
-  pub copy_apart : Apart h.o to h.no
-  copy_apart = record { apart = λ l. let r = copy_front in omega arith }
-
   module _ {mid : List ℕ} (p : HalvesMoved before mid h.o to h.no) where
     copy_same : (i : ℕ) → i < h.no → half mid (h.o + i) ≡ half before (h.o + i)
     copy_same i l = let r = copy_front in p.behind (h.o + i) (omega arith)
@@ -231,4 +228,4 @@ module _ {ws : List ℕ} {end d at : ℕ} {before : List ℕ} {h : Listed} {to :
             let e = g.past in
             omega arith
 
-pub ruleset copying_first = (copy_apart, copy_in, copy_fit, copy_first, copy_done)
+pub ruleset copying_first = (copy_in, copy_fit, copy_first, copy_done)

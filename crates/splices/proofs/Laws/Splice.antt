@@ -30,7 +30,7 @@ each_length f (x ∷ xs) bs e =
 module _ (d : ℕ) {ws : List ℕ} {end at : ℕ} {h : Listed} {index a e o : ℕ} {l : Sizes} {before : List ℕ} (laid : Laid before l)
     (room : HasRoom l a e o) where
   splice_fits : Found ws end (encode_rule (encode_block (suc d))) (ok_rule (ok_block (suc d))) at → Spliceable ws end d at before h index a e o
-      → AllFit ws end d h index a (at + 4) before (l.topa - a) (l.tope - e) (l.topo - o) l.tope l.topo
+      → AllFit ws end d h index a (at + 4) before (l.top.a - a) (l.top.e - e) (l.top.o - o) l.top.e l.top.o
   splice_fits f s =
       let t = s.is f.tree f.next f.spans in
       let w = rule_words_lem d f.spans in
@@ -53,8 +53,8 @@ module _ (d : ℕ) {ws : List ℕ} {end at : ℕ} {h : Listed} {index a e o : �
       }
 
   module _ {after : List ℕ}
-      (g : AllPut ws end d h index a (at + 4) before after (l.topa - a) (l.tope - e) (l.topo - o) l.tope l.topo) where
-    splice_pushed : PushedSplice ws end d at before after l (with_top l (l.topa - a) (l.tope - e) (l.topo - o)) h index a e o
+      (g : AllPut ws end d h index a (at + 4) before after (l.top.a - a) (l.top.e - e) (l.top.o - o) l.top.e l.top.o) where
+    splice_pushed : PushedSplice ws end d at before after l (with_top l (l.top.a - a) (l.top.e - e) (l.top.o - o)) h index a e o
     splice_pushed =
         record {
           is = pushed;
@@ -63,7 +63,7 @@ module _ (d : ℕ) {ws : List ℕ} {end at : ℕ} {h : Listed} {index a e o : �
       where
         pushed : (t : RuleOf (Block (suc d))) (q : ℕ) → RuleSpans ws end (suc d) at t q
             → (s : SplicedTo d (meaning ws end d before h) index t.body a e o)
-            → Pushed ws end d before after l (with_top l (l.topa - a) (l.tope - e) (l.topo - o)) s.ps
+            → Pushed ws end d before after l (with_top l (l.top.a - a) (l.top.e - e) (l.top.o - o)) s.ps
         pushed t q r s =
             let w = rule_words_lem d r in
             let c = each_length (splice_alternative d (meaning ws end d before h) index) t.body s.ps s.are in
@@ -71,9 +71,9 @@ module _ (d : ℕ) {ws : List ℕ} {end at : ℕ} {h : Listed} {index a e o : �
             let v = s.elements in
             let x = s.options in
             let m = g.meant t.body q w.alternatives (omega arith) s.ps s.are in
-            let es = rw m at (run_elements after ws end d a (l.topa - a) (l.tope - e) (l.topo - o)) in
-            let os = rw m at (run_options after ws end d a (l.topa - a) (l.tope - e) (l.topo - o)) in
-            let z : l.topa - a + a ≡ l.topa = omega arith in
+            let es = rw m at (run_elements after ws end d a (l.top.a - a) (l.top.e - e) (l.top.o - o)) in
+            let os = rw m at (run_options after ws end d a (l.top.a - a) (l.top.e - e) (l.top.o - o)) in
+            let z : l.top.a - a + a ≡ l.top.a = omega arith in
             rw m at (pushed_run laid
             (record {
               out_a = omega arith;
@@ -88,11 +88,11 @@ module _ (d : ℕ) {ws : List ℕ} {end at : ℕ} {h : Listed} {index a e o : �
 -- At the depth of a rule's own alternatives.
 pub rule_fits : {ws : List ℕ} {end at : ℕ} {h : Listed} {index a e o : ℕ} {l : Sizes} {before : List ℕ} → Laid before l → HasRoom l a e o
     → FoundRule ws end at → Spliceable ws end inner_depth at before h index a e o
-    → AllFit ws end 8 h index a (at + 4) before (l.topa - a) (l.tope - e) (l.topo - o) l.tope l.topo
+    → AllFit ws end 8 h index a (at + 4) before (l.top.a - a) (l.top.e - e) (l.top.o - o) l.top.e l.top.o
 rule_fits laid room f s = splice_fits 8 laid room f s
 
 pub rule_pushed : {l : Sizes} {before : List ℕ} {a e o : ℕ} → Laid before l → HasRoom l a e o → {ws : List ℕ} {end at : ℕ} {h : Listed}
-    {index : ℕ} {r : Sizes} {after : List ℕ} → r ≡ with_top l (l.topa - a) (l.tope - e) (l.topo - o)
-    → AllPut ws end 8 h index a (at + 4) before after (l.topa - a) (l.tope - e) (l.topo - o) l.tope l.topo
+    {index : ℕ} {r : Sizes} {after : List ℕ} → r ≡ with_top l (l.top.a - a) (l.top.e - e) (l.top.o - o)
+    → AllPut ws end 8 h index a (at + 4) before after (l.top.a - a) (l.top.e - e) (l.top.o - o) l.top.e l.top.o
     → PushedSplice ws end inner_depth at before after l r h index a e o
 rule_pushed laid room is g = rw is (splice_pushed 8 laid room g)

@@ -12,10 +12,10 @@ use Rattle.reference.specs.Apply.{fresh_each, apply_alternative}
 use Rattle.planned.specs.Layout.{meaning, records_from}
 use Rattle.planned.specs.List.{Laid, AllIn}
 use Rattle.planned.specs.Reading.{settled_from, OnTrack, AtFront}
-use Rattle.planned.specs.Laws.Ahead.{all_ahead, one_ahead}
+use Rattle.planned.specs.Laws.Ahead.{at_front, all_ahead, one_ahead}
 use Rattle.planned.specs.declared.list.Sizes.{Sizes}
 use Rattle.planned.specs.declared.list.Listed.{Listed}
-use Rattle.planned.specs.declared.read.Cursor.{Cursor}
+use Rattle.planned.specs.declared.list.Cursor.{Cursor}
 use Rattle.writing.specs.Taken.{counters_of}
 use Rattle.copies.specs.Pen.{Fits, Drew}
 use Rattle.copies.specs.declared.pen.Pen.{Pen}
@@ -38,7 +38,7 @@ module _ (ws : List ℕ) (end d : ℕ) (l : Sizes) (b₀ t₀ : List ℕ) (p₀ 
     pub laid : Laid b l
     pub all_in : AllIn ws end d b l
     pub on : OnTrack b l c
-    pub place : l.outa - c.a ≡ l.outa - i
+    pub place : l.out.a - c.a ≡ l.out.a - i
     pub fits : Fits (each enc) (fresh_each (apply_alternative d) (left b c) (counters_of p.counters)) b t p
     pub done : (b' t' : List ℕ) (p' : Pen)
         → Drew (each enc) (fresh_each (apply_alternative d) (left b c) (counters_of p.counters)) b b' t t' p p'
@@ -64,7 +64,7 @@ module _ (ws : List ℕ) (end d : ℕ) (l : Sizes) (b₀ t₀ : List ℕ) (p₀ 
       }
 
   module _ {b t : List ℕ} {i : ℕ} {c : Cursor} {p : Pen} (g : Listing b t i c p) where
-    pub list_before : i < l.outa → c.a < l.outa
+    pub list_before : i < l.out.a → c.a < l.out.a
     list_before h = let z = g.place in omega arith
 
     pub list_low : compose_at ≤ p.to
@@ -82,11 +82,11 @@ module _ (ws : List ℕ) (end d : ℕ) (l : Sizes) (b₀ t₀ : List ℕ) (p₀ 
     pub list_trail : length t ≡ length t₀
     list_trail = g.trail_long
 
-    pub list_all : l.outa ≤ i → ListDrawn ws end d b₀ l b t₀ t p₀ p
+    pub list_all : l.out.a ≤ i → ListDrawn ws end d b₀ l b t₀ t p₀ p
     unfolding settled_from records_from
     list_all h =
         let none : left b c ≡ [] =
-        ap (λ k. records_from ws end d b k c.a c.e c.o) (let z = g.place in let y : l.outa - c.a ≡ 0 = omega arith in y) in
+        ap (λ k. records_from ws end d b k c.a c.e c.o) (let z = g.place in let y : l.out.a - c.a ≡ 0 = omega arith in y) in
         record {
           drew =
               g.done b t p
@@ -112,7 +112,7 @@ module _ (ws : List ℕ) (end d : ℕ) (l : Sizes) (b₀ t₀ : List ℕ) (p₀ 
                 fits_first enc (apply_alternative d) (meaning ws end d b x) (left b next) (counters_of p.counters) (grows_apply d) opened;
           }
 
-      pub list_more : i < l.outa → {b' t' : List ℕ} {p' : Pen} → AlternativeDrawn ws end d b x b' t t' p p'
+      pub list_more : i < l.out.a → {b' t' : List ℕ} {p' : Pen} → AlternativeDrawn ws end d b x b' t t' p p'
           → Listing b' t' (i + 1) next p'
       list_more h {b'} {t'} {p'} a =
           let k = a.drew in
@@ -139,7 +139,7 @@ module _ (ws : List ℕ) (end d : ℕ) (l : Sizes) (b₀ t₀ : List ℕ) (p₀ 
 
 pub ruleset listed = (list_before, list_low, list_laid, list_on, list_long, list_trail, list_readable, list_fits)
 
-pub ruleset listing = (list_none, list_all, list_more, listed)
+pub ruleset listing = (at_front, list_none, list_all, list_more, listed)
 
 -- For blocks that nest as deep as in a rule.
 module _ {ws : List ℕ} {end : ℕ} {b : List ℕ} {l : Sizes} {t : List ℕ} {p : Pen} where

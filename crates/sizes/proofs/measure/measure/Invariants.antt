@@ -1,5 +1,5 @@
-use Rattle.words.specs.Sheet.{text}
 use Rattle.grammar.specs.Tree.{inner_depth}
+use Rattle.words.specs.Sheet.{text}
 use Rattle.sizes.proofs.Laws.Settled.{Measuring}
 use Rattle.sizes.proofs.measure.measure.Given as goal
 

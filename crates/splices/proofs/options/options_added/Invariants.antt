@@ -1,5 +1,5 @@
-use Rattle.words.specs.Sheet.{text}
 use Rattle.grammar.specs.Tree.{inner_depth}
+use Rattle.words.specs.Sheet.{text}
 use Rattle.planned.specs.Layout.{options_from}
 use Rattle.splices.proofs.Laws.OptionsAdded.{Adding}
 use Rattle.splices.proofs.options.options_added.Given as goal
