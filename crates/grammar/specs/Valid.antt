@@ -5,7 +5,7 @@ use Rattle.grammar.specs.Numbers.{lexer, combined, one_or_more_nongreedy, non_lo
 use Rattle.grammar.specs.Numbers.{word_end}
 use Rattle.grammar.specs.Lists.{all, rising}
 use Rattle.grammar.specs.Form.{Form, newest}
-use Rattle.grammar.specs.Tree.{OptionDecl, Reference, Label, unlabelled, labelled, ElementHead, Leaf, epsilon, action, predicate}
+use Rattle.grammar.specs.Tree.{OptionDecl, Reference, Label, unlabelled, labelled, ElementHead, Call, Leaf, epsilon, action, predicate}
 use Rattle.grammar.specs.Tree.{call, token, terminal, end_of_input, Element, leaf, block, AlternativeOf, Block, RuleOf, Rule, body_depth}
 use Rattle.grammar.specs.Tree.{Sheet}
 use Rattle.grammar.specs.Encode.{encode_in}
@@ -25,12 +25,15 @@ ok_label (labelled i n) = is_name n
 unfoldable pub ok_head : ElementHead → Bool
 ok_head h = leb h.quantifier one_or_more_nongreedy && (ok_label h.label && all ok_option h.options)
 
--- A form without precedences holds only calls that have none.
+-- The form has a place for a call's precedence, or there is none.
+abbrev pub has_place : Form → Call → Bool
+has_place f c = f.precedences || eqb c.precedence 0
+
 unfoldable pub ok_leaf_in : Form → Leaf → Bool
 ok_leaf_in f epsilon = true
 ok_leaf_in f (action a) = all ok_reference a.references
 ok_leaf_in f (predicate p) = all ok_reference p.references
-ok_leaf_in f (call c) = (f.precedences || eqb c.precedence 0) && is_name c.name
+ok_leaf_in f (call c) = has_place f c && is_name c.name
 ok_leaf_in f (token n) = is_name n
 ok_leaf_in f terminal = true
 ok_leaf_in f end_of_input = true

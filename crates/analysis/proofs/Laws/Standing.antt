@@ -5,6 +5,7 @@ use mathlib.Core.List.{List, [], ◌∷◌, ◌++◌, map, map-id}
 use mathlib.Core.Bool.{true}
 use native.Mathlib.Omega.{arith}
 use lib.ListN.{length, get_or, length-map, get_or-append}
+use Rattle.grammar.specs.Form.{newest}
 use Rattle.grammar.specs.Numbers.{rule_limit}
 use Rattle.grammar.specs.Tree.{Rule, body_depth, inner_depth}
 use Rattle.grammar.specs.Encode.{encode_rule, encode_block}
@@ -104,7 +105,7 @@ module _ {ws : List ℕ} {end : ℕ} {rules : Rules} (f : FoundRows ws end rules
         record { tree = a.rule; next = s.0; spans = rw e s.1 }
 
     pub place_room : at + 4 ≤ end
-    place_room = rule_room inner_depth place_found
+    place_room = rule_room newest inner_depth place_found
 
 -- The array of names is as long as there may be rules.
 pub names_long : {ws : List ℕ} {end : ℕ} {rules : Rules} → Standing ws end rules → length rules.names ≡ rule_limit

@@ -1,5 +1,5 @@
 -- A tree that stands at a place, taken apart: the words of its head, and where its parts stand.
-use Rattle.std.specs.Prelude.{ℕ, suc, ◌+◌, ◌-◌, ◌*◌, ◌≤◌, ◌≡◌, refl, List, [], ◌∷◌, Bool, true, false, ◌||◌, length, get_or, leb, eqb}
+use Rattle.std.specs.Prelude.{ℕ, suc, ◌+◌, ◌-◌, ◌*◌, ◌≤◌, ◌≡◌, refl, List, [], ◌∷◌, Bool, true, false, length, get_or, leb}
 use Rattle.std.proofs.Common.{sym, ◌∙◌, arith, length-append}
 use Rattle.std.specs.Cmp.{first_so, second_so}
 use Rattle.grammar.specs.Numbers.{most_rule_flags, most_alternative_flag, block_kind, kind_end}
@@ -11,7 +11,7 @@ use Rattle.grammar.specs.Encode.{encode_alternative_in, encode_block_in, encode_
 use Rattle.grammar.specs.Lists.{each, all, only}
 use Rattle.grammar.specs.Form.{Form, newest, call_words}
 use Rattle.grammar.specs.Read.{is_name}
-use Rattle.grammar.specs.Valid.{ok_head, ok_leaf_in, ok_element_in, ok_alternative_in, ok_block_in, ok_option, ok_rule}
+use Rattle.grammar.specs.Valid.{has_place, ok_head, ok_leaf_in, ok_element_in, ok_alternative_in, ok_block_in, ok_option, ok_rule}
 use Rattle.grammar.specs.Found.{Found, FoundMany, ElementSpansIn, AlternativeSpansIn, RuleSpansIn}
 use Rattle.grammar.specs.Laws.Stands.{stands_length, stands_split, stands_head, run_stands}
 
@@ -189,7 +189,7 @@ rule_words_lem d {at = at} {r} s =
 -- A good call has a name.
 pub call_named : (form : Form) (c : Call) → ok_leaf_in form (call c) ≡ true → is_name c.name ≡ true
 unfolding ok_leaf_in
-call_named form c fine = second_so (form.precedences || eqb c.precedence 0) (is_name c.name) fine
+call_named form c fine = second_so (has_place form c) (is_name c.name) fine
 
 -- The words of a call.
 pub record CallStands (form : Form) (ws : List ℕ) (end at : ℕ) (c : Call) (q : ℕ) : Type 0 where

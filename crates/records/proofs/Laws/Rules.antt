@@ -6,11 +6,12 @@ use native.Mathlib.Omega.{arith}
 use lib.ListN.{length, get_or, set, replicate, length-append, length-map, length-replicate}
 use lib.Seq.{set-append_seam}
 use borrow.Author.Tests.{eq-eqb, ne_eqb}
+use Rattle.grammar.specs.Form.{newest}
 use Rattle.grammar.specs.Stands.{Stands}
 use Rattle.grammar.specs.Tree.{Rule, body_depth}
 use Rattle.grammar.specs.Parse.{Got, got, bad, ◌then◌}
 use Rattle.grammar.specs.Encode.{encode_rule, encode_rules, encode_block}
-use Rattle.grammar.specs.Read.{rule_at, block_at, rules_at}
+use Rattle.grammar.specs.Read.{rule_at, block_at, rules_at, rules_at_in}
 use Rattle.grammar.specs.Numbers.{rule_limit}
 use Rattle.grammar.specs.Ids.{rule_ids, rule_names}
 use Rattle.grammar.specs.Laws.Stands.{stands_length, stands_head}
@@ -116,12 +117,12 @@ module _ {ws : List ℕ} {end at : ℕ} {rules : Rules} (f : SoFar ws end at rul
   module _ (no : at ≡ end → ⊥) where
     step_open : (m : ℕ) → rules_at ws end (suc m) at
         ≡ (rule_at ws end (block_at ws end body_depth) at then λ r p. rules_at ws end m p then λ rs q. got (r ∷ rs) q)
-    unfolding rules_at
-    step_open m = rw (ne_eqb at end no, rules_at)
+    unfolding rules_at_in
+    step_open m = rw (ne_eqb at end no, rules_at_in)
 
     pub full_bad : rules.n ≡ rule_limit → rules_at ws end rule_limit 0 ≡ bad
-    unfolding rules_at
-    full_bad e = all_bad (let z : rule_limit - rules.n ≡ 0 = omega arith in rw (z, ne_eqb at end no, rules_at))
+    unfolding rules_at_in
+    full_bad e = all_bad (let z : rule_limit - rules.n ≡ 0 = omega arith in rw (z, ne_eqb at end no, rules_at_in))
 
     module _ (h : rules.n ≡ rule_limit → ⊥) where
       left_over : rule_limit - rules.n ≡ suc (rule_limit - (rules.n + 1))
@@ -145,7 +146,7 @@ module _ {ws : List ℕ} {end at : ℕ} {rules : Rules} (f : SoFar ws end at rul
       more_so_far {s} {p} {w} {v} {more} e t x y m =
           let g = next_got (rule_at ws end (block_at ws end body_depth) at) p (sym e ∙ t) in
           let r = g.0 in
-          let u = yields_got (rule_sound ws end _ _ _ (block_sound ws end body_depth) at f.within) g.1 in
+          let u = yields_got (rule_sound newest ws end _ _ _ (block_sound newest ws end body_depth) at f.within) g.1 in
           let l = stands_length u.stands in
           let q = rule_words_lem r u.stands in
           let c = m.count in
@@ -166,15 +167,15 @@ module _ {ws : List ℕ} {end at : ℕ} {rules : Rules} (f : SoFar ws end at rul
           }
 
   all_read : at ≡ end → rules_at ws end rule_limit 0 ≡ got f.read at
-  unfolding rules_at
+  unfolding rules_at_in
   all_read e =
       f.rest
       ∙ rw e
       (ap (λ g. g then λ rs q. got (f.read ++ rs) q) (ended (rule_limit - rules.n)) ∙ ap (λ l. got l end) (append-nil f.read))
     where
       ended : (m : ℕ) → rules_at ws end m end ≡ got [] end
-      ended zero = rw (eq-eqb end end refl, rules_at)
-      ended (suc m) = rw (eq-eqb end end refl, rules_at)
+      ended zero = rw (eq-eqb end end refl, rules_at_in)
+      ended (suc m) = rw (eq-eqb end end refl, rules_at_in)
 
   pub read_all : at ≡ end → RulesRead ws end (Some rules)
   read_all e =

@@ -11,7 +11,7 @@ use borrow.Author.Tests.{eqb-true, lt-ltb, le-ltb}
 use Rattle.grammar.specs.Numbers.{once, call_kind, kind_end}
 use Rattle.grammar.specs.Tree.{ElementHead, Call, Leaf, epsilon, action, predicate, call, token, terminal, end_of_input, Element, leaf, block}
 use Rattle.grammar.specs.Tree.{Block}
-use Rattle.grammar.specs.Encode.{leaf_kind, encode_leaf}
+use Rattle.grammar.specs.Encode.{leaf_kind, encode_leaf, encode_leaf_in}
 use Rattle.grammar.specs.Valid.{ok_leaf}
 use Rattle.grammar.specs.Stands.{Spans}
 use Rattle.grammar.specs.Found.{ElementSpans, HeadAt}
@@ -90,7 +90,7 @@ module _ (d m : ℕ) (made : Bool) where
 
   module _ {ws : List ℕ} {end at k p : ℕ} (head : HeadAt ws end at k p) where
     sorted_item : (e : Element (Block d)) (q : ℕ) → ElementSpans ws end d at e q → Sorted ws at p e
-    unfolding leaf_kind encode_leaf call_of plain sort_of
+    unfolding leaf_kind encode_leaf_in call_of plain sort_of
     sorted_item e q s = go (opened e s)
       where
         one : {q o : ℕ} (h : ElementHead) (l : Leaf) → HeadWords ws end at h (leaf_kind l) o → Spans ws end encode_leaf ok_leaf o l q

@@ -12,7 +12,7 @@ use Rattle.grammar.specs.Numbers.{rule_limit, once, optional_greedy, one_or_more
 use Rattle.grammar.specs.Tree.{Label, unlabelled, labelled, OptionDecl, ElementHead, Call, Leaf, epsilon, action, predicate, call, token}
 use Rattle.grammar.specs.Tree.{terminal, end_of_input, Element, leaf, Block}
 use Rattle.grammar.specs.Stands.{Spans}
-use Rattle.grammar.specs.Encode.{encode_leaf, leaf_kind, label_name}
+use Rattle.grammar.specs.Encode.{encode_leaf, leaf_kind, label_name, encode_leaf_in}
 use Rattle.grammar.specs.Valid.{ok_leaf, ok_head, ok_label}
 use Rattle.grammar.specs.Lists.{member, is_empty}
 use Rattle.grammar.specs.Found.{FoundElement, HeadAt}
@@ -163,7 +163,7 @@ module _ (d : ℕ) {ws : List ℕ} {end at : ℕ} (f : FoundElement ws end d at)
 module _ {ws : List ℕ} {end at p q kind : ℕ} {h : ElementHead} (w : HeadWords ws end at h kind p) (k : Call)
     (u : Spans ws end encode_leaf ok_leaf p (call k) q) where
   bare_is : bare_reference h k ≡ bare_at ws at p
-  unfolding bare_reference encode_leaf ok_head ok_label
+  unfolding bare_reference encode_leaf_in ok_head ok_label
   bare_is = rw (w.named, u.stands.run.1.0, w.counted) (go h.label h.options (first_so (ok_label h.label) _ (second_so (leb h.quantifier 6) _ w.fine)))
     where
       go : (l : Label) (os : List OptionDecl) → ok_label l ≡ true
@@ -220,7 +220,7 @@ module _ {names : List ℕ} {c : Cycle} {ws : List ℕ} {end at k p : ℕ} (d : 
 
   pub item_call : {n m : ℕ} {bare : Bool} {r : Corner ℕ} → k ≡ call_kind → n ≡ get_or ws p 0 → bare ≡ bare_at ws at p
       → m ≡ quantifier_at ws at made → CallMet names c n bare m r → ItemMet names c ws end d at made (P.Some r)
-  unfolding leaf_kind encode_leaf plain bare_reference
+  unfolding leaf_kind encode_leaf_in plain bare_reference
   item_call {n} {r = r} x e eb em v = record { is = λ g cycle ids b t q s es. go g cycle ids b es (opened t s); member = v.member }
     where
       named : (g : Grammar) (cycle ids : List ℕ) → CycleBy g cycle ids names c → (es : List (Element (Block d))) (h : ElementHead) (a : Call)

@@ -3,6 +3,7 @@ use Prim.Native.Nat.{ℕ, ◌+◌, ◌*◌, ◌%◌, ◌≤◌}
 use Rattle.std.specs.Prelude.{◌≡◌, List, get_or, ◌⊎◌, true, is_ok, Result, Ok}
 use Rattle.std.proofs.Common.{ap, ◌∙◌, arith, inl, inr}
 use borrow.Author.Tests.{le-leb}
+use Rattle.grammar.specs.Form.{newest}
 use Rattle.grammar.specs.Numbers.{kind_end, end_kind, block_kind}
 use Rattle.grammar.specs.Tree.{Leaf, epsilon, action, predicate, call, token, terminal, end_of_input, Element, Block}
 use Rattle.grammar.specs.Encode.{leaf_kind}
@@ -40,25 +41,25 @@ module _ (d : ℕ) {ws : List ℕ} {end at : ℕ} (f : FoundElement ws end d at)
 
   pub kind_head : {k : Kind} → r ≡ Ok k → {n p : ℕ} → n ≡ get_or ws (at + 5) 0 → p ≡ at + 6 + 2 * n
       → HeadAt ws end at (kind_number k) p
-  kind_head {k} e i j = let is : kind_number k ≡ w % kind_end = rw e at m in rw is (head_at_lem d f g i j)
+  kind_head {k} e i j = let is : kind_number k ≡ w % kind_end = rw e at m in rw is (head_at_lem newest d f g i j)
 
 module _ {d : ℕ} {ws : List ℕ} {end at p : ℕ} {k : Kind} (h : HeadAt ws end at (kind_number k) p)
     (no : kind_number k ≡ block_kind → ⊥) (f : FoundElement ws end d at) where
   pub leaf_call : k ≡ kind.Call → LeafEnd ws end d at p (p + 2)
-  leaf_call e = ends_call d h no f (ap kind_number e)
+  leaf_call e = ends_call newest d h no f (ap kind_number e)
 
   pub leaf_token : k ≡ kind.Token → LeafEnd ws end d at p (p + 1)
-  leaf_token e = ends_token d h no f (ap kind_number e)
+  leaf_token e = ends_token newest d h no f (ap kind_number e)
 
   pub leaf_body : k ≡ kind.Action ⊎ k ≡ kind.Predicate → {n r : ℕ} → n ≡ get_or ws (p + 1) 0 → r ≡ p + 2 + 2 * n
       → LeafEnd ws end d at p r
-  leaf_body (inl e) g i = ends_action d h no f (ap kind_number e) g i
-  leaf_body (inr e) g i = ends_predicate d h no f (ap kind_number e) g i
+  leaf_body (inl e) g i = ends_action newest d h no f (ap kind_number e) g i
+  leaf_body (inr e) g i = ends_predicate newest d h no f (ap kind_number e) g i
 
   pub leaf_plain : k ≡ kind.Epsilon ⊎ (k ≡ kind.Terminal ⊎ (k ≡ kind.Block ⊎ k ≡ kind.EndOfInput)) → LeafEnd ws end d at p p
-  leaf_plain (inl e) = let i = ap kind_number e in ends_nothing d h no f (λ z. omega arith) (λ z. omega arith) (λ z. omega arith) (λ z. omega arith)
-  leaf_plain (inr (inl e)) = let i = ap kind_number e in ends_nothing d h no f (λ z. omega arith) (λ z. omega arith) (λ z. omega arith) (λ z. omega arith)
+  leaf_plain (inl e) = let i = ap kind_number e in ends_nothing newest d h no f (λ z. omega arith) (λ z. omega arith) (λ z. omega arith) (λ z. omega arith)
+  leaf_plain (inr (inl e)) = let i = ap kind_number e in ends_nothing newest d h no f (λ z. omega arith) (λ z. omega arith) (λ z. omega arith) (λ z. omega arith)
   leaf_plain (inr (inr (inl e))) = absurd (no (ap kind_number e))
-  leaf_plain (inr (inr (inr e))) = let i = ap kind_number e in ends_nothing d h no f (λ z. omega arith) (λ z. omega arith) (λ z. omega arith) (λ z. omega arith)
+  leaf_plain (inr (inr (inr e))) = let i = ap kind_number e in ends_nothing newest d h no f (λ z. omega arith) (λ z. omega arith) (λ z. omega arith) (λ z. omega arith)
 
 pub ruleset kinds = (kind_known, kind_head, leaf_call, leaf_token, leaf_body, leaf_plain)
