@@ -7,7 +7,7 @@ use Rattle.std.proofs.Math.ListN.{take}
 use Rattle.grammar.specs.Form.{newest}
 use Rattle.grammar.specs.Tree.{Rule, Sheet}
 use Rattle.grammar.specs.Words.{words, bytes}
-use Rattle.grammar.specs.Reading.{sheet, read, read_words, judge, read_in, read_words_in}
+use Rattle.grammar.specs.Reading.{sheet, read, judge, read_in, read_words_in}
 use Rattle.grammar.specs.Corners.{Corners, rust, textbook}
 use Rattle.grammar.specs.Laws.Words.{AreBytes, words_bytes, in_words}
 use Rattle.grammar.specs.Laws.Codec.{accepted_valid}

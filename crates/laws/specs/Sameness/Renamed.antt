@@ -16,7 +16,7 @@ use Rattle.grammar.specs.Numbers.{word_end, trailer_words, shared_number, id_pas
 use Rattle.grammar.specs.Encode.{encode, encode_rules, encode_counters, encode_in}
 use Rattle.grammar.specs.Ids.{is_distinct, is_below}
 use Rattle.grammar.specs.Valid.{rule_limit}
-use Rattle.grammar.specs.Reading.{Reading, refused, sheet, is_length, is_trailer, rules_of, sheet_of, judge, read_words, read, read_in, read_words_in}
+use Rattle.grammar.specs.Reading.{Reading, refused, sheet, is_length, is_trailer, rules_of, sheet_of, judge, read, read_in, read_words_in}
 use Rattle.grammar.specs.Tree.{Sheet, body_depth}
 use Rattle.grammar.specs.Laws.Whole.{Records, stands_encoded, encoded_stands}
 use Rattle.laws.specs.Demands.Sameness.{TreeIn}

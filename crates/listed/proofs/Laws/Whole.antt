@@ -14,7 +14,7 @@ use Rattle.grammar.specs.Tree.{Sheet, body_depth}
 use Rattle.grammar.specs.Words.{words}
 use Rattle.grammar.specs.Stands.{Stands}
 use Rattle.grammar.specs.Encode.{encode_rules}
-use Rattle.grammar.specs.Valid.{ok_rule, ok_block, ok_rules, ok_rules_in}
+use Rattle.grammar.specs.Valid.{ok_rule, ok_block, ok_rules_in}
 use Rattle.grammar.specs.Laws.Stands.{stands_split, stands_length, stands_within}
 use Rattle.grammar.specs.Laws.Trailer.{trailing, encode_split, trailing_in}
 use Rattle.listed.specs.Text.{line}

@@ -8,7 +8,7 @@ use lib.Dec.{leb}
 use borrow.Author.Tests.{le-leb, lt-leb, leb-true}
 use Rattle.grammar.specs.Numbers.{least_bytes, most_bytes, work_bytes}
 use Rattle.grammar.specs.Words.{words}
-use Rattle.grammar.specs.Reading.{read_words, read, is_length, read_in}
+use Rattle.grammar.specs.Reading.{read_words, is_length, read_in}
 use Rattle.std.specs.Prelude.{Result, Err}
 use Rattle.std.specs.Cmp.{first_so, second_so}
 use Rattle.words.specs.declared.numbers.Refusal.{Refusal}
