@@ -14,7 +14,7 @@ use Rattle.grammar.specs.Laws.Words.{length_words}
 use Rattle.grammar.specs.Laws.Complete.{rules_complete}
 use Rattle.words.specs.Room.{Room}
 use Rattle.reference.specs.Run.{encode_entry}
-use Rattle.records.specs.Rules.{RowsOf, IsEmpty, row, places_from}
+use Rattle.records.specs.Rules.{RowsOf, IsEmpty, row, places_from, places_from_in}
 use Rattle.records.specs.declared.rules.Rules.{Rules}
 use Rattle.analysis.specs.Facts.{Standing, Among}
 use Rattle.analysis.proofs.Laws.Standing.{rule_of}
@@ -135,7 +135,7 @@ module _ {bs : List ℕ} {end to : ℕ} {rules : Rules} {p : Plan} {work trail :
       behind_room = let e = behind_place in let l = sheet_length in let m = x.words in omega arith
 
       follows : Follows [] d
-      unfolding row places_from
+      unfolding row places_from_in
       follows =
           record {
             rows = record { ids = empty.ids; names = empty.names; places = empty.places; count = empty.count };

@@ -16,8 +16,7 @@ use Rattle.grammar.specs.Valid.{ok_leaf}
 use Rattle.grammar.specs.Stands.{Spans}
 use Rattle.grammar.specs.Found.{ElementSpans, HeadAt}
 use Rattle.grammar.specs.Laws.Parse.{either}
-use Rattle.grammar.specs.Laws.Stands.{stands_head}
-use Rattle.grammar.specs.Laws.Opened.{HeadWords, Opened, opened_leaf, opened_block, opened}
+use Rattle.grammar.specs.Laws.Opened.{HeadWords, Opened, opened_leaf, opened_block, opened, call_stands}
 use Rattle.reference.specs.Walks.{sort_of, is_epsilon_only}
 use Rattle.reference.specs.Substitute.{plain}
 use Rattle.planned.specs.Layout.{made_if}
@@ -101,12 +100,13 @@ module _ (d m : ℕ) (made : Bool) where
         one {o = o} h (call c) w u =
             let x : o ≡ p = let y = w.place in let z = head.payload_is in omega arith in
             let u' = rw x at u in
+            let s = call_stands c u'.stands in
             is_call h c
             (record {
               kind = let y = w.packed in omega arith;
               quantifier = let y = w.packed in omega arith;
-              name = stands_head u'.stands;
-              arguments = u'.stands.run.1.0;
+              name = s.named;
+              arguments = s.arguments_are;
             })
             (made_call h c)
         one h (token a) w u = no_call (λ z. let y = w.packed in omega arith) (made_other (leaf h (token a)) refl refl)

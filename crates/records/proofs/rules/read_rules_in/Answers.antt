@@ -1,5 +1,5 @@
 use Rattle.std.proofs.Common.{rules}
-use Rattle.records.proofs.rules.read_rules.Goals as goal
+use Rattle.records.proofs.rules.read_rules_in.Goals as goal
 use Rattle.records.proofs.Laws.Rules.{reads}
 
 pub loop-at-init : goal.loop-at-init
