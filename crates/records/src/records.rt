@@ -152,7 +152,8 @@ fn head_at(s: &Records, at: usize) -> Option<usize>
 #[cycle(tree)]
 fn payload_at(s: &Records, depth: u32, kind: Kind, at: usize) -> Option<usize>
     ensures { (h : ElementHead)
-        → result ≡ step_of (payload_at_in (form s.now) (text s.now) s.now.end (block_at_in (form s.now) (text s.now) s.now.end depth) h (kind_number kind) at) }
+        → result ≡ step_of
+        (payload_at_in (form s.now) (text s.now) s.now.end (block_at_in (form s.now) (text s.now) s.now.end depth) h (kind_number kind) at) }
 {
     match kind {
         Kind::Block => block_at(s, depth, at),
@@ -163,7 +164,8 @@ fn payload_at(s: &Records, depth: u32, kind: Kind, at: usize) -> Option<usize>
 #[tactic(auto, using(crate::proofs::Laws::Trees::trees))]
 #[cycle(tree)]
 fn element_at(s: &Records, depth: u32, at: usize) -> Option<usize>
-    ensures { result ≡ step_of (element_at_in (form s.now) (text s.now) s.now.end (block_at_in (form s.now) (text s.now) s.now.end depth) at) }
+    ensures { result ≡ step_of (element_at_in (form s.now) (text s.now) s.now.end
+        (block_at_in (form s.now) (text s.now) s.now.end depth) at) }
 {
     if s.end.saturating_sub(at) < 6 {
         return None;
@@ -177,7 +179,8 @@ fn element_at(s: &Records, depth: u32, at: usize) -> Option<usize>
 // and put two more frames on the stack at each depth.
 #[cycle(tree)]
 fn elements_at(s: &Records, depth: u32, n: u32, at: usize) -> Option<usize>
-    ensures { result ≡ step_of (many (element_at_in (form s.now) (text s.now) s.now.end (block_at_in (form s.now) (text s.now) s.now.end depth)) n at) }
+    ensures { result ≡ step_of (many (element_at_in (form s.now) (text s.now) s.now.end
+        (block_at_in (form s.now) (text s.now) s.now.end depth)) n at) }
 {
     let mut p = at;
     for _ in 0..n {
@@ -189,7 +192,8 @@ fn elements_at(s: &Records, depth: u32, n: u32, at: usize) -> Option<usize>
 #[tactic(auto, using(crate::proofs::Laws::Trees::trees))]
 #[cycle(tree)]
 fn alternative_at(s: &Records, depth: u32, at: usize) -> Option<usize>
-    ensures { result ≡ step_of (alternative_at_in (form s.now) (text s.now) s.now.end (block_at_in (form s.now) (text s.now) s.now.end depth) at) }
+    ensures { result ≡ step_of (alternative_at_in (form s.now) (text s.now) s.now.end
+        (block_at_in (form s.now) (text s.now) s.now.end depth) at) }
 {
     if s.end.saturating_sub(at) < 5 {
         return None;
@@ -204,7 +208,8 @@ fn alternative_at(s: &Records, depth: u32, at: usize) -> Option<usize>
 
 #[cycle(tree)]
 fn alternatives_at(s: &Records, depth: u32, n: u32, at: usize) -> Option<usize>
-    ensures { result ≡ step_of (many (alternative_at_in (form s.now) (text s.now) s.now.end (block_at_in (form s.now) (text s.now) s.now.end depth)) n at) }
+    ensures { result ≡ step_of (many (alternative_at_in (form s.now) (text s.now) s.now.end
+        (block_at_in (form s.now) (text s.now) s.now.end depth)) n at) }
 {
     let mut p = at;
     for _ in 0..n {

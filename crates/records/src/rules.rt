@@ -55,7 +55,8 @@ pub fn add(rules: &mut Rules, id: u32, name: u32, place: u32)
 // One rule between a place and the end of the rules.
 #[tactic(auto, using(crate::proofs::Laws::Trees::rule_laws))]
 fn rule_at(s: &Records, at: usize) -> Option<usize>
-    ensures { result ≡ step_of (rule_at_in (form s.now) (text s.now) s.now.end (block_at_in (form s.now) (text s.now) s.now.end body_depth) at) }
+    ensures { result ≡ step_of (rule_at_in (form s.now) (text s.now) s.now.end
+        (block_at_in (form s.now) (text s.now) s.now.end body_depth) at) }
 {
     if s.end.saturating_sub(at) < 3 {
         return None;
@@ -75,7 +76,11 @@ pub fn read_rules_in(form: Form, s: &[u8], end: usize) -> Option<Rules>
     requires { (4 * end ≤ length s.now) × (end < 2 ^ 31) }
     ensures { RulesReadIn (form_of form) (words s.now) end result }
 {
-    let lent = Records { bytes: s, end, form };
+    let lent = Records {
+        bytes: s,
+        end,
+        form,
+    };
     let mut rules = Rules::empty();
     let mut at: usize = 0;
     // Stays: each rule says where the next one begins, and the end of all of them ends the loop.

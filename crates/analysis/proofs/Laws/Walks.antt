@@ -61,7 +61,8 @@ module _ (v : View) {ws : List ℕ} {end at k p : ℕ} (head : HeadAt ws end at 
       (seen_of (turned (t.seeks && (skips || r.null)) (t.null && (skips || r.null)) r))
   unfolding surveying seen_of past_block
   survey_block d six t r c w =
-      fold_block newest (surveying v) head six d c (λ h y. refl) w λ h y. ap (λ b. past_block (seen_of t) b (seen_of r)) (optional (omega arith) y)
+      fold_block newest (surveying v) head six d c (λ h y. refl) w λ h y. ap (λ b. past_block (seen_of t) b (seen_of r))
+      (optional (omega arith) y)
 
 pub survey_alternative : (v : View) {ws : List ℕ} {end at : ℕ} (d : ℕ) {count first : ℕ} → AlternativeAt ws end at count first → {q : ℕ}
     (t r : Held) → ElementsWalked (surveying v) ws end d count first (seen_of (turned t.seeks true t)) q (seen_of r)

@@ -14,7 +14,7 @@ use Rattle.grammar.specs.Laws.Words.{length_words}
 use Rattle.grammar.specs.Laws.Complete.{rules_complete}
 use Rattle.words.specs.Room.{Room}
 use Rattle.reference.specs.Run.{encode_entry}
-use Rattle.records.specs.Rules.{RowsOf, IsEmpty, row, places_from, places_from_in}
+use Rattle.records.specs.Rules.{RowsOf, IsEmpty, row, places_from_in}
 use Rattle.records.specs.declared.rules.Rules.{Rules}
 use Rattle.analysis.specs.Facts.{Standing, Among}
 use Rattle.analysis.proofs.Laws.Standing.{rule_of}

@@ -225,7 +225,11 @@ module _ (plain : Bool) {ws : List ℕ} {end at : ℕ} {out t : List ℕ} {p : P
   pub element_block : (d : ℕ) {out' t' : List ℕ} {q : ℕ} {p' : Pen} → AlternativesCopied ws end (d - 1) m (payload + 1) out₂ out' t₁ t' p₂ q p'
       → ElementCopied ws end d plain at out out' t t' p q p'
   element_block zero {out'} {t'} {q} {p'} a =
-      record { passed = λ e z u. none (blocked newest w six zero e z u); drew = λ e z u. none (blocked newest w six zero e z u); within = a.within }
+      record {
+        passed = λ e z u. none (blocked newest w six zero e z u);
+        drew = λ e z u. none (blocked newest w six zero e z u);
+        within = a.within;
+      }
     where
       none : {e : Element (Block zero)} {z : ℕ} {P : Type 0} → IsBlock newest w six zero z e → P
       none (is_block {b = b} v u) = absurd b

@@ -5,7 +5,8 @@ use Rattle.std.proofs.Common.{◌∙◌, append-nil}
 use Rattle.grammar.specs.Numbers.{kind_end, block_kind, alternative_sort, element_sort}
 use Rattle.grammar.specs.Tree.{Label, unlabelled, labelled, ElementHead, Leaf, epsilon, action, predicate, call, token, terminal}
 use Rattle.grammar.specs.Tree.{end_of_input, leaf, block, AlternativeOf, Block, Counters}
-use Rattle.grammar.specs.Encode.{label_id, label_name, encode_option, encode_head, leaf_kind, encode_leaf, encode_element, encode_alternative_in, encode_block_in, encode_element_in}
+use Rattle.grammar.specs.Encode.{label_id, label_name, encode_option, encode_head, leaf_kind, encode_leaf, encode_element}
+use Rattle.grammar.specs.Encode.{encode_alternative_in, encode_block_in, encode_element_in}
 use Rattle.grammar.specs.Encode.{encode_alternative}
 use Rattle.grammar.specs.Encode.{encode_block}
 use Rattle.grammar.specs.Lists.{each}

@@ -9,7 +9,8 @@ use Rattle.grammar.specs.Numbers.{call_kind, kind_end}
 use Rattle.grammar.specs.Words.{words}
 use Rattle.grammar.specs.Stands.{Stands}
 use Rattle.grammar.specs.Tree.{Element, leaf, block, Block}
-use Rattle.grammar.specs.Encode.{encode_element, encode_block, encode_head, encode_option, encode_leaf, leaf_kind, label_id, label_name, encode_element_in}
+use Rattle.grammar.specs.Encode.{encode_element, encode_block, encode_head, encode_option, encode_leaf, leaf_kind, label_id, label_name}
+use Rattle.grammar.specs.Encode.{encode_element_in}
 use Rattle.grammar.specs.Lists.{each}
 use Rattle.grammar.specs.Found.{FoundElement, ElementSpans}
 use Rattle.grammar.specs.Fold.{ElementWalked}

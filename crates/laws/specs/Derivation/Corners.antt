@@ -13,7 +13,8 @@ use Rattle.grammar.specs.Lists.{all, distinct}
 use Rattle.grammar.specs.Tree.{ElementHead, Leaf, epsilon, action, predicate, call, token, terminal, end_of_input, Element, leaf, block}
 use Rattle.grammar.specs.Tree.{AlternativeOf, Block, RuleOf, Sheet, inner_depth}
 use Rattle.grammar.specs.Numbers.{most_alternative_flag}
-use Rattle.grammar.specs.Valid.{valid, ok_option, ok_head, ok_element, ok_alternative, ok_block, ok_alternative_in, ok_block_in, ok_element_in}
+use Rattle.grammar.specs.Valid.{valid, ok_option, ok_head, ok_element, ok_alternative, ok_block, ok_alternative_in, ok_block_in}
+use Rattle.grammar.specs.Valid.{ok_element_in}
 use Rattle.grammar.specs.Laws.Parse.{either}
 use Rattle.grammar.specs.Corners.{Corners, rust, textbook}
 use Rattle.language.specs.Shape.{is_mark, Shape, alts, call_of, erase_leaf, erase_element, erase_elements, erase_block, Shapes, erase_rules}

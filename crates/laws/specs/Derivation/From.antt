@@ -10,7 +10,8 @@ use Rattle.grammar.specs.Lists.{all, distinct}
 use Rattle.grammar.specs.Tree.{ElementHead, Action, Predicate, Call, Element, leaf, block, epsilon, action, predicate, call, token}
 use Rattle.grammar.specs.Tree.{terminal, end_of_input, AlternativeOf, Block, RuleOf, Leaf}
 use Rattle.grammar.specs.Numbers.{most_alternative_flag}
-use Rattle.grammar.specs.Valid.{ok_option, ok_head, ok_leaf, ok_element, ok_alternative, ok_block, ok_alternative_in, ok_block_in, ok_element_in}
+use Rattle.grammar.specs.Valid.{ok_option, ok_head, ok_leaf, ok_element, ok_alternative, ok_block, ok_alternative_in, ok_block_in}
+use Rattle.grammar.specs.Valid.{ok_element_in}
 use Rattle.language.specs.Shape.{Symbol, token_symbol, other_symbol, unknown_symbol, end_symbol, Word, Shape, eps, fail, symbol, call_of}
 use Rattle.language.specs.Shape.{seq}
 use Rattle.language.specs.Shape.{alt, opt, star, plus, alts, quantified, erase_leaf, erase_element, erase_elements, erase_block, find}

@@ -1,5 +1,6 @@
 -- The two wordings of the format agree.
-use Rattle.std.specs.Prelude.{ℕ, zero, suc, ◌+◌, ◌*◌, ◌≤◌, ◌≡◌, refl, ◌↔◌, List, [], ◌∷◌, ◌++◌, map, Bool, true, false, ◌&&◌, ◌||◌, length, leb, eqb}
+use Rattle.std.specs.Prelude.{ℕ, zero, suc, ◌+◌, ◌*◌, ◌≤◌, ◌≡◌, refl, ◌↔◌, List, [], ◌∷◌, ◌++◌, map, Bool, true, false, ◌&&◌, ◌||◌, length}
+use Rattle.std.specs.Prelude.{leb, eqb}
 use Rattle.std.proofs.Common.{sym, ap, ap₂, subst, true≢false, arith, leb-true, le-leb, eqb-true, eq-eqb}
 use Rattle.std.proofs.lemmas.Bool.{and_from}
 use Rattle.std.specs.Cmp.{first_so, second_so}
@@ -9,15 +10,18 @@ use Rattle.grammar.specs.Ids.{block_ids, body_ids, is_distinct, is_below}
 use Rattle.grammar.specs.Words.{words}
 use Rattle.grammar.specs.Tree.{Reference, Label, unlabelled, labelled, ElementHead, Leaf, epsilon, action, predicate, call, token, terminal}
 use Rattle.grammar.specs.Tree.{end_of_input, OptionDecl, Element, leaf, block, AlternativeOf, Block, Rule, Sheet, body_depth, Counters}
-use Rattle.grammar.specs.Encode.{encode_head, leaf_kind, encode_leaf, encode_element, encode_alternative, encode_rule, encode_block, encode, encode_alternative_in, encode_block_in, encode_element_in, encode_in, encode_leaf_in}
-use Rattle.grammar.specs.Valid.{has_place, ok_option, ok_reference, ok_label, ok_head, ok_leaf, ok_element, ok_alternative, ok_rule, ok_block, is_kind, ok_alternative_in, ok_block_in, ok_element_in, ok_leaf_in}
+use Rattle.grammar.specs.Encode.{encode_head, leaf_kind, encode_leaf, encode_element, encode_alternative, encode_rule, encode_block, encode}
+use Rattle.grammar.specs.Encode.{encode_alternative_in, encode_block_in, encode_element_in, encode_in, encode_leaf_in}
+use Rattle.grammar.specs.Valid.{has_place, ok_option, ok_reference, ok_label, ok_head, ok_leaf, ok_element, ok_alternative, ok_rule}
+use Rattle.grammar.specs.Valid.{ok_block, is_kind, ok_alternative_in, ok_block_in, ok_element_in, ok_leaf_in}
 use Rattle.grammar.specs.Valid.{valid}
 use Rattle.grammar.specs.Read.{is_name}
 use Rattle.grammar.specs.Reading.{sheet, read}
 use Rattle.grammar.specs.Laws.Words.{bytes_words}
 use Rattle.grammar.specs.Laws.Whole.{valid_parts, parts_valid}
 use Rattle.grammar.specs.Laws.Codec.{reads_back_lem, is_encoding, accepted_valid}
-use Rattle.laws.specs.Demands.Format.{option_words, head_words, body_words, call_words, leaf_words, element_words, alternative_words, block_words}
+use Rattle.laws.specs.Demands.Format.{option_words, head_words, body_words, call_words, leaf_words, element_words, alternative_words}
+use Rattle.laws.specs.Demands.Format.{block_words}
 use Rattle.laws.specs.Demands.Format.{rule_words, sheet_words, Name, Named, GoodReference, GoodLabel, GoodHead, GoodLeaf, GoodElement}
 use Rattle.laws.specs.Demands.Format.{GoodAlternative, GoodBlock, GoodRule, ids_of, GoodSheet, FormatTold}
 use Rattle.laws.specs.Demands.Lists.{NoTwo, Low}

@@ -15,7 +15,8 @@ use Rattle.grammar.specs.Words.{words, bytes}
 use Rattle.grammar.specs.Encode.{encode}
 use Rattle.grammar.specs.Ids.{is_distinct, is_below}
 use Rattle.grammar.specs.Parse.{Got, got, bad}
-use Rattle.grammar.specs.Reading.{Reading, refused, sheet, is_length, is_trailer, rules_of, counters_of, sheet_of, judge, read_words, read, read_in, read_words_in}
+use Rattle.grammar.specs.Reading.{Reading, refused, sheet, is_length, is_trailer, rules_of, counters_of, sheet_of, judge, read_words, read}
+use Rattle.grammar.specs.Reading.{read_in, read_words_in}
 use Rattle.grammar.specs.Corners.{Corners}
 use Rattle.grammar.specs.Laws.Lists.{each_append}
 use Rattle.grammar.specs.Laws.Words.{length_words, length_bytes}

@@ -6,7 +6,8 @@ use Rattle.std.proofs.Math.Nat.{max-le, suc-mul}
 use Rattle.std.specs.Cmp.{first_so}
 use native.Mathlib.Omega.{arith}
 use Rattle.grammar.specs.Tree.{AlternativeOf, Counters, Rule, body_depth, Sheet}
-use Rattle.grammar.specs.Encode.{encode_alternative, encode_rule, encode_block, encode_rules, encode, encode_alternative_in, encode_block_in, encode_in}
+use Rattle.grammar.specs.Encode.{encode_alternative, encode_rule, encode_block, encode_rules, encode, encode_alternative_in}
+use Rattle.grammar.specs.Encode.{encode_block_in, encode_in}
 use Rattle.grammar.specs.Lists.{each, keep, member, push, total}
 use Rattle.grammar.specs.Valid.{fits, fits_in}
 use Rattle.grammar.specs.Corners.{Corners}

@@ -9,7 +9,8 @@ use Rattle.grammar.specs.Lists.{AllOf, all, each}
 use Rattle.grammar.specs.Form.{newest}
 use Rattle.grammar.specs.Read.{is_name}
 use Rattle.grammar.specs.Numbers.{non_local, one_or_more_nongreedy, most_alternative_flag, most_rule_flags}
-use Rattle.grammar.specs.Valid.{has_place, ok_option, ok_reference, ok_label, ok_head, ok_leaf, ok_element, ok_alternative, ok_rule, ok_block, ok_alternative_in, ok_block_in, ok_element_in, ok_leaf_in}
+use Rattle.grammar.specs.Valid.{has_place, ok_option, ok_reference, ok_label, ok_head, ok_leaf, ok_element, ok_alternative, ok_rule}
+use Rattle.grammar.specs.Valid.{ok_block, ok_alternative_in, ok_block_in, ok_element_in, ok_leaf_in}
 use Rattle.grammar.specs.Tree.{OptionDecl, Reference, Label, unlabelled, labelled, ElementHead, Leaf, epsilon, action, predicate, call}
 use Rattle.grammar.specs.Tree.{token, terminal, end_of_input, Element, leaf, block, AlternativeOf, Block, Rule, body_depth}
 use Rattle.reference.specs.Walks.{label_names}

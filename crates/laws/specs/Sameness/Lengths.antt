@@ -3,7 +3,8 @@ use Prim.Native.Nat.{ℕ, zero, suc}
 use Rattle.std.specs.Prelude.{◌≡◌, List, ◌++◌, map, length}
 use Rattle.std.proofs.Math.Path.{refl, ap}
 use Rattle.grammar.specs.Lists.{each}
-use Rattle.grammar.specs.Encode.{encode_option, encode_reference, encode_head, leaf_kind, encode_leaf, encode_element, encode_alternative, encode_alternative_in, encode_block_in, encode_element_in, encode_in, encode_leaf_in}
+use Rattle.grammar.specs.Encode.{encode_option, encode_reference, encode_head, leaf_kind, encode_leaf, encode_element, encode_alternative}
+use Rattle.grammar.specs.Encode.{encode_alternative_in, encode_block_in, encode_element_in, encode_in, encode_leaf_in}
 use Rattle.grammar.specs.Encode.{encode_rule, encode_block, encode_rules, encode}
 use Rattle.grammar.specs.Tree.{ElementHead, Leaf, epsilon, action, predicate, call, token, terminal, end_of_input, Element, leaf, block}
 use Rattle.grammar.specs.Tree.{AlternativeOf, Block, Rule, Sheet, body_depth}

@@ -7,7 +7,8 @@ use mathlib.Core.List.{List, [], ◌∷◌, ◌++◌, map, append-nil, flat_map,
 use Rattle.std.proofs.lemmas.List.{length-map}
 use Rattle.grammar.specs.Lists.{each, only}
 use Rattle.grammar.specs.Form.{newest}
-use Rattle.grammar.specs.Encode.{encode_option, encode_reference, label_id, label_name, encode_head, leaf_kind, encode_leaf, encode_element, encode_alternative_in, encode_block_in, encode_element_in, encode_in, encode_leaf_in}
+use Rattle.grammar.specs.Encode.{encode_option, encode_reference, label_id, label_name, encode_head, leaf_kind, encode_leaf, encode_element}
+use Rattle.grammar.specs.Encode.{encode_alternative_in, encode_block_in, encode_element_in, encode_in, encode_leaf_in}
 use Rattle.grammar.specs.Encode.{encode_alternative, encode_rule, encode_block, encode_counters, encode}
 use Rattle.grammar.specs.Tree.{OptionDecl, Reference, Label, unlabelled, labelled, ElementHead, Leaf, epsilon, action, predicate, call}
 use Rattle.grammar.specs.Tree.{token, terminal, end_of_input, Element, leaf, block, AlternativeOf, Block, Rule, Sheet, body_depth}
@@ -16,7 +17,8 @@ use Rattle.reference.specs.Computed.{computed}
 use Rattle.laws.specs.Demands.Marks.{on_option, on_reference, on_label, on_head, on_leaf, on_element, on_alternative, on_rule, on_block}
 use Rattle.laws.specs.Demands.Marks.{on_sheet, option_names, head_names, names_of_leaf, element_names, alternative_names, block_names}
 use Rattle.laws.specs.Demands.Marks.{names_in}
-use Rattle.laws.specs.Demands.WordSorts.{Sort, kept, name, carried, option_sorts, reference_sorts, label_sort, head_sorts, kept_where, leaf_sorts}
+use Rattle.laws.specs.Demands.WordSorts.{Sort, kept, name, carried, option_sorts, reference_sorts, label_sort, head_sorts, kept_where}
+use Rattle.laws.specs.Demands.WordSorts.{leaf_sorts}
 use Rattle.laws.specs.Demands.WordSorts.{element_sorts, alternative_sorts, rule_sorts, block_sorts, sorts_of, moved, names_among}
 use Rattle.laws.specs.Demands.WordSorts.{MarksTold}
 use Rattle.laws.specs.Demands.Sameness.{same}

@@ -12,13 +12,15 @@ use Rattle.std.specs.Cmp.{first_so, second_so}
 use borrow.Author.Tests.{leb-true, ltb-true, le-leb, lt-ltb}
 use Rattle.grammar.specs.Tree.{Leaf, epsilon, action, predicate, call, token, terminal, end_of_input, Element, leaf, block, AlternativeOf}
 use Rattle.grammar.specs.Tree.{Block, Rule, Counters, Sheet, body_depth}
-use Rattle.grammar.specs.Encode.{encode_option, encode_head, leaf_kind, encode_leaf, encode_element, encode_alternative, encode_rule, encode_alternative_in, encode_block_in, encode_element_in, encode_in}
+use Rattle.grammar.specs.Encode.{encode_option, encode_head, leaf_kind, encode_leaf, encode_element, encode_alternative, encode_rule}
+use Rattle.grammar.specs.Encode.{encode_alternative_in, encode_block_in, encode_element_in, encode_in}
 use Rattle.grammar.specs.Encode.{encode_block}
 use Rattle.grammar.specs.Encode.{encode_rules, encode_counters, encode}
 use Rattle.grammar.specs.Lists.{each, only, below, all}
 use Rattle.grammar.specs.Read.{is_name}
 use Rattle.grammar.specs.Ids.{head_ids, leaf_ids, element_ids, alternative_ids, block_ids, body_ids, is_below}
-use Rattle.grammar.specs.Valid.{ok_option, ok_head, ok_element, ok_alternative, ok_rule, ok_block, fits, fits_in, ok_alternative_in, ok_block_in, ok_element_in}
+use Rattle.grammar.specs.Valid.{ok_option, ok_head, ok_element, ok_alternative, ok_rule, ok_block, fits, fits_in, ok_alternative_in}
+use Rattle.grammar.specs.Valid.{ok_block_in, ok_element_in}
 use Rattle.grammar.specs.Laws.Whole.{Parts}
 use Rattle.grammar.specs.Numbers.{most_words, most_name, kind_end, word_end, lexer, combined, most_rule_flags, most_alternative_flag}
 use Rattle.grammar.specs.Numbers.{alternative_sort}

@@ -5,7 +5,8 @@ use Rattle.std.proofs.Math.Bool.{◌&&◌}
 use Rattle.grammar.specs.Tree.{Label, unlabelled, labelled, ElementHead, Leaf, epsilon, action, predicate, call, token, terminal}
 use Rattle.grammar.specs.Tree.{end_of_input, Element, leaf, block, AlternativeOf, Block, Counters}
 use Rattle.grammar.specs.Lists.{each, all}
-use Rattle.grammar.specs.Valid.{ok_label, ok_head, ok_leaf, ok_element, ok_alternative, ok_block, ok_alternative_in, ok_block_in, ok_element_in, ok_leaf_in}
+use Rattle.grammar.specs.Valid.{ok_label, ok_head, ok_leaf, ok_element, ok_alternative, ok_block, ok_alternative_in, ok_block_in}
+use Rattle.grammar.specs.Valid.{ok_element_in, ok_leaf_in}
 use Rattle.grammar.specs.Numbers.{alternative_sort, element_sort}
 use Rattle.reference.specs.Apply.{Fresh, fresh_each, past, renumber_label, renumber_head, renumber_leaf, renumber_element}
 use Rattle.reference.specs.Apply.{renumber_elements}

@@ -13,7 +13,8 @@ use Rattle.grammar.specs.Form.{newest}
 use Rattle.grammar.specs.Tree.{OptionDecl, Reference, Label, unlabelled, labelled, ElementHead, Leaf, epsilon, action, predicate, call}
 use Rattle.grammar.specs.Tree.{token, terminal, end_of_input, Element, leaf, block, AlternativeOf, Block, RuleOf, Rule, body_depth, Sheet}
 use Rattle.grammar.specs.Read.{is_name}
-use Rattle.grammar.specs.Valid.{is_kind, has_place, ok_option, ok_reference, ok_label, ok_head, ok_leaf, ok_element, ok_alternative, ok_rule, ok_block, ok_alternative_in, ok_block_in, ok_element_in, ok_leaf_in, ok_rules_in, valid_in}
+use Rattle.grammar.specs.Valid.{is_kind, has_place, ok_option, ok_reference, ok_label, ok_head, ok_leaf, ok_element, ok_alternative}
+use Rattle.grammar.specs.Valid.{ok_rule, ok_block, ok_alternative_in, ok_block_in, ok_element_in, ok_leaf_in, ok_rules_in, valid_in}
 use Rattle.grammar.specs.Valid.{ok_rules, valid}
 use Rattle.grammar.specs.Ids.{is_distinct, is_below}
 use Rattle.grammar.specs.Laws.Parse.{either}

@@ -19,7 +19,7 @@ use Rattle.grammar.specs.Tree.{Sheet}
 use Rattle.grammar.specs.Words.{word_of, words, bytes}
 use Rattle.grammar.specs.Encode.{encode}
 use Rattle.grammar.specs.Stands.{Stands}
-use Rattle.grammar.specs.Valid.{ok_rules, fits, fits_in, ok_rules_in}
+use Rattle.grammar.specs.Valid.{fits_in, ok_rules_in}
 use Rattle.grammar.specs.Reading as reading
 use Rattle.grammar.specs.Reading.{refused, sheet, is_length, read, read_in}
 use Rattle.grammar.specs.Laws.Words.{AreBytes, length_bytes, words_bytes, in_words}

@@ -37,7 +37,10 @@ module _ (ws : List ℕ) (end d : ℕ) where
   pub standing_is : {at q : ℕ} {e : Element (Block d)} → ElementSpans ws end d at e q → standing ws end d at ≡ e
   unfolding standing
   standing_is {at} {q} {e} s =
-      rw (element_complete newest ws end (block_at ws end d) (encode_block d) (ok_block d) (block_complete newest ws end d) at e q s, standing)
+      rw (
+        element_complete newest ws end (block_at ws end d) (encode_block d) (ok_block d) (block_complete newest ws end d) at e q s,
+        standing,
+      )
 
 -- The element at an index.
 pub item_is : {bs : List ℕ} {x : Listed} {i at : ℕ} {made : Bool} → i < x.ne → place_of (half bs (x.e + i)) ≡ at

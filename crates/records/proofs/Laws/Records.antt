@@ -11,7 +11,8 @@ use borrow.Author.Tests.{le-leb, lt-leb, eq-eqb, ne_eqb}
 use Rattle.grammar.specs.Numbers.{most_name, non_local}
 use Rattle.grammar.specs.Form.{Form, call_words}
 use Rattle.grammar.specs.Parse.{got, given, many}
-use Rattle.grammar.specs.Read.{is_name, is_label, action_of, predicate_of, option_at, reference_at, body_at, token_at, call_at_in, leaf_at_in}
+use Rattle.grammar.specs.Read.{is_name, is_label, action_of, predicate_of, option_at, reference_at, body_at, token_at, call_at_in}
+use Rattle.grammar.specs.Read.{leaf_at_in}
 use Rattle.std.specs.Prelude.{Option, Some, None, Result, is_ok, is_err}
 use Rattle.words.specs.declared.numbers.ReferenceKind.{ReferenceKind}
 use Rattle.words.specs.declared.numbers.Unnamed.{Unnamed}
@@ -127,7 +128,8 @@ body_any ws end at = go (leb 2 (end - at)) refl
         )
 
 module _ (form : Form) (ws : List ℕ) (end at : ℕ) where
-  pub leaf_plain : {k : Kind} → k ≡ Epsilon ⊎ (k ≡ Terminal ⊎ k ≡ EndOfInput) → Some at ≡ step_of (leaf_at_in form ws end (kind_number k) at)
+  pub leaf_plain : {k : Kind} → k ≡ Epsilon ⊎ (k ≡ Terminal ⊎ k ≡ EndOfInput)
+      → Some at ≡ step_of (leaf_at_in form ws end (kind_number k) at)
   unfolding leaf_at_in
   leaf_plain (inl e) = rw e
   leaf_plain (inr (inl e)) = rw e

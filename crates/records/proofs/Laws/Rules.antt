@@ -50,7 +50,8 @@ unfolding row
 row_long xs l = rw (length-append, length-replicate) (omega arith)
 
 rules_length : (form : Form) (rs : List Rule) (r : Rule)
-    → length (encode_rules_in form (rs ++ (r ∷ []))) ≡ length (encode_rules_in form rs) + length (encode_rule (encode_block_in form body_depth) r)
+    → length (encode_rules_in form (rs ++ (r ∷ []))) ≡ length (encode_rules_in form rs) + length
+    (encode_rule (encode_block_in form body_depth) r)
 rules_length form [] r = let l = length-append (encode_rule (encode_block_in form body_depth) r) [] in omega arith
 rules_length form (x ∷ rs) r =
     let i = rules_length form rs r in
@@ -63,7 +64,8 @@ row_with : {before after : List ℕ} (xs ys : List ℕ) (n x : ℕ) → after �
     → ys ≡ xs ++ (x ∷ []) → after ≡ row ys
 row_with xs ys n x e f g h k = e ∙ ap (λ l. set l n x) f ∙ row_more xs x n g h ∙ sym (ap row k)
 
-pub rows_more : (form : Form) {rules more : Rules} {id name at : ℕ} (rs : List Rule) (r : Rule) → RowsOfIn form rs rules → rules.n < rule_limit
+pub rows_more : (form : Form) {rules more : Rules} {id name at : ℕ} (rs : List Rule) (r : Rule) → RowsOfIn form rs rules
+    → rules.n < rule_limit
     → at ≡ length (encode_rules_in form rs) → id ≡ r.id → name ≡ r.name → IsWith rules id name at more → RowsOfIn form (rs ++ (r ∷ [])) more
 rows_more form {rules} {more} {id} {name} {at} rs r o h p e f w =
     record {
@@ -104,7 +106,8 @@ then_then : {A : Type 0} (g : Got (List A)) (r : A) (rs : List A)
 then_then (got xs q) r rs = ap (λ l. got l q) (sym (append_assoc rs (r ∷ []) xs))
 then_then bad r rs = refl
 
-rule_words_lem : (form : Form) {ws : List ℕ} {end at p : ℕ} (r : Rule) → Stands ws end (encode_rule (encode_block_in form body_depth) r) at p
+rule_words_lem : (form : Form) {ws : List ℕ} {end at p : ℕ} (r : Rule)
+    → Stands ws end (encode_rule (encode_block_in form body_depth) r) at p
     → (get_or ws at 0 ≡ r.id) × (get_or ws (at + 1) 0 ≡ r.name)
 unfolding encode_rule
 rule_words_lem form r s = (stands_head s, s.run.1.0)
@@ -141,7 +144,8 @@ module _ {form : Form} {ws : List ℕ} {end at : ℕ} {rules : Rules} (f : SoFar
       pub short_bad : {l : ℕ} → l ≡ end - at → l < 3 → rules_at_in form ws end rule_limit 0 ≡ bad
       short_bad e t = rule_bad (rule_short form ws end at (block_at_in form ws end body_depth) e t) refl
 
-      pub more_so_far : {s : Option ℕ} {p w v : ℕ} {more : Rules} → s ≡ step_of (rule_at_in form ws end (block_at_in form ws end body_depth) at) → s ≡ Some p
+      pub more_so_far : {s : Option ℕ} {p w v : ℕ} {more : Rules}
+          → s ≡ step_of (rule_at_in form ws end (block_at_in form ws end body_depth) at) → s ≡ Some p
           → w ≡ get_or ws at 0 → v ≡ get_or ws (at + 1) 0 → IsWith rules w v at more → SoFar form ws end p more
       more_so_far {s} {p} {w} {v} {more} e t x y m =
           let g = next_got (rule_at_in form ws end (block_at_in form ws end body_depth) at) p (sym e ∙ t) in
@@ -182,7 +186,8 @@ module _ {form : Form} {ws : List ℕ} {end at : ℕ} {rules : Rules} (f : SoFar
       let h = all_read e in
       record {
         good = sym (ap is_got h);
-        rows = λ o rs q w g. let z : f.read ≡ rs = cc in let y : rules ≡ o = cc in subst (λ x. RowsOfIn form rs x) y (subst (λ x. RowsOfIn form x rules) z f.rows);
+        rows = λ o rs q w g. let z : f.read ≡ rs = cc in let y : rules ≡ o = cc in subst (λ x. RowsOfIn form rs x) y
+            (subst (λ x. RowsOfIn form x rules) z f.rows);
       }
 
 pub read_none : (form : Form) (ws : List ℕ) (end : ℕ) → rules_at_in form ws end rule_limit 0 ≡ bad → RulesReadIn form ws end None

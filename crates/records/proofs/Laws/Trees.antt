@@ -11,7 +11,8 @@ use Rattle.grammar.specs.Tree.{Element, ElementHead, leaf, block, AlternativeOf,
 use Rattle.grammar.specs.Form.{Form}
 use Rattle.grammar.specs.Parse.{Got, many}
 use Rattle.grammar.specs.Numbers.{most_rule_flags, most_alternative_flag, block_kind, kind_end}
-use Rattle.grammar.specs.Read.{is_name, is_label, label_of, is_head, option_at, head_at, alternative_at_in, block_at_in, element_at_in, leaf_at_in, payload_at_in, rule_at_in}
+use Rattle.grammar.specs.Read.{is_name, is_label, label_of, is_head, option_at, head_at, alternative_at_in, block_at_in, element_at_in}
+use Rattle.grammar.specs.Read.{leaf_at_in, payload_at_in, rule_at_in}
 use Rattle.std.specs.Prelude.{Option, Some, None, Result, Ok, Err, is_err}
 use Rattle.std.specs.Result.{result_ok}
 use Rattle.words.specs.declared.numbers.Quantifier.{Quantifier}
@@ -85,7 +86,8 @@ module _ (form : Form) (ws : List ℕ) (end at : ℕ) where
     pub payload_leaf : {k : ℕ} {r : Option ℕ} → (k ≡ block_kind → ⊥) → r ≡ step_of (leaf_at_in form ws end k at) → (h : ElementHead)
         → r ≡ step_of (payload_at_in form ws end blk h k at)
     unfolding payload_at_in
-    payload_leaf {k} e f h = rw (ne_eqb k block_kind e, payload_at_in) (f ∙ sym (then_same {B = Element B} (leaf_at_in form ws end k at) (leaf h)))
+    payload_leaf {k} e f h = rw (ne_eqb k block_kind e, payload_at_in)
+        (f ∙ sym (then_same {B = Element B} (leaf_at_in form ws end k at) (leaf h)))
 
     -- of a kind that there is not
     payload_none : (h : ElementHead) (p k : ℕ) → ((a : Kind) → kind_number a ≡ k → ⊥) → step_of (payload_at_in form ws end blk h k p) ≡ None
@@ -105,7 +107,8 @@ module _ (form : Form) (ws : List ℕ) (end at : ℕ) where
 
     module _ {w : ℕ} (i : w ≡ get_or ws (at + 2) 0) (u : Result Kind Unnamed) (m : Names kind_number (w % kind_end) u) {r : Option ℕ} where
       pub element_more : {k : Kind} {p : ℕ} → Some k ≡ result_ok u → Some p ≡ step_of (head_at ws end at)
-          → ((h : ElementHead) → r ≡ step_of (payload_at_in form ws end blk h (kind_number k) p)) → r ≡ step_of (element_at_in form ws end blk at)
+          → ((h : ElementHead) → r ≡ step_of (payload_at_in form ws end blk h (kind_number k) p))
+          → r ≡ step_of (element_at_in form ws end blk at)
       unfolding element_at_in
       element_more {k} {p} o e g =
           let z : kind_number k ≡ get_or ws (at + 2) 0 % kind_end = rw i at (some_kind u m o) in
@@ -126,7 +129,8 @@ module _ (form : Form) (ws : List ℕ) (end at : ℕ) where
       unfolding alternative_at_in
       alternative_short h = simp (lt-leb 5 (end - at) (omega arith))
 
-      pub alternative_flag : {w : ℕ} → 5 ≤ l → w ≡ get_or ws (at + 2) 0 → most_alternative_flag < w → None ≡ step_of (alternative_at_in form ws end blk at)
+      pub alternative_flag : {w : ℕ} → 5 ≤ l → w ≡ get_or ws (at + 2) 0 → most_alternative_flag < w
+          → None ≡ step_of (alternative_at_in form ws end blk at)
       unfolding alternative_at_in
       alternative_flag h f k = simp (le-leb 5 (end - at) (omega arith), lt-leb (get_or ws (at + 2) 0) most_alternative_flag (omega arith))
 
@@ -197,7 +201,8 @@ module _ (form : Form) (ws : List ℕ) (end at : ℕ) where
   block_short (suc d) z e h = simp (lt-leb 1 (end - at) (omega arith))
 
   pub block_more : (d : ℕ) {l n : ℕ} {r : Option ℕ} → (d ≡ 0 → ⊥) → l ≡ end - at → 1 ≤ l → n ≡ get_or ws at 0
-      → r ≡ step_of (many (alternative_at_in form ws end (block_at_in form ws end (d - 1))) n (at + 1)) → r ≡ step_of (block_at_in form ws end d at)
+      → r ≡ step_of (many (alternative_at_in form ws end (block_at_in form ws end (d - 1))) n (at + 1))
+      → r ≡ step_of (block_at_in form ws end d at)
   unfolding block_at_in
   block_more zero z e h f g = absurd (z refl)
   block_more (suc d) z e h f g = simp (le-leb 1 (end - at) (omega arith), ← f) (simp sub-one at g)

@@ -11,7 +11,7 @@ use lib.Dec.{leb}
 use borrow.Author.Tests.{leb-true}
 use Rattle.grammar.specs.Numbers.{trailer_words, most_words}
 use Rattle.grammar.specs.Encode.{encode}
-use Rattle.grammar.specs.Valid.{fits, fits_in}
+use Rattle.grammar.specs.Valid.{fits_in}
 use Rattle.grammar.specs.Lists.{total}
 use Rattle.grammar.specs.Words.{words}
 use Rattle.grammar.specs.Laws.Stands.{stands_none}

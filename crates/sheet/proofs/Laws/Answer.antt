@@ -20,8 +20,9 @@ use Rattle.grammar.specs.Lists.{rising}
 use Rattle.grammar.specs.Ids.{is_distinct, is_below}
 use Rattle.grammar.specs.Tree as tree
 use Rattle.grammar.specs.Reading as reading
-use Rattle.grammar.specs.Reading.{refused, sheet, trailer, unit_kind, first_distance, second_distance, rules_end, is_trailer, read_words_in, rules_of_in}
-use Rattle.grammar.specs.Reading.{preserved_ids, counters_of, rules_of, sheet_of, judge, read_words}
+use Rattle.grammar.specs.Reading.{refused, sheet, trailer, unit_kind, first_distance, second_distance, rules_end, is_trailer, read_words_in}
+use Rattle.grammar.specs.Reading.{rules_of_in}
+use Rattle.grammar.specs.Reading.{preserved_ids, counters_of, sheet_of, judge, read_words}
 use Rattle.grammar.specs.Laws.Words.{length_words}
 use Rattle.grammar.specs.Laws.Stands.{stands_length}
 use Rattle.grammar.specs.Laws.Parse.{yields_got}

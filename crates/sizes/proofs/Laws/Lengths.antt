@@ -8,7 +8,8 @@ use lib.ListN.{length, length-append}
 use Rattle.grammar.specs.Numbers.{alternative_sort, block_kind}
 use Rattle.grammar.specs.Tree.{ElementHead, Element, leaf, block}
 use Rattle.grammar.specs.Tree.{AlternativeOf, Block, Counters}
-use Rattle.grammar.specs.Encode.{encode_option, encode_head, leaf_kind, encode_leaf, encode_element, encode_alternative, encode_block, encode_alternative_in, encode_block_in, encode_element_in}
+use Rattle.grammar.specs.Encode.{encode_option, encode_head, leaf_kind, encode_leaf, encode_element, encode_alternative, encode_block}
+use Rattle.grammar.specs.Encode.{encode_alternative_in, encode_block_in, encode_element_in}
 use Rattle.grammar.specs.Lists.{each}
 use Rattle.grammar.specs.Fold.{element_fold}
 use Rattle.grammar.specs.Laws.Opened.{options_length}

@@ -164,7 +164,8 @@ module _ {ws : List ℕ} {end at p q kind : ℕ} {h : ElementHead} (w : HeadWord
     (u : Spans ws end encode_leaf ok_leaf p (call k) q) where
   bare_is : bare_reference h k ≡ bare_at ws at p
   unfolding bare_reference encode_leaf_in ok_head ok_label
-  bare_is = rw (w.named, (call_stands k u.stands).arguments_are, w.counted) (go h.label h.options (first_so (ok_label h.label) _ (second_so (leb h.quantifier 6) _ w.fine)))
+  bare_is = rw (w.named, (call_stands k u.stands).arguments_are, w.counted)
+      (go h.label h.options (first_so (ok_label h.label) _ (second_so (leb h.quantifier 6) _ w.fine)))
     where
       go : (l : Label) (os : List OptionDecl) → ok_label l ≡ true
           → elim l as (λ z. Bool) [ unlabelled ↦ eqb k.arguments 0 && is_empty os | labelled i n ↦ false ]

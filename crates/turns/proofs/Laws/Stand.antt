@@ -34,7 +34,8 @@ module _ (ws : List ℕ) (end at : ℕ) where
 
   parsed : FoundRule ws end at → answer ≡ bad → ⊥
   parsed f e =
-      let g : got f.tree f.next ≡ bad = sym (rule_complete newest ws end _ _ _ (block_complete newest ws end body_depth) at f.tree f.next f.spans) ∙ e in
+      let g : got f.tree f.next ≡ bad = sym
+      (rule_complete newest ws end _ _ _ (block_complete newest ws end body_depth) at f.tree f.next f.spans) ∙ e in
       absurd (let z : ◌≡◌ {A = ℕ} 0 1 = cc in omega arith)
 
   found : at ≤ end → (answer ≡ bad → ⊥) → FoundRule ws end at

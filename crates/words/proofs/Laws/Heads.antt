@@ -57,9 +57,12 @@ module _ {form : Form} {d : ℕ} {ws : List ℕ} {end at p : ℕ} {k : Kind} (h 
   leaf_body (inr e) g i = ends_predicate form d h no f (ap kind_number e) g i
 
   pub leaf_plain : k ≡ kind.Epsilon ⊎ (k ≡ kind.Terminal ⊎ (k ≡ kind.Block ⊎ k ≡ kind.EndOfInput)) → LeafEndIn form ws end d at p p
-  leaf_plain (inl e) = let i = ap kind_number e in ends_nothing form d h no f (λ z. omega arith) (λ z. omega arith) (λ z. omega arith) (λ z. omega arith)
-  leaf_plain (inr (inl e)) = let i = ap kind_number e in ends_nothing form d h no f (λ z. omega arith) (λ z. omega arith) (λ z. omega arith) (λ z. omega arith)
+  leaf_plain (inl e) = let i = ap kind_number e in ends_nothing form d h no f (λ z. omega arith) (λ z. omega arith) (λ z. omega arith)
+      (λ z. omega arith)
+  leaf_plain (inr (inl e)) = let i = ap kind_number e in ends_nothing form d h no f (λ z. omega arith) (λ z. omega arith) (λ z. omega arith)
+      (λ z. omega arith)
   leaf_plain (inr (inr (inl e))) = absurd (no (ap kind_number e))
-  leaf_plain (inr (inr (inr e))) = let i = ap kind_number e in ends_nothing form d h no f (λ z. omega arith) (λ z. omega arith) (λ z. omega arith) (λ z. omega arith)
+  leaf_plain (inr (inr (inr e))) = let i = ap kind_number e in ends_nothing form d h no f (λ z. omega arith) (λ z. omega arith)
+      (λ z. omega arith) (λ z. omega arith)
 
 pub ruleset kinds = (kind_known, kind_head, leaf_call, leaf_token, leaf_body, leaf_plain)
