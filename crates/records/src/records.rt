@@ -153,7 +153,8 @@ fn head_at(s: &Records, at: usize) -> Option<usize>
 fn payload_at(s: &Records, depth: u32, kind: Kind, at: usize) -> Option<usize>
     ensures { (h : ElementHead)
         → result ≡ step_of
-        (payload_at_in (form s.now) (text s.now) s.now.end (block_at_in (form s.now) (text s.now) s.now.end depth) h (kind_number kind) at) }
+        (payload_at_in (form s.now) (text s.now) s.now.end (block_at_in (form s.now) (text s.now) s.now.end depth)
+        h (kind_number kind) at) }
 {
     match kind {
         Kind::Block => block_at(s, depth, at),
