@@ -38,7 +38,8 @@ fn past_options(from: usize, n: u32) -> usize
     from + 2 * (n as usize)
 }
 
-// In a form; and in the newest.
+// Each of these three takes a form, and is there for the newest. A head has the same words in every form: the form only says which
+// record it is that stands there.
 pub fn element_head_in(form: Form, s: &Sheet, depth: u32, at: usize) -> Head
     requires bounds { at + 6 ≤ s.now.end }
     requires found_element { FoundElementIn (form_of form) (text s.now) s.now.end depth at }
