@@ -3,6 +3,7 @@ use Rattle.std.specs.Prelude.{ℕ, suc, ◌≡◌, List, [], ◌∷◌, Bool, tr
 use Rattle.std.specs.Coded.{×_prop, le_prop, Coded-set, coded_ℕ, coded_bool, coded_list}
 use Rattle.std.proofs.Common.{sym, ap, ◌∙◌}
 use mathlib.Core.HLevel.{is_prop→PathP}
+use Rattle.grammar.specs.Form.{newest}
 use Rattle.grammar.specs.Tree.{Rule, body_depth}
 use Rattle.grammar.specs.Lists.{each, all, distinct}
 use Rattle.grammar.specs.Ids.{rule_ids, rule_names}
@@ -63,7 +64,7 @@ module _ (ws : List ℕ) (end : ℕ) where
         }
 
   rules_prop : (n at : ℕ) → IsProp (FoundRules ws end n at)
-  rules_prop = many_prop (rule_complete ws end _ _ _ (block_complete ws end body_depth))
+  rules_prop = many_prop (rule_complete newest ws end _ _ _ (block_complete newest ws end body_depth))
 
   module _ (rules : Rules) where
     rows_prop : IsProp (FoundRows ws end rules)

@@ -2,9 +2,10 @@
 use Rattle.std.specs.Prelude.{ℕ, zero, suc, ◌≤◌, ◌≡◌, List, [], ◌∷◌, Bool, length}
 use Rattle.grammar.specs.Stands.{Spans}
 use Rattle.grammar.specs.Tree.{OptionDecl, ElementHead, Leaf, Element, leaf, block, AlternativeOf, Block, RuleOf, Rule, body_depth}
-use Rattle.grammar.specs.Encode.{encode_element, encode_alternative, encode_block, encode_rule}
+use Rattle.grammar.specs.Form.{Form, newest}
+use Rattle.grammar.specs.Encode.{encode_element_in, encode_alternative_in, encode_block_in, encode_rule}
 use Rattle.grammar.specs.Lists.{each, all}
-use Rattle.grammar.specs.Valid.{ok_element, ok_alternative, ok_block, ok_rule}
+use Rattle.grammar.specs.Valid.{ok_element_in, ok_alternative_in, ok_block_in, ok_rule}
 
 -- What an alternative has beside its elements.
 pub record AlternativeHead : Type 0 where
@@ -59,24 +60,53 @@ module _ (ws : List ℕ) (end : ℕ) {A S : Type 0} (enc : A → List ℕ) (ok :
     pub value : (as' : List A) (q : ℕ) → Spans ws end (each enc) (all ok) at as' q → length as' ≡ n → r ≡ folded step s as'
     pub within : p ≤ end
 
+module _ (form : Form) {S : Type 0} (walk : Steps S) (ws : List ℕ) (end : ℕ) where
+  module _ (d : ℕ) where
+    abbrev pub ElementWalkedIn : ℕ → S → ℕ → S → Type 0
+    ElementWalkedIn =
+        WalkedOne ws end (encode_element_in form (encode_block_in form d)) (ok_element_in form (ok_block_in form d))
+        (element_fold walk (block_fold walk d))
+
+    abbrev pub ElementsWalkedIn : ℕ → ℕ → S → ℕ → S → Type 0
+    ElementsWalkedIn =
+        WalkedMany ws end (encode_element_in form (encode_block_in form d)) (ok_element_in form (ok_block_in form d))
+        (element_fold walk (block_fold walk d))
+
+    abbrev pub AlternativeWalkedIn : ℕ → S → ℕ → S → Type 0
+    AlternativeWalkedIn =
+        WalkedOne ws end (encode_alternative_in form (encode_block_in form d)) (ok_alternative_in form (ok_block_in form d))
+        (alternative_fold walk (block_fold walk d))
+
+    abbrev pub AlternativesWalkedIn : ℕ → ℕ → S → ℕ → S → Type 0
+    AlternativesWalkedIn =
+        WalkedMany ws end (encode_alternative_in form (encode_block_in form d)) (ok_alternative_in form (ok_block_in form d))
+        (alternative_fold walk (block_fold walk d))
+
+  abbrev pub RuleWalkedIn : ℕ → S → ℕ → S → Type 0
+  RuleWalkedIn =
+      WalkedOne ws end (encode_rule (encode_block_in form body_depth)) (ok_rule (ok_block_in form body_depth)) (rule_fold walk body_depth)
+
+  abbrev pub RulesWalkedIn : ℕ → ℕ → S → ℕ → S → Type 0
+  RulesWalkedIn =
+      WalkedMany ws end (encode_rule (encode_block_in form body_depth)) (ok_rule (ok_block_in form body_depth)) (rule_fold walk body_depth)
+
+-- In the newest form.
 module _ {S : Type 0} (walk : Steps S) (ws : List ℕ) (end : ℕ) where
   module _ (d : ℕ) where
     abbrev pub ElementWalked : ℕ → S → ℕ → S → Type 0
-    ElementWalked = WalkedOne ws end (encode_element (encode_block d)) (ok_element (ok_block d)) (element_fold walk (block_fold walk d))
+    ElementWalked = ElementWalkedIn newest walk ws end d
 
     abbrev pub ElementsWalked : ℕ → ℕ → S → ℕ → S → Type 0
-    ElementsWalked = WalkedMany ws end (encode_element (encode_block d)) (ok_element (ok_block d)) (element_fold walk (block_fold walk d))
+    ElementsWalked = ElementsWalkedIn newest walk ws end d
 
     abbrev pub AlternativeWalked : ℕ → S → ℕ → S → Type 0
-    AlternativeWalked =
-        WalkedOne ws end (encode_alternative (encode_block d)) (ok_alternative (ok_block d)) (alternative_fold walk (block_fold walk d))
+    AlternativeWalked = AlternativeWalkedIn newest walk ws end d
 
     abbrev pub AlternativesWalked : ℕ → ℕ → S → ℕ → S → Type 0
-    AlternativesWalked =
-        WalkedMany ws end (encode_alternative (encode_block d)) (ok_alternative (ok_block d)) (alternative_fold walk (block_fold walk d))
+    AlternativesWalked = AlternativesWalkedIn newest walk ws end d
 
   abbrev pub RuleWalked : ℕ → S → ℕ → S → Type 0
-  RuleWalked = WalkedOne ws end (encode_rule (encode_block body_depth)) (ok_rule (ok_block body_depth)) (rule_fold walk body_depth)
+  RuleWalked = RuleWalkedIn newest walk ws end
 
   abbrev pub RulesWalked : ℕ → ℕ → S → ℕ → S → Type 0
-  RulesWalked = WalkedMany ws end (encode_rule (encode_block body_depth)) (ok_rule (ok_block body_depth)) (rule_fold walk body_depth)
+  RulesWalked = RulesWalkedIn newest walk ws end

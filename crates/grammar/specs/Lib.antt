@@ -1,6 +1,7 @@
 pub mod Numbers
 pub mod Lists
 pub mod Tree
+pub mod Form
 pub mod Words
 pub mod Encode
 pub mod Parse

@@ -3,6 +3,7 @@ use Rattle.std.specs.Prelude.{ℕ, zero, suc, ◌+◌, ◌-◌, ◌/◌, ◌%◌
 use Rattle.grammar.specs.Numbers.{most_name, non_local, kind_end, block_kind, one_or_more_nongreedy, most_alternative_flag, most_rule_flags}
 use Rattle.grammar.specs.Tree.{OptionDecl, Reference, Label, unlabelled, labelled, ElementHead, Leaf, epsilon, action, predicate}
 use Rattle.grammar.specs.Tree.{call, token, terminal, end_of_input, Element, leaf, block, AlternativeOf, Block, RuleOf, Rule, body_depth}
+use Rattle.grammar.specs.Form.{Form, newest, call_words}
 use Rattle.grammar.specs.Parse.{Got, got, bad, ◌then◌, given, many}
 
 abbrev pub is_name : ℕ → Bool
@@ -42,24 +43,8 @@ module _ (ws : List ℕ) (end : ℕ) where
   body_at make at =
       given (room 2 at) λ _. many reference_at (word (at + 1)) (at + 2) then λ rs q. got (make (word at) rs) q
 
-  unfoldable pub call_at : ℕ → Got Leaf
-  call_at at =
-      given (room 2 at && is_name (word at)) λ _. got (call (record { name = word at; arguments = word (at + 1) })) (at + 2)
-
   unfoldable pub token_at : ℕ → Got Leaf
   token_at at = given (room 1 at && is_name (word at)) λ _. got (token (word at)) (at + 1)
-
-  -- Of a kind, in the order of leaf_kind.
-  unfoldable pub leaf_at : ℕ → ℕ → Got Leaf
-  leaf_at zero at = got epsilon at
-  leaf_at (suc zero) at = body_at action_of at
-  leaf_at (suc (suc zero)) at = body_at predicate_of at
-  leaf_at (suc (suc (suc zero))) at = call_at at
-  leaf_at (suc (suc (suc (suc zero)))) at = token_at at
-  leaf_at (suc (suc (suc (suc (suc zero))))) at = got terminal at
-  leaf_at (suc (suc (suc (suc (suc (suc zero)))))) at = bad
-  leaf_at (suc (suc (suc (suc (suc (suc (suc zero))))))) at = got end_of_input at
-  leaf_at (suc (suc (suc (suc (suc (suc (suc (suc k)))))))) at = bad
 
   -- The six fixed words of an element.
   unfoldable pub is_head : ℕ → Bool
@@ -78,38 +63,93 @@ module _ (ws : List ℕ) (end : ℕ) where
       })
       q
 
+module _ (f : Form) (ws : List ℕ) (end : ℕ) where
+  -- Where the form has no place for a precedence there is none.
+  unfoldable pub call_at_in : ℕ → Got Leaf
+  call_at_in at =
+      given (room ws end (call_words f) at && is_name (word ws end at)) λ _.
+      got
+      (call (record {
+        name = word ws end at;
+        arguments = word ws end (at + 1);
+        precedence = elim f.precedences [ true ↦ word ws end (at + 2) | false ↦ 0 ];
+      }))
+      (at + call_words f)
+
+  -- Of a kind, in the order of leaf_kind.
+  unfoldable pub leaf_at_in : ℕ → ℕ → Got Leaf
+  leaf_at_in zero at = got epsilon at
+  leaf_at_in (suc zero) at = body_at ws end action_of at
+  leaf_at_in (suc (suc zero)) at = body_at ws end predicate_of at
+  leaf_at_in (suc (suc (suc zero))) at = call_at_in at
+  leaf_at_in (suc (suc (suc (suc zero)))) at = token_at ws end at
+  leaf_at_in (suc (suc (suc (suc (suc zero))))) at = got terminal at
+  leaf_at_in (suc (suc (suc (suc (suc (suc zero)))))) at = bad
+  leaf_at_in (suc (suc (suc (suc (suc (suc (suc zero))))))) at = got end_of_input at
+  leaf_at_in (suc (suc (suc (suc (suc (suc (suc (suc k)))))))) at = bad
+
   module _ {B : Type 0} (block_at : ℕ → Got B) where
-    unfoldable pub payload_at : ElementHead → ℕ → ℕ → Got (Element B)
-    payload_at h kind at =
+    unfoldable pub payload_at_in : ElementHead → ℕ → ℕ → Got (Element B)
+    payload_at_in h kind at =
         elim (eqb kind block_kind) [
           | true ↦ block_at at then λ b q. got (block h b) q
-          | false ↦ leaf_at kind at then λ l q. got (leaf h l) q
+          | false ↦ leaf_at_in kind at then λ l q. got (leaf h l) q
         ]
 
-    unfoldable pub element_at : ℕ → Got (Element B)
-    element_at at = head_at at then λ h p. payload_at h (word (at + 2) % kind_end) p
+    unfoldable pub element_at_in : ℕ → Got (Element B)
+    element_at_in at = head_at ws end at then λ h p. payload_at_in h (word ws end (at + 2) % kind_end) p
 
-    unfoldable pub alternative_at : ℕ → Got (AlternativeOf B)
-    alternative_at at =
-        given (room 5 at && leb (word (at + 2)) most_alternative_flag) λ _. many option_at (word (at + 3)) (at + 5) then λ os p.
-        many element_at (word (at + 4)) p then λ es q.
-        got (record { id = word at; carried = word (at + 1); flag = word (at + 2); options = os; elements = es }) q
+    unfoldable pub alternative_at_in : ℕ → Got (AlternativeOf B)
+    alternative_at_in at =
+        given (room ws end 5 at && leb (word ws end (at + 2)) most_alternative_flag) λ _.
+        many (option_at ws end) (word ws end (at + 3)) (at + 5) then λ os p.
+        many element_at_in (word ws end (at + 4)) p then λ es q.
+        got
+        (record { id = word ws end at; carried = word ws end (at + 1); flag = word ws end (at + 2); options = os; elements = es })
+        q
 
-    unfoldable pub rule_at : ℕ → Got (RuleOf B)
-    rule_at at =
-        given (room 3 at && (is_name (word (at + 1)) && leb (word (at + 2)) most_rule_flags)) λ _. block_at (at + 3) then λ b q.
-        got (record { id = word at; name = word (at + 1); flags = word (at + 2); body = b }) q
+    unfoldable pub rule_at_in : ℕ → Got (RuleOf B)
+    rule_at_in at =
+        given (room ws end 3 at && (is_name (word ws end (at + 1)) && leb (word ws end (at + 2)) most_rule_flags)) λ _.
+        block_at (at + 3) then λ b q.
+        got (record { id = word ws end at; name = word ws end (at + 1); flags = word ws end (at + 2); body = b }) q
 
   -- The count and the alternatives of a block that may nest blocks less than d deep.
-  unfoldable pub block_at : (d : ℕ) → ℕ → Got (Block d)
-  block_at zero at = bad
-  block_at (suc d) at = given (room 1 at) λ _. many (alternative_at (block_at d)) (word at) (at + 1)
+  unfoldable pub block_at_in : (d : ℕ) → ℕ → Got (Block d)
+  block_at_in zero at = bad
+  block_at_in (suc d) at = given (room ws end 1 at) λ _. many (alternative_at_in (block_at_in d)) (word ws end at) (at + 1)
 
   -- Rules up to the end exactly, and at most n of them.
-  unfoldable pub rules_at : ℕ → ℕ → Got (List Rule)
-  rules_at zero at = given (eqb at end) λ _. got [] at
-  rules_at (suc n) at =
+  unfoldable pub rules_at_in : ℕ → ℕ → Got (List Rule)
+  rules_at_in zero at = given (eqb at end) λ _. got [] at
+  rules_at_in (suc n) at =
       elim (eqb at end) [
         | true ↦ got [] at
-        | false ↦ rule_at (block_at body_depth) at then λ r p. rules_at n p then λ rs q. got (r ∷ rs) q
+        | false ↦ rule_at_in (block_at_in body_depth) at then λ r p. rules_at_in n p then λ rs q. got (r ∷ rs) q
       ]
+
+-- In the newest form.
+module _ (ws : List ℕ) (end : ℕ) where
+  abbrev pub call_at : ℕ → Got Leaf
+  call_at = call_at_in newest ws end
+
+  abbrev pub leaf_at : ℕ → ℕ → Got Leaf
+  leaf_at = leaf_at_in newest ws end
+
+  abbrev pub payload_at : {B : Type 0} → (ℕ → Got B) → ElementHead → ℕ → ℕ → Got (Element B)
+  payload_at = payload_at_in newest ws end
+
+  abbrev pub element_at : {B : Type 0} → (ℕ → Got B) → ℕ → Got (Element B)
+  element_at = element_at_in newest ws end
+
+  abbrev pub alternative_at : {B : Type 0} → (ℕ → Got B) → ℕ → Got (AlternativeOf B)
+  alternative_at = alternative_at_in newest ws end
+
+  abbrev pub rule_at : {B : Type 0} → (ℕ → Got B) → ℕ → Got (RuleOf B)
+  rule_at = rule_at_in newest ws end
+
+  abbrev pub block_at : (d : ℕ) → ℕ → Got (Block d)
+  block_at = block_at_in newest ws end
+
+  abbrev pub rules_at : ℕ → ℕ → Got (List Rule)
+  rules_at = rules_at_in newest ws end

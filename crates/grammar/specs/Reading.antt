@@ -6,7 +6,8 @@ use Rattle.grammar.specs.Numbers.{bad_length, bad_trailer, bad_record, shared_nu
 use Rattle.grammar.specs.Tree.{Rule, Counters, Sheet}
 use Rattle.grammar.specs.Words.{words}
 use Rattle.grammar.specs.Parse.{Got, got, bad, ◌then◌, given}
-use Rattle.grammar.specs.Read.{rules_at}
+use Rattle.grammar.specs.Form.{Form, newest}
+use Rattle.grammar.specs.Read.{rules_at_in}
 use Rattle.grammar.specs.Ids.{is_distinct, is_below}
 use Rattle.grammar.specs.Valid.{rule_limit, is_kind}
 use Rattle.grammar.specs.Lists.{rising}
@@ -58,10 +59,6 @@ module _ (ws : List ℕ) where
         predicate = get_or ws (trailer + 7) 0;
       }
 
-  -- The records in front of the trailer; `bad` is refusal 4.
-  unfoldable pub rules_of : Got (List Rule)
-  rules_of = rules_at ws rules_end rule_limit 0 then λ rs q. given (rising preserved_ids) λ _. got rs q
-
   unfoldable pub sheet_of : List Rule → Sheet
   sheet_of rs = record { kind = unit_kind; rules = rs; preserved = preserved_ids; counters = counters_of }
 
@@ -74,8 +71,23 @@ module _ (ws : List ℕ) where
         | true ↦ elim (is_below counters_of rs) [ false ↦ refused id_past_counter | true ↦ sheet (sheet_of rs) ]
       ]
 
-  unfoldable pub read_words : Reading
-  read_words = elim is_trailer [ false ↦ refused bad_trailer | true ↦ judge rules_of ]
+module _ (f : Form) (ws : List ℕ) where
+  -- The records in front of the trailer; `bad` is refusal 4.
+  unfoldable pub rules_of_in : Got (List Rule)
+  rules_of_in = rules_at_in f ws (rules_end ws) rule_limit 0 then λ rs q. given (rising (preserved_ids ws)) λ _. got rs q
 
-unfoldable pub read : List ℕ → Reading
-read bs = elim (is_length (length bs)) [ false ↦ refused bad_length | true ↦ read_words (words bs) ]
+  unfoldable pub read_words_in : Reading
+  read_words_in = elim (is_trailer ws) [ false ↦ refused bad_trailer | true ↦ judge ws rules_of_in ]
+
+unfoldable pub read_in : Form → List ℕ → Reading
+read_in f bs = elim (is_length (length bs)) [ false ↦ refused bad_length | true ↦ read_words_in f (words bs) ]
+
+-- In the newest form.
+abbrev pub rules_of : List ℕ → Got (List Rule)
+rules_of = rules_of_in newest
+
+abbrev pub read_words : List ℕ → Reading
+read_words = read_words_in newest
+
+abbrev pub read : List ℕ → Reading
+read = read_in newest

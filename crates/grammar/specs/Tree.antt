@@ -35,10 +35,11 @@ pub record Predicate : Type 0 where
   pub id : ℕ
   pub references : List Reference
 
--- A call of a rule by its name. Arguments: 0 none, else the number that stands for them.
+-- A call of a rule by its name. Arguments: 0 none, else the number that stands for them. Precedence: 0 none, else one more than it.
 pub record Call : Type 0 where
   pub name : ℕ
   pub arguments : ℕ
+  pub precedence : ℕ
 
 -- The kinds of element that hold no alternatives. `terminal` is kind 5, any terminal but a token; `end_of_input` is kind 7.
 pub data Leaf : Type 0 where

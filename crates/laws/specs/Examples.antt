@@ -73,7 +73,7 @@ every_sort =
         options = record { name = 12; value = 31 } ∷ [];
         elements = leaf (bare 1 22 once) (action (record { id = 1; references = record { kind = attribute; name = 13 } ∷ [] }))
             ∷ leaf (bare 2 23 once) (predicate (record { id = 1; references = record { kind = non_local; name = 14 } ∷ [] }))
-            ∷ leaf labelled_head (call (record { name = 17; arguments = 33 }))
+            ∷ leaf labelled_head (call (record { name = 17; arguments = 33; precedence = 0 }))
             ∷ leaf (bare 4 25 once) (token 18)
             ∷ leaf (bare 5 26 once) terminal
             ∷ leaf (bare 8 30 once) end_of_input

@@ -2,14 +2,15 @@
 ghost use Rattle.std.specs.Prelude.{◌≡◌, ℕ, ◌+◌, ◌-◌, ◌*◌, ◌<◌, ◌≤◌, ◌^◌, length, Option};
 ghost use Rattle.grammar.specs.Tree.{ElementHead};
 ghost use Rattle.grammar.specs.Words.{words};
-ghost use Rattle.grammar.specs.Read.{is_name, is_label, action_of, option_at, reference_at, body_at, call_at, token_at, leaf_at};
-ghost use Rattle.grammar.specs.Read.{head_at, payload_at, element_at, alternative_at, block_at};
+ghost use Rattle.grammar.specs.Read.{is_name, is_label, action_of, option_at, reference_at, body_at, call_at_in, token_at, leaf_at_in};
+ghost use Rattle.grammar.specs.Read.{head_at, payload_at_in, element_at_in, alternative_at_in, block_at_in};
 ghost use Rattle.grammar.specs.Parse.{many};
 ghost use Rattle.words.specs.Kinds.{kind_number};
-ghost use Rattle.records.specs.Lent.{text};
+ghost use Rattle.records.specs.Lent.{form, text};
 ghost use Rattle.records.specs.Step.{is_fixed, named, repeated, step_of};
 
 use crate::lent::Records;
+use words::form::call_words;
 use words::numbers::{AlternativeFlag, Kind, Name, Quantifier, ReferenceKind};
 use words::words::word;
 
@@ -98,9 +99,9 @@ fn body_at(s: &Records, at: usize) -> Option<usize>
 
 #[tactic(auto, using(crate::proofs::Laws::Records::names))]
 fn call_at(s: &Records, at: usize) -> Option<usize>
-    ensures { result ≡ step_of (call_at (text s.now) s.now.end at) }
+    ensures { result ≡ step_of (call_at_in (form s.now) (text s.now) s.now.end at) }
 {
-    named_at(s, 2, at)
+    named_at(s, call_words(s.form), at)
 }
 
 #[tactic(auto, using(crate::proofs::Laws::Records::names))]
@@ -112,7 +113,7 @@ fn token_at(s: &Records, at: usize) -> Option<usize>
 
 #[tactic(auto, using(crate::proofs::Laws::Records::leaves))]
 fn leaf_at(s: &Records, kind: Kind, at: usize) -> Option<usize>
-    ensures { result ≡ step_of (leaf_at (text s.now) s.now.end (kind_number kind) at) }
+    ensures { result ≡ step_of (leaf_at_in (form s.now) (text s.now) s.now.end (kind_number kind) at) }
 {
     match kind {
         Kind::Epsilon | Kind::Terminal | Kind::EndOfInput => Some(at),
@@ -151,7 +152,9 @@ fn head_at(s: &Records, at: usize) -> Option<usize>
 #[cycle(tree)]
 fn payload_at(s: &Records, depth: u32, kind: Kind, at: usize) -> Option<usize>
     ensures { (h : ElementHead)
-        → result ≡ step_of (payload_at (text s.now) s.now.end (block_at (text s.now) s.now.end depth) h (kind_number kind) at) }
+        → result ≡ step_of
+        (payload_at_in (form s.now) (text s.now) s.now.end (block_at_in (form s.now) (text s.now) s.now.end depth)
+        h (kind_number kind) at) }
 {
     match kind {
         Kind::Block => block_at(s, depth, at),
@@ -162,7 +165,8 @@ fn payload_at(s: &Records, depth: u32, kind: Kind, at: usize) -> Option<usize>
 #[tactic(auto, using(crate::proofs::Laws::Trees::trees))]
 #[cycle(tree)]
 fn element_at(s: &Records, depth: u32, at: usize) -> Option<usize>
-    ensures { result ≡ step_of (element_at (text s.now) s.now.end (block_at (text s.now) s.now.end depth) at) }
+    ensures { result ≡ step_of (element_at_in (form s.now) (text s.now) s.now.end
+        (block_at_in (form s.now) (text s.now) s.now.end depth) at) }
 {
     if !s.has_room(6, at) {
         return None;
@@ -176,7 +180,8 @@ fn element_at(s: &Records, depth: u32, at: usize) -> Option<usize>
 // and put two more frames on the stack at each depth.
 #[cycle(tree)]
 fn elements_at(s: &Records, depth: u32, n: u32, at: usize) -> Option<usize>
-    ensures { result ≡ step_of (many (element_at (text s.now) s.now.end (block_at (text s.now) s.now.end depth)) n at) }
+    ensures { result ≡ step_of (many (element_at_in (form s.now) (text s.now) s.now.end
+        (block_at_in (form s.now) (text s.now) s.now.end depth)) n at) }
 {
     let mut p = at;
     for _ in 0..n {
@@ -188,7 +193,8 @@ fn elements_at(s: &Records, depth: u32, n: u32, at: usize) -> Option<usize>
 #[tactic(auto, using(crate::proofs::Laws::Trees::trees))]
 #[cycle(tree)]
 fn alternative_at(s: &Records, depth: u32, at: usize) -> Option<usize>
-    ensures { result ≡ step_of (alternative_at (text s.now) s.now.end (block_at (text s.now) s.now.end depth) at) }
+    ensures { result ≡ step_of (alternative_at_in (form s.now) (text s.now) s.now.end
+        (block_at_in (form s.now) (text s.now) s.now.end depth) at) }
 {
     if !s.has_room(5, at) {
         return None;
@@ -203,7 +209,8 @@ fn alternative_at(s: &Records, depth: u32, at: usize) -> Option<usize>
 
 #[cycle(tree)]
 fn alternatives_at(s: &Records, depth: u32, n: u32, at: usize) -> Option<usize>
-    ensures { result ≡ step_of (many (alternative_at (text s.now) s.now.end (block_at (text s.now) s.now.end depth)) n at) }
+    ensures { result ≡ step_of (many (alternative_at_in (form s.now) (text s.now) s.now.end
+        (block_at_in (form s.now) (text s.now) s.now.end depth)) n at) }
 {
     let mut p = at;
     for _ in 0..n {
@@ -216,7 +223,7 @@ fn alternatives_at(s: &Records, depth: u32, n: u32, at: usize) -> Option<usize>
 #[tactic(auto, using(crate::proofs::Laws::Trees::trees))]
 #[cycle(tree)]
 pub fn block_at(s: &Records, depth: u32, at: usize) -> Option<usize>
-    ensures { result ≡ step_of (block_at (text s.now) s.now.end depth at) }
+    ensures { result ≡ step_of (block_at_in (form s.now) (text s.now) s.now.end depth at) }
 {
     if depth == 0 {
         return None;

@@ -3,13 +3,15 @@ ghost use Rattle.std.specs.Prelude.{◌≡◌, ◌+◌, ◌-◌, ◌*◌, ◌<�
 ghost use Rattle.grammar.specs.Numbers.{rule_limit};
 ghost use Rattle.grammar.specs.Tree.{body_depth};
 ghost use Rattle.grammar.specs.Words.{words};
-ghost use Rattle.grammar.specs.Read.{block_at, rule_at};
-ghost use Rattle.records.specs.Lent.{text};
+ghost use Rattle.grammar.specs.Read.{block_at_in, rule_at_in};
+ghost use Rattle.words.specs.Form.{form_of};
+ghost use Rattle.records.specs.Lent.{form, text};
 ghost use Rattle.records.specs.Step.{step_of};
-ghost use Rattle.records.specs.Rules.{IsEmpty, IsWith, RulesRead};
+ghost use Rattle.records.specs.Rules.{IsEmpty, IsWith, RulesReadIn, RulesRead};
 
 use crate::lent::Records;
 use crate::records::{block_at, is_name};
+use words::form::Form;
 use words::numbers::{Block, RuleFlags};
 use words::words::word;
 
@@ -54,7 +56,8 @@ pub fn add(rules: &mut Rules, id: u32, name: u32, place: u32)
 // One rule between a place and the end of the rules.
 #[tactic(auto, using(crate::proofs::Laws::Trees::rule_laws))]
 fn rule_at(s: &Records, at: usize) -> Option<usize>
-    ensures { result ≡ step_of (rule_at (text s.now) s.now.end (block_at (text s.now) s.now.end body_depth) at) }
+    ensures { result ≡ step_of (rule_at_in (form s.now) (text s.now) s.now.end
+        (block_at_in (form s.now) (text s.now) s.now.end body_depth) at) }
 {
     if !s.has_room(3, at) {
         return None;
@@ -70,11 +73,15 @@ fn rule_at(s: &Records, at: usize) -> Option<usize>
 
 // Every rule from the first word up to the end exactly, where every record is good.
 // Stays: this takes bytes and an end, since `Records` is made of them here and is known in no other crate.
-pub fn read_rules(s: &[u8], end: usize) -> Option<Rules>
+pub fn read_rules_in(form: Form, s: &[u8], end: usize) -> Option<Rules>
     requires { (4 * end ≤ length s.now) × (end < 2 ^ 31) }
-    ensures { RulesRead (words s.now) end result }
+    ensures { RulesReadIn (form_of form) (words s.now) end result }
 {
-    let lent = Records { bytes: s, end };
+    let lent = Records {
+        bytes: s,
+        end,
+        form,
+    };
     let mut rules = Rules::empty();
     let mut at: usize = 0;
     // Stays: each rule says where the next one begins, and the end of all of them ends the loop.
@@ -88,4 +95,12 @@ pub fn read_rules(s: &[u8], end: usize) -> Option<Rules>
         at = p;
     }
     Some(rules)
+}
+
+// The same in the newest form.
+pub fn read_rules(s: &[u8], end: usize) -> Option<Rules>
+    requires { (4 * end ≤ length s.now) × (end < 2 ^ 31) }
+    ensures { RulesRead (words s.now) end result }
+{
+    read_rules_in(Form::NEWEST, s, end)
 }

@@ -23,15 +23,15 @@ unfoldable pub computed : Corners → List ℕ → Answer
 unfolding Lists.member Lists.distinct Lists.below Lists.any Lists.keep Lists.first Lists.total Lists.meet Lists.insert Lists.sorted
     Lists.rounds Lists.all Lists.rising
     Words.words Words.bytes
-    Encode.encode_head Encode.leaf_kind Encode.encode_leaf Encode.encode_element Encode.encode_alternative Encode.encode_rule
-    Encode.encode_block Encode.encode
-    Read.option_at Read.reference_at Read.body_at Read.call_at Read.token_at Read.leaf_at Read.is_head Read.head_at Read.payload_at
-    Read.element_at Read.alternative_at Read.rule_at Read.block_at Read.rules_at
+    Encode.encode_head Encode.leaf_kind Encode.encode_leaf_in Encode.encode_element_in Encode.encode_alternative_in Encode.encode_rule
+    Encode.encode_block_in Encode.encode_in
+    Read.option_at Read.reference_at Read.body_at Read.call_at_in Read.token_at Read.leaf_at_in Read.is_head Read.head_at Read.payload_at_in
+    Read.element_at_in Read.alternative_at_in Read.rule_at_in Read.block_at_in Read.rules_at_in
     Ids.label_ids Ids.head_ids Ids.leaf_ids Ids.element_ids Ids.alternative_ids Ids.block_ids Ids.is_distinct Ids.is_below
-    Valid.ok_label Valid.ok_head Valid.ok_leaf Valid.ok_element Valid.ok_alternative Valid.ok_rule Valid.ok_block Valid.ok_rules Valid.valid
-    Valid.fits
-    Reading.is_trailer Reading.preserved_ids Reading.counters_of Reading.rules_of Reading.sheet_of Reading.judge Reading.read_words
-    Reading.read
+    Valid.ok_label Valid.ok_head Valid.ok_leaf_in Valid.ok_element_in Valid.ok_alternative_in Valid.ok_rule Valid.ok_block_in
+    Valid.ok_rules_in Valid.valid_in Valid.fits_in
+    Reading.is_trailer Reading.preserved_ids Reading.counters_of Reading.rules_of_in Reading.sheet_of Reading.judge Reading.read_words_in
+    Reading.read_in
     Walks.sort_of Walks.is_end Walks.is_epsilon_only Walks.bare_reference Walks.element_gives Walks.block_gives Walks.elements_give
     Walks.leaf_names
     Walks.references

@@ -10,7 +10,7 @@ abbrev pub labelled_element : (id : ℕ) → Label → Leaf → Element (Block i
 labelled_element i x l = leaf (record { id = i; carried = 0; quantifier = once; label = x; options = [] }) l
 
 abbrev pub call_to : (name : ℕ) → Leaf
-call_to n = call (record { name = n; arguments = 0 })
+call_to n = call (record { name = n; arguments = 0; precedence = 0 })
 
 abbrev pub alternative : (id : ℕ) → List (Element (Block inner_depth)) → Alternative
 alternative i es = record { id = i; carried = 0; flag = 0; options = []; elements = es }

@@ -1,3 +1,4 @@
+pub mod Form
 pub mod Kinds
 pub mod Laws
 pub mod Refusal

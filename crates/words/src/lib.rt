@@ -2,6 +2,7 @@
 // that stands in a sheet begin and end.
 #![tactic(auto)]
 
+pub mod form;
 pub mod numbers;
 pub mod sheet;
 pub mod visit;

@@ -2,9 +2,12 @@
 ghost use Rattle.std.specs.Prelude.{◌≡◌, ◌+◌, ◌*◌, ◌<◌, ◌≤◌, ◌^◌};
 ghost use Rattle.grammar.specs.Numbers.{block_kind};
 ghost use Rattle.grammar.specs.Found.{FoundElement, FoundAlternative, HeadAt, AlternativeAt, LeafEnd};
+ghost use Rattle.grammar.specs.Found.{FoundElementIn, FoundAlternativeIn, LeafEndIn};
+ghost use Rattle.words.specs.Form.{form_of};
 ghost use Rattle.words.specs.Kinds.{kind_number};
 ghost use Rattle.words.specs.Sheet.{text};
 
+use crate::form::{Form, call_words};
 use crate::numbers::Kind;
 use crate::sheet::Sheet;
 use crate::words::word;
@@ -35,9 +38,11 @@ fn past_options(from: usize, n: u32) -> usize
     from + 2 * (n as usize)
 }
 
-pub fn element_head(s: &Sheet, depth: u32, at: usize) -> Head
+// Each of these three takes a form, and is there for the newest. A head has the same words in every form: the form only says which
+// record it is that stands there.
+pub fn element_head_in(form: Form, s: &Sheet, depth: u32, at: usize) -> Head
     requires bounds { at + 6 ≤ s.now.end }
-    requires found_element { FoundElement (text s.now) s.now.end depth at }
+    requires found_element { FoundElementIn (form_of form) (text s.now) s.now.end depth at }
     ensures { HeadAt (text s.now) s.now.end at (kind_number result.kind) result.payload }
 {
     let number = word(s.bytes, at + 2) % Kind::END;
@@ -46,9 +51,17 @@ pub fn element_head(s: &Sheet, depth: u32, at: usize) -> Head
     Head { kind, payload }
 }
 
-pub fn alternative_head(s: &Sheet, depth: u32, at: usize) -> Elements
+pub fn element_head(s: &Sheet, depth: u32, at: usize) -> Head
+    requires bounds { at + 6 ≤ s.now.end }
+    requires found_element { FoundElement (text s.now) s.now.end depth at }
+    ensures { HeadAt (text s.now) s.now.end at (kind_number result.kind) result.payload }
+{
+    element_head_in(Form::NEWEST, s, depth, at)
+}
+
+pub fn alternative_head_in(form: Form, s: &Sheet, depth: u32, at: usize) -> Elements
     requires bounds { at + 5 ≤ s.now.end }
-    requires found_alternative { FoundAlternative (text s.now) s.now.end depth at }
+    requires found_alternative { FoundAlternativeIn (form_of form) (text s.now) s.now.end depth at }
     ensures { AlternativeAt (text s.now) s.now.end at result.count result.first }
 {
     let count = word(s.bytes, at + 4);
@@ -56,17 +69,33 @@ pub fn alternative_head(s: &Sheet, depth: u32, at: usize) -> Elements
     Elements { count, first }
 }
 
+pub fn alternative_head(s: &Sheet, depth: u32, at: usize) -> Elements
+    requires bounds { at + 5 ≤ s.now.end }
+    requires found_alternative { FoundAlternative (text s.now) s.now.end depth at }
+    ensures { AlternativeAt (text s.now) s.now.end at result.count result.first }
+{
+    alternative_head_in(Form::NEWEST, s, depth, at)
+}
+
 // Where an element that is no block ends.
+pub fn leaf_end_in(form: Form, s: &Sheet, depth: u32, at: usize, head: Head) -> usize
+    requires head_at { (HeadAt (text s.now) s.now.end at (kind_number head.kind) head.payload) × (kind_number head.kind ≡ block_kind → ⊥) }
+    requires found_element { FoundElementIn (form_of form) (text s.now) s.now.end depth at }
+    ensures { LeafEndIn (form_of form) (text s.now) s.now.end depth at head.payload result }
+{
+    let payload = head.payload;
+    match head.kind {
+        Kind::Call => payload + call_words(form),
+        Kind::Token => payload + 1,
+        Kind::Action | Kind::Predicate => past_options(payload + 2, word(s.bytes, payload + 1)),
+        Kind::Epsilon | Kind::Terminal | Kind::Block | Kind::EndOfInput => payload,
+    }
+}
+
 pub fn leaf_end(s: &Sheet, depth: u32, at: usize, head: Head) -> usize
     requires head_at { (HeadAt (text s.now) s.now.end at (kind_number head.kind) head.payload) × (kind_number head.kind ≡ block_kind → ⊥) }
     requires found_element { FoundElement (text s.now) s.now.end depth at }
     ensures { LeafEnd (text s.now) s.now.end depth at head.payload result }
 {
-    let payload = head.payload;
-    match head.kind {
-        Kind::Call => payload + 2,
-        Kind::Token => payload + 1,
-        Kind::Action | Kind::Predicate => past_options(payload + 2, word(s.bytes, payload + 1)),
-        Kind::Epsilon | Kind::Terminal | Kind::Block | Kind::EndOfInput => payload,
-    }
+    leaf_end_in(Form::NEWEST, s, depth, at, head)
 }

@@ -11,7 +11,7 @@ use Rattle.grammar.specs.Numbers.{rule_limit, call_kind, epsilon_kind, end_kind}
 use Rattle.grammar.specs.Laws.Parse.{either}
 use Rattle.grammar.specs.Stands.{Stands}
 use Rattle.grammar.specs.Tree.{Call, Leaf, epsilon, action, predicate, call, token, terminal, end_of_input}
-use Rattle.grammar.specs.Encode.{leaf_kind, encode_leaf}
+use Rattle.grammar.specs.Encode.{leaf_kind, encode_leaf, encode_leaf_in}
 use Rattle.grammar.specs.Ids.{leaf_ids}
 use Rattle.grammar.specs.Laws.Stands.{stands_head}
 use Rattle.reference.specs.Walks.{sort_of, is_end}
@@ -165,7 +165,7 @@ leaf_nothing v t skips l i x y z =
 -- a leaf of a kind
 module _ (v : View) {ws : List ℕ} {end k p : ℕ} {skips : Bool} where
   leaf_call : {w : ℕ} {s r : Seen} → k ≡ call_kind → w ≡ get_or ws p 0 → NameSeen v w skips s r → LeafSeen v ws end k p skips s r
-  unfolding leaf_kind encode_leaf
+  unfolding leaf_kind encode_leaf_in
   leaf_call {s = s} {r} e f n = record { is = go }
     where
       go : (l : Leaf) (q : ℕ) → k ≡ leaf_kind l → Stands ws end (encode_leaf l) p q → r ≡ past_leaf v s skips l

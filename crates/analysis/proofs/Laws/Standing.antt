@@ -5,6 +5,7 @@ use mathlib.Core.List.{List, [], ◌∷◌, ◌++◌, map, map-id}
 use mathlib.Core.Bool.{true}
 use native.Mathlib.Omega.{arith}
 use lib.ListN.{length, get_or, length-map, get_or-append}
+use Rattle.grammar.specs.Form.{newest}
 use Rattle.grammar.specs.Numbers.{rule_limit}
 use Rattle.grammar.specs.Tree.{Rule, body_depth, inner_depth}
 use Rattle.grammar.specs.Encode.{encode_rule, encode_block}
@@ -14,7 +15,7 @@ use Rattle.grammar.specs.Found.{FoundRule, RuleSpans, RulesSpan}
 use Rattle.grammar.specs.Laws.Stands.{stands_length}
 use Rattle.grammar.specs.Laws.Opened.{first_spans}
 use Rattle.grammar.specs.Laws.Found.{rule_room}
-use Rattle.records.specs.Rules.{row, places_from, FoundRows}
+use Rattle.records.specs.Rules.{row, places_from, places_from_in, FoundRows}
 use Rattle.records.specs.declared.rules.Rules.{Rules}
 use Rattle.records.proofs.Laws.Rules.{row_long}
 use Rattle.records.specs.Laws.Places.{places_length}
@@ -53,7 +54,7 @@ row_at f {rs} {i} a = get_or-append (map f rs) _ 0 i (let l = few a in let m = l
 -- Where a rule stands.
 place_spans : {ws : List ℕ} {end : ℕ} (t : Rule) (rest front : List Rule) (at q : ℕ) → RulesSpan ws end at (front ++ (t ∷ rest)) q
     → (z : ℕ) × RuleSpans ws end body_depth (get_or (places_from at (front ++ (t ∷ rest))) (length front) 0) t z
-unfolding places_from
+unfolding places_from_in
 place_spans t rest [] at q s = let f = first_spans s in (f.0, f.1)
 place_spans {ws} {end} t rest (r ∷ front) at q s =
     let f = first_spans s in
@@ -82,7 +83,7 @@ module _ {ws : List ℕ} {end : ℕ} {rules : Rules} (f : FoundRows ws end rules
         (subst (λ xs. RulesSpan ws end 0 xs f.found.next) (sym a.parts) f.found.spans) in
         let there : get_or rules.places i 0 ≡ get_or (places_from 0 all) (length a.front) 0 =
         rw (f.rows.places, a.parts, a.count)
-        (get_or-append (places_from 0 rs) _ 0 i (let e = places_length 0 rs in let l = few a in omega arith)) in
+        (get_or-append (places_from 0 rs) _ 0 i (let e = places_length newest 0 rs in let l = few a in omega arith)) in
         (s.0, rw there s.1)
 
   -- Rules are told apart by a number that no two share.
@@ -104,7 +105,7 @@ module _ {ws : List ℕ} {end : ℕ} {rules : Rules} (f : FoundRows ws end rules
         record { tree = a.rule; next = s.0; spans = rw e s.1 }
 
     pub place_room : at + 4 ≤ end
-    place_room = rule_room inner_depth place_found
+    place_room = rule_room newest inner_depth place_found
 
 -- The array of names is as long as there may be rules.
 pub names_long : {ws : List ℕ} {end : ℕ} {rules : Rules} → Standing ws end rules → length rules.names ≡ rule_limit

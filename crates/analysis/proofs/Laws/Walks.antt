@@ -7,6 +7,7 @@ use native.Mathlib.Omega.{arith}
 use lib.ListN.{get_or}
 use lib.Dec.{eqb, leb}
 use borrow.Author.Tests.{leb-true}
+use Rattle.grammar.specs.Form.{newest}
 use Rattle.grammar.specs.Numbers.{token_kind, block_kind, kind_end, optional_greedy, zero_or_more_nongreedy}
 use Rattle.grammar.specs.Tree.{ElementHead, inner_depth}
 use Rattle.grammar.specs.Encode.{encode_alternative, encode_block}
@@ -32,7 +33,7 @@ use Rattle.analysis.proofs.Laws.Seen.{leaf_symbol}
 -- The measure of a block's alternatives is below that of the block.
 pub block_lower : {ws : List ℕ} {end at k p : ℕ} → HeadAt ws end at k p → k ≡ block_kind → (d : ℕ) {t : ℕ} → FoundElement ws end d at
     → d * 5 ≡ t → (d - 1) * 5 + 4 < t
-block_lower head six d f e = let z = block_depth head six d f in omega arith
+block_lower head six d f e = let z = block_depth newest head six d f in omega arith
 
 module _ (v : View) {ws : List ℕ} {end at k p : ℕ} (head : HeadAt ws end at k p) {skips : Bool} (may : skips ≡ skipping (get_or ws (at + 2) 0)) where
   -- The word that packs kind and quantifier.
@@ -45,7 +46,7 @@ module _ (v : View) {ws : List ℕ} {end at k p : ℕ} (head : HeadAt ws end at 
       → ElementWalked (surveying v) ws end d at s there r
   unfolding surveying
   survey_leaf d other {s = s} e f =
-      fold_leaf (surveying v) head d other e λ h l q w u.
+      fold_leaf newest (surveying v) head d other e λ h l q w u.
       let z = leaf_kind_lem l in
       f.is l q (let x = w.packed in let y = head.kind_is in omega arith) u.stands
       ∙ ap (λ b. past_leaf v s b l) (optional (omega arith) w)
@@ -60,13 +61,14 @@ module _ (v : View) {ws : List ℕ} {end at k p : ℕ} (head : HeadAt ws end at 
       (seen_of (turned (t.seeks && (skips || r.null)) (t.null && (skips || r.null)) r))
   unfolding surveying seen_of past_block
   survey_block d six t r c w =
-      fold_block (surveying v) head six d c (λ h y. refl) w λ h y. ap (λ b. past_block (seen_of t) b (seen_of r)) (optional (omega arith) y)
+      fold_block newest (surveying v) head six d c (λ h y. refl) w λ h y. ap (λ b. past_block (seen_of t) b (seen_of r))
+      (optional (omega arith) y)
 
 pub survey_alternative : (v : View) {ws : List ℕ} {end at : ℕ} (d : ℕ) {count first : ℕ} → AlternativeAt ws end at count first → {q : ℕ}
     (t r : Held) → ElementsWalked (surveying v) ws end d count first (seen_of (turned t.seeks true t)) q (seen_of r)
     → AlternativeWalked (surveying v) ws end d at (seen_of t) q (seen_of (turned t.seeks (t.null || r.null) r))
 unfolding surveying seen_of past_alternative
-survey_alternative v d head t r c = fold_alternative (surveying v) d head (λ a z w. refl) c λ a z w. refl
+survey_alternative v d head t r c = fold_alternative newest (surveying v) d head (λ a z w. refl) c λ a z w. refl
 
 pub ruleset surveys = (survey_leaf, survey_token, survey_block, survey_alternative)
 
@@ -136,7 +138,7 @@ BodyFolding v ws end = Folding ws end (encode_alternative (encode_block inner_de
 
 pub body_room : (v : View) {ws : List ℕ} {end n at : ℕ} {s₀ : Seen} {k p : ℕ} {s : Seen} → BodyFolding v ws end n at s₀ (n - k) p s → k < n
     → p + 5 ≤ end
-body_room v g l = alternative_room inner_depth (counted_found g l)
+body_room v g l = alternative_room newest inner_depth (counted_found g l)
 
 -- A whole rule.
 pub rule_surveyed : (v : View) {ws : List ℕ} {end at m f q : ℕ} (b t : Held) → seen_of b ≡ unseen → m ≡ get_or ws (at + 3) 0

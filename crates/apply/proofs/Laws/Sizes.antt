@@ -11,7 +11,7 @@ use Rattle.grammar.specs.Tree as tree
 use Rattle.grammar.specs.Tree.{inner_depth, body_depth, with_rule_body}
 use Rattle.grammar.specs.Words.{words}
 use Rattle.grammar.specs.Lists.{each, member, keep}
-use Rattle.grammar.specs.Encode.{encode, encode_rule, encode_rules, encode_block, encode_alternative}
+use Rattle.grammar.specs.Encode.{encode, encode_rule, encode_rules, encode_block, encode_alternative, encode_block_in}
 use Rattle.grammar.specs.Laws.Lists.{each_append}
 use Rattle.reference.specs.Apply.{Fresh, fresh_each, apply_alternative, apply_plan, with_body}
 use Rattle.reference.specs.Run.{sheet_with, is_short, refusal_of}
@@ -88,7 +88,7 @@ module _ {result work : List ℕ} {end to : ℕ} {rules : Rules} {p : Plan} {m :
       ∙ after_rules s x.same.removable hub_at body.node stay
 
   hub_words : length (encode_rules (with_rule_body body.node hub_at.rule ∷ [])) ≡ 4 + m.words
-  unfolding encode_rule encode_block
+  unfolding encode_rule encode_block_in
   hub_words =
       let n = ap length (append-nil (encode_rule (encode_block body_depth) (with_rule_body body.node hub_at.rule))) in
       let b = body_words_lem in

@@ -4,6 +4,7 @@ use Rattle.std.proofs.Math.Path.{refl, sym}
 use Rattle.std.proofs.Common.{ap, ◌∙◌, subst, arith, length-append}
 use Rattle.std.specs.Cmp.{first_so, second_so}
 use borrow.Author.Tests.{leb-true}
+use Rattle.grammar.specs.Form.{newest}
 use Rattle.grammar.specs.Numbers.{trailer_words, most_words, rule_limit}
 use Rattle.grammar.specs.Tree.{Sheet}
 use Rattle.grammar.specs.Words.{words}
@@ -15,7 +16,7 @@ use Rattle.grammar.specs.Valid.{valid}
 use Rattle.grammar.specs.Laws.Words.{length_words}
 use Rattle.grammar.specs.Laws.Stands.{stands_split, stands_length, stands_within, stands_slice, stands_head}
 use Rattle.grammar.specs.Laws.Whole.{valid_parts}
-use Rattle.grammar.specs.Laws.Trailer.{trailing, encode_split}
+use Rattle.grammar.specs.Laws.Trailer.{trailing, encode_split, trailing_in}
 use Rattle.words.specs.Room.{Room}
 use Rattle.records.specs.declared.rules.Rules.{Rules}
 use Rattle.records.specs.Rules.{RowsOf}
@@ -26,13 +27,13 @@ use Rattle.apply.specs.Held.{Held}
 
 -- How many words there are behind the preserved ids.
 trailing_long : (s : Sheet) → length (trailing s) ≡ trailer_words
-unfolding trailing
+unfolding trailing_in
 trailing_long s = refl
 
 -- How many words a sheet has.
 pub encode_long : (s : Sheet) → length (encode s) ≡ length (encode_rules s.rules) + length s.preserved + trailer_words
 encode_long s =
-    let e = ap length (encode_split s) in
+    let e = ap length (encode_split newest s) in
     let a = length-append (encode_rules s.rules) (s.preserved ++ trailing s) in
     let b = length-append s.preserved (trailing s) in
     let c = trailing_long s in
@@ -65,7 +66,7 @@ module _ {bs : List ℕ} {t : Sheet} {end to : ℕ} (h : Held bs t end to) where
 
   pub held_parts : Parts
   held_parts =
-      let s = subst (λ x. Stands (words bs) (to + trailer_words) x 0 (to + trailer_words)) (encode_split t) h.stands in
+      let s = subst (λ x. Stands (words bs) (to + trailer_words) x 0 (to + trailer_words)) (encode_split newest t) h.stands in
       let (a, b) = cut (encode_rules t.rules) (t.preserved ++ trailing t) end (let e = h.ends in omega arith) s in
       let (c, d) = cut t.preserved (trailing t) to h.up_to b in
       record { rules = a; preserved = c; trailer = d }
@@ -83,7 +84,7 @@ module _ {bs : List ℕ} {t : Sheet} {end to : ℕ} (h : Held bs t end to) where
       rw n (stands_slice (let w = within in omega arith) held_parts.preserved)
 
   pub held_kind : get_or ws to 0 ≡ t.kind
-  unfolding trailing
+  unfolding trailing_in
   held_kind = stands_head held_parts.trailer
 
   module _ (v : valid t ≡ true) where
@@ -91,13 +92,13 @@ module _ {bs : List ℕ} {t : Sheet} {end to : ℕ} (h : Held bs t end to) where
     held_kept =
         let u = h.up_to in
         let r = h.room in
-        record { order = omega arith; inside = omega arith; rises = ap rising held_preserved ∙ (valid_parts t v).preserved }
+        record { order = omega arith; inside = omega arith; rises = ap rising held_preserved ∙ (valid_parts newest t v).preserved }
 
     -- Its rules stand there, as its arrays have them.
     unfoldable pub held_standing : {rules : Rules} → RowsOf t.rules rules → Standing ws end rules
     unfolding is_distinct
     held_standing {rules} r =
-        let p = valid_parts t v in
+        let p = valid_parts newest t v in
         let d = p.distinct in
         record {
           rows =

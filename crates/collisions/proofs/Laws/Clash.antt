@@ -11,7 +11,7 @@ use Rattle.std.specs.Cmp.{first_so}
 use Rattle.grammar.specs.Numbers.{most_name, call_kind, token_kind}
 use Rattle.grammar.specs.Tree.{Label, unlabelled, labelled, Leaf, epsilon, action, predicate, call, token, terminal, end_of_input, Element}
 use Rattle.grammar.specs.Tree.{Block}
-use Rattle.grammar.specs.Encode.{label_name, leaf_kind, encode_leaf}
+use Rattle.grammar.specs.Encode.{label_name, leaf_kind, encode_leaf, encode_leaf_in}
 use Rattle.grammar.specs.Stands.{Spans}
 use Rattle.grammar.specs.Valid.{ok_label, ok_leaf}
 use Rattle.grammar.specs.Lists.{nothing, any, member, meet}
@@ -60,7 +60,7 @@ module _ (ws bs : List ℕ) where
 
   pub clash_call : {end k p w : ℕ} {c r : Clash} → k ≡ call_kind → w ≡ get_or ws p 0 → NameBound ws bs w c r
       → LeafSeen ws end k p (clash_leaf (has_name ws bs references_bit)) c r
-  unfolding clash_leaf leaf_names leaf_kind encode_leaf any
+  unfolding clash_leaf leaf_names leaf_kind encode_leaf_in any
   clash_call {end} {k} {p} {c = c} {r} e f n = record { is = go }
     where
       go : (l : Leaf) (q : ℕ) → k ≡ leaf_kind l → Spans ws end encode_leaf ok_leaf p l q → r ≡ clash_leaf (has_name ws bs references_bit) c l
@@ -74,7 +74,7 @@ module _ (ws bs : List ℕ) where
 
   pub clash_token : {end k p w : ℕ} {c r : Clash} → k ≡ token_kind → w ≡ get_or ws p 0 → NameBound ws bs w c r
       → LeafSeen ws end k p (clash_leaf (has_name ws bs references_bit)) c r
-  unfolding clash_leaf leaf_names leaf_kind encode_leaf any
+  unfolding clash_leaf leaf_names leaf_kind encode_leaf_in any
   clash_token {end} {k} {p} {c = c} {r} e f n = record { is = go }
     where
       go : (l : Leaf) (q : ℕ) → k ≡ leaf_kind l → Spans ws end encode_leaf ok_leaf p l q → r ≡ clash_leaf (has_name ws bs references_bit) c l

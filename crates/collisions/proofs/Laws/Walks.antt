@@ -12,8 +12,8 @@ use Rattle.grammar.specs.Numbers.{action_kind, predicate_kind, block_kind, one_o
 use Rattle.grammar.specs.Tree.{Label, ElementHead, Leaf, epsilon, action, predicate, call, token, terminal, end_of_input, Element, leaf}
 use Rattle.grammar.specs.Tree.{block, Block}
 use Rattle.grammar.specs.Stands.{Spans}
-use Rattle.grammar.specs.Encode.{encode_reference, leaf_kind, encode_leaf}
-use Rattle.grammar.specs.Valid.{ok_reference, ok_label, ok_head, ok_leaf}
+use Rattle.grammar.specs.Encode.{encode_reference, leaf_kind, encode_leaf, encode_leaf_in}
+use Rattle.grammar.specs.Valid.{ok_reference, ok_label, ok_head, ok_leaf, ok_leaf_in}
 use Rattle.grammar.specs.Lists.{each, all}
 use Rattle.grammar.specs.Found.{FoundElement, HeadAt}
 use Rattle.grammar.specs.Fold.{Steps, folded, element_fold, alternative_fold, block_fold}
@@ -59,7 +59,7 @@ pub record Body (ws : List ℕ) (end p q : ℕ) (l : Leaf) : Type 0 where
 
 pub body_of : {ws : List ℕ} {end p q : ℕ} (l : Leaf) → (leaf_kind l ≡ action_kind) ⊎ (leaf_kind l ≡ predicate_kind)
     → Spans ws end encode_leaf ok_leaf p l q → Body ws end p q l
-unfolding leaf_kind encode_leaf ok_leaf references
+unfolding leaf_kind encode_leaf_in ok_leaf_in references
 body_of epsilon (inl e) s = absurd (omega arith)
 body_of epsilon (inr e) s = absurd (omega arith)
 body_of {p = p} (action a) e s =

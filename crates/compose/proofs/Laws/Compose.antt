@@ -4,16 +4,17 @@ use mathlib.Core.Path.{◌≡◌, sym, ap, ◌∙◌, subst}
 use mathlib.Core.List.{List, [], ◌∷◌, ◌++◌, append-nil, append_assoc}
 use native.Mathlib.Omega.{arith}
 use lib.ListN.{length, get_or, length-append, length-take, length-drop}
+use Rattle.grammar.specs.Form.{newest}
 use Rattle.grammar.specs.Numbers.{work_bytes, rule_limit}
 use Rattle.grammar.specs.Words.{words}
-use Rattle.grammar.specs.Encode.{encode, encode_rules, encode_counters}
+use Rattle.grammar.specs.Encode.{encode, encode_rules, encode_counters, encode_in}
 use Rattle.grammar.specs.Lists.{each}
 use Rattle.grammar.specs.Parse.{got}
 use Rattle.grammar.specs.Laws.Words.{length_words}
 use Rattle.grammar.specs.Laws.Complete.{rules_complete}
 use Rattle.words.specs.Room.{Room}
 use Rattle.reference.specs.Run.{encode_entry}
-use Rattle.records.specs.Rules.{RowsOf, IsEmpty, row, places_from}
+use Rattle.records.specs.Rules.{RowsOf, IsEmpty, row, places_from_in}
 use Rattle.records.specs.declared.rules.Rules.{Rules}
 use Rattle.analysis.specs.Facts.{Standing, Among}
 use Rattle.analysis.proofs.Laws.Standing.{rule_of}
@@ -34,9 +35,9 @@ room_front r l = record { trailer = let t = r.trailer in omega arith; low = let 
 -- Only one list of rules stands there.
 same_rules : {ws : List ℕ} {end : ℕ} {rules : Rules} (s t : Standing ws end rules) → s.rows.found.trees ≡ t.rows.found.trees
 same_rules {ws} {end} s t =
-    let a = rules_complete ws end rule_limit 0 s.rows.found.trees
+    let a = rules_complete newest ws end rule_limit 0 s.rows.found.trees
     (let n = s.rows.few in let c = s.rows.found.count in omega arith) (rw s.rows.ends at s.rows.found.spans) in
-    let b = rules_complete ws end rule_limit 0 t.rows.found.trees
+    let b = rules_complete newest ws end rule_limit 0 t.rows.found.trees
     (let n = t.rows.few in let c = t.rows.found.count in omega arith) (rw t.rows.ends at t.rows.found.spans) in
     let e : got s.rows.found.trees end ≡ got t.rows.found.trees end = sym a ∙ b in
     cc
@@ -51,7 +52,7 @@ module _ {bs : List ℕ} {end to : ℕ} {rules : Rules} {p : Plan} {work trail :
       ≡ encode_rules (after x).node
       ++ (preserved_at (words bs) end to
       ++ (get_or (words bs) to 0 ∷ (length (encode_rules (after x).node) + (to - end)) ∷ (to - end) ∷ encode_counters (after x).counters))
-  unfolding encode
+  unfolding encode_in
   sheet_parts =
       let n = preserved_length bs end to room h in
       let m =
@@ -134,7 +135,7 @@ module _ {bs : List ℕ} {end to : ℕ} {rules : Rules} {p : Plan} {work trail :
       behind_room = let e = behind_place in let l = sheet_length in let m = x.words in omega arith
 
       follows : Follows [] d
-      unfolding row places_from
+      unfolding row places_from_in
       follows =
           record {
             rows = record { ids = empty.ids; names = empty.names; places = empty.places; count = empty.count };

@@ -5,7 +5,7 @@ use mathlib.Core.List.{List, [], ◌∷◌, ◌++◌, append-nil}
 use native.Mathlib.Omega.{arith}
 use lib.ListN.{length, get_or, length-append}
 use Rattle.grammar.specs.Tree.{Rule, Block, inner_depth, body_depth, with_rule_body}
-use Rattle.grammar.specs.Encode.{encode_alternative, encode_rule, encode_rules, encode_block}
+use Rattle.grammar.specs.Encode.{encode_alternative, encode_rule, encode_rules, encode_block, encode_block_in}
 use Rattle.grammar.specs.Lists.{each}
 use Rattle.grammar.specs.Laws.Lists.{each_append}
 use Rattle.grammar.specs.Laws.Opened.{rule_words_lem}
@@ -41,7 +41,7 @@ body_count ws end bs l p =
 hub_words : (r : Rule) (b : Block body_depth)
     → encode_rule (encode_block body_depth) (record { id = r.id; name = r.name; flags = r.flags; body = b })
     ≡ (r.id ∷ r.name ∷ r.flags ∷ length b ∷ []) ++ each (encode_alternative (encode_block inner_depth)) b
-unfolding encode_rule encode_block
+unfolding encode_rule encode_block_in
 hub_words r b = refl
 
 module _ (ws : List ℕ) (end : ℕ) (rules : Rules) (p : Plan) (work trail : List ℕ) (a : Draft) (at : ℕ)

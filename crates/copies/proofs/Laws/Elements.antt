@@ -6,6 +6,7 @@ use mathlib.Core.Bool.{Bool}
 use native.Mathlib.Omega.{arith}
 use native.Mathlib.Numerals.{sub-one}
 use lib.ListN.{length, get_or}
+use Rattle.grammar.specs.Form.{newest}
 use Rattle.grammar.specs.Numbers.{block_kind}
 use Rattle.grammar.specs.Tree.{ElementHead, Leaf, Element, leaf, block, Block, Counters}
 use Rattle.grammar.specs.Stands.{Spans}
@@ -185,9 +186,9 @@ module _ (d : ℕ) (plain : Bool) {ws : List ℕ} {end at : ℕ} {out t : List �
     pub fits : Fits (encode_block d) (renumber_block d block (counters_of p₁.counters)) out₁ t₁ p₁
 
   block_fits : ElementFits ws end d plain at out t p → BlockFits
-  block_fits f = go (blocked w six d f.found.tree f.found.next f.found.spans) f.fits
+  block_fits f = go (blocked newest w six d f.found.tree f.found.next f.found.spans) f.fits
     where
-      go : {e : Element (Block d)} → IsBlock w six d f.found.next e
+      go : {e : Element (Block d)} → IsBlock newest w six d f.found.next e
           → Fits (encode_element (encode_block d)) (copy_of d plain e (counters_of p.counters)) out t p
           → BlockFits
       go (is_block {h = h} {b = b} v u) s =
@@ -224,24 +225,28 @@ module _ (plain : Bool) {ws : List ℕ} {end at : ℕ} {out t : List ℕ} {p : P
   pub element_block : (d : ℕ) {out' t' : List ℕ} {q : ℕ} {p' : Pen} → AlternativesCopied ws end (d - 1) m (payload + 1) out₂ out' t₁ t' p₂ q p'
       → ElementCopied ws end d plain at out out' t t' p q p'
   element_block zero {out'} {t'} {q} {p'} a =
-      record { passed = λ e z u. none (blocked w six zero e z u); drew = λ e z u. none (blocked w six zero e z u); within = a.within }
-    where
-      none : {e : Element (Block zero)} {z : ℕ} {P : Type 0} → IsBlock w six zero z e → P
-      none (is_block {b = b} v u) = absurd b
-  element_block (suc d) {out'} {t'} {q} {p'} a =
       record {
-        passed = λ e z u. past (blocked w six (suc d) e z u);
-        drew = λ e z u. drawn (blocked w six (suc d) e z u);
+        passed = λ e z u. none (blocked newest w six zero e z u);
+        drew = λ e z u. none (blocked newest w six zero e z u);
         within = a.within;
       }
     where
-      past : {e : Element (Block (suc d))} {z : ℕ} → IsBlock w six (suc d) z e → q ≡ z
+      none : {e : Element (Block zero)} {z : ℕ} {P : Type 0} → IsBlock newest w six zero z e → P
+      none (is_block {b = b} v u) = absurd b
+  element_block (suc d) {out'} {t'} {q} {p'} a =
+      record {
+        passed = λ e z u. past (blocked newest w six (suc d) e z u);
+        drew = λ e z u. drawn (blocked newest w six (suc d) e z u);
+        within = a.within;
+      }
+    where
+      past : {e : Element (Block (suc d))} {z : ℕ} → IsBlock newest w six (suc d) z e → q ≡ z
       past (is_block {b = b} v u) =
           let o = block_words_lem d b u in
           let a' = rw (sub-one (suc d)) at a in
           a'.passed b _ o.alternatives (sym o.count ∙ sym c)
 
-      drawn : {e : Element (Block (suc d))} {z : ℕ} → IsBlock w six (suc d) z e
+      drawn : {e : Element (Block (suc d))} {z : ℕ} → IsBlock newest w six (suc d) z e
           → Drew (encode_element (encode_block (suc d))) (copy_of (suc d) plain e (counters_of p.counters)) out out' t t' p p'
       drawn (is_block {h = h} {b = b} v u) =
           let o = block_words_lem d b u in

@@ -8,7 +8,7 @@ use Rattle.grammar.specs.Numbers.{action_kind, predicate_kind, action_sort, pred
 use Rattle.grammar.specs.Tree.{Leaf, epsilon, action, predicate, call, token, terminal, end_of_input}
 use Rattle.grammar.specs.Words.{words}
 use Rattle.grammar.specs.Stands.{Stands, Spans}
-use Rattle.grammar.specs.Encode.{leaf_kind, encode_leaf}
+use Rattle.grammar.specs.Encode.{leaf_kind, encode_leaf, encode_leaf_in}
 use Rattle.grammar.specs.Valid.{ok_leaf}
 use Rattle.grammar.specs.Laws.Words.{length_words}
 use Rattle.grammar.specs.Laws.Stands.{stands_head, stands_length, stands_slice, run_stands}
@@ -50,7 +50,7 @@ module _ {kind at there : ℕ} {out t : List ℕ} {p : Pen} (r : LeafRoom kind a
 module _ {bs : List ℕ} {end kind at there : ℕ} {out out' t t' : List ℕ} {p p' : Pen} (r : Room bs end) (h : there ≤ end) where
   pub leaf_action : kind ≡ action_kind → MarkedCopied action_sort p.counters.action (words bs) at there out out' t t' p p'
       → LeafCopied (words bs) end kind at there out out' t t' p p'
-  unfolding renumber_leaf encode_leaf leaf_kind
+  unfolding renumber_leaf encode_leaf_in leaf_kind
   leaf_action e m = record { is = go }
     where
       go : (l : Leaf) → leaf_kind l ≡ kind → Spans (words bs) end encode_leaf ok_leaf at l there
@@ -65,7 +65,7 @@ module _ {bs : List ℕ} {end kind at there : ℕ} {out out' t t' : List ℕ} {p
 
   pub leaf_predicate : kind ≡ predicate_kind → MarkedCopied predicate_sort p.counters.predicate (words bs) at there out out' t t' p p'
       → LeafCopied (words bs) end kind at there out out' t t' p p'
-  unfolding renumber_leaf encode_leaf leaf_kind
+  unfolding renumber_leaf encode_leaf_in leaf_kind
   leaf_predicate e m = record { is = go }
     where
       go : (l : Leaf) → leaf_kind l ≡ kind → Spans (words bs) end encode_leaf ok_leaf at l there

@@ -9,7 +9,7 @@ use Rattle.grammar.specs.Numbers.{element_sort, action_kind, predicate_kind}
 use Rattle.grammar.specs.Tree.{Label, unlabelled, labelled, ElementHead, Leaf, epsilon, action, predicate, call, token, terminal}
 use Rattle.grammar.specs.Tree.{end_of_input, Element, leaf, block, Counters}
 use Rattle.grammar.specs.Stands.{Spans}
-use Rattle.grammar.specs.Encode.{label_name, encode_head, leaf_kind, encode_leaf}
+use Rattle.grammar.specs.Encode.{label_name, encode_head, leaf_kind, encode_leaf, encode_leaf_in}
 use Rattle.grammar.specs.Lists.{each}
 use Rattle.grammar.specs.Valid.{ok_leaf}
 use Rattle.grammar.specs.Laws.Stands.{stands_length}
@@ -82,7 +82,7 @@ head_fits {ws} {end} {at} {kind} {payload} {out} {t} {p} h h' e f v s =
 pub leaf_fits : {ws : List ℕ} {end at there : ℕ} {out t : List ℕ} {p : Pen} (l : Leaf) → Spans ws end encode_leaf ok_leaf at l there
     → Fits encode_leaf (renumber_leaf l (counters_of p.counters)) out t p
     → LeafRoom (leaf_kind l) at there out t p
-unfolding renumber_leaf encode_leaf leaf_kind encode_entry
+unfolding renumber_leaf encode_leaf_in leaf_kind encode_entry
 leaf_fits {ws} {end} {at} {there} {out} {t} {p} l s f =
     let long = leaf_length l (counters_of p.counters) in
     let q = stands_length s.stands in

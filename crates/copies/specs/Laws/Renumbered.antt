@@ -6,6 +6,7 @@ use Rattle.grammar.specs.Numbers.{kind_end, block_kind, alternative_sort, elemen
 use Rattle.grammar.specs.Tree.{Label, unlabelled, labelled, ElementHead, Leaf, epsilon, action, predicate, call, token, terminal}
 use Rattle.grammar.specs.Tree.{end_of_input, leaf, block, AlternativeOf, Block, Counters}
 use Rattle.grammar.specs.Encode.{label_id, label_name, encode_option, encode_head, leaf_kind, encode_leaf, encode_element}
+use Rattle.grammar.specs.Encode.{encode_alternative_in, encode_block_in, encode_element_in}
 use Rattle.grammar.specs.Encode.{encode_alternative}
 use Rattle.grammar.specs.Encode.{encode_block}
 use Rattle.grammar.specs.Lists.{each}
@@ -62,7 +63,7 @@ module _ {B : Type 0} (enc : B → List ℕ) (fresh : B → Counters → Fresh B
   module _ (h : ElementHead) (l : Leaf) (c : Counters) where
     pub leaf_words_of : encode_element enc (renumber_element fresh (leaf h l) c).node
         ≡ encode_head (renumber_head h c).node (leaf_kind l) ++ encode_leaf (renumber_leaf l (renumber_head h c).counters).node
-    unfolding encode_element renumber_element
+    unfolding encode_element_in renumber_element
     leaf_words_of = rw (leaf_kind_of l (renumber_head h c).counters)
 
     pub leaf_entries_of : each encode_entry (renumber_element fresh (leaf h l) c).entries
@@ -78,7 +79,7 @@ module _ {B : Type 0} (enc : B → List ℕ) (fresh : B → Counters → Fresh B
   module _ (h : ElementHead) (b : B) (c : Counters) where
     pub block_words_of : encode_element enc (renumber_element fresh (block h b) c).node
         ≡ encode_head (renumber_head h c).node block_kind ++ enc (fresh b (renumber_head h c).counters).node
-    unfolding encode_element renumber_element
+    unfolding encode_element_in renumber_element
     block_words_of = refl
 
     pub block_entries_of : each encode_entry (renumber_element fresh (block h b) c).entries
@@ -95,7 +96,7 @@ module _ {B : Type 0} (enc : B → List ℕ) (fresh : B → Counters → Fresh B
     pub alternative_words_of : encode_alternative enc (renumber_alternative fresh a c).node
         ≡ (c.alternative ∷ a.carried ∷ a.flag ∷ length a.options ∷ length a.elements ∷ each encode_option a.options)
         ++ each (encode_element enc) (fresh_each (renumber_element fresh) a.elements (past alternative_sort c)).node
-    unfolding encode_alternative renumber_alternative renumber_elements
+    unfolding encode_alternative_in renumber_alternative renumber_elements
     alternative_words_of = rw (each_count (renumber_element fresh) a.elements (past alternative_sort c))
 
     pub alternative_entries_of : each encode_entry (renumber_alternative fresh a c).entries
@@ -115,5 +116,5 @@ module _ {B : Type 0} (enc : B → List ℕ) (fresh : B → Counters → Fresh B
 module _ (d : ℕ) (b : Block (suc d)) (c : Counters) where
   pub nested_words_of : encode_block (suc d) (renumber_block (suc d) b c).node
       ≡ (length b ∷ []) ++ each (encode_alternative (encode_block d)) (fresh_each (renumber_alternative (renumber_block d)) b c).node
-  unfolding encode_block renumber_block
+  unfolding encode_block_in renumber_block
   nested_words_of = rw (each_count (renumber_alternative (renumber_block d)) b c)

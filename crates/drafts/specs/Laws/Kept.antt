@@ -4,13 +4,14 @@ use Rattle.std.proofs.Common.{sym, ◌∙◌, subst, arith, add-one, length-appe
 use Rattle.std.proofs.Math.Path.{ap}
 use Rattle.std.proofs.Math.ListN.{get_or, get_or-append}
 use Rattle.std.proofs.Math.Seq.{drop-append_seam, drop-append-add}
+use Rattle.grammar.specs.Form.{newest}
 use Rattle.grammar.specs.Tree.{Rule, body_depth}
 use Rattle.grammar.specs.Encode.{encode_rule, encode_block}
 use Rattle.grammar.specs.Lists.{push}
 use Rattle.grammar.specs.Found.{RuleSpans, RulesSpan}
 use Rattle.grammar.specs.Laws.Stands.{stands_length}
 use Rattle.grammar.specs.Laws.Opened.{first_spans}
-use Rattle.records.specs.Rules.{row, places_from}
+use Rattle.records.specs.Rules.{row, places_from, places_from_in}
 use Rattle.records.specs.declared.rules.Rules.{Rules}
 use Rattle.records.specs.Laws.Places.{places_length}
 use Rattle.reach.specs.Rows.{bit}
@@ -47,7 +48,7 @@ push_split false r rs = refl
 -- Where the last rule ends, and where another one does.
 place_last : {ws : List ℕ} {end : ℕ} (t : Rule) (front : List Rule) (at q : ℕ) → RulesSpan ws end at (front ++ (t ∷ [])) q
     → RuleSpans ws end body_depth (get_or (places_from at (front ++ (t ∷ []))) (length front) 0) t q
-unfolding places_from
+unfolding places_from_in
 place_last t [] at q s =
     let f = first_spans s in
     let e : f.0 ≡ q = let l = stands_length f.2.stands in omega arith in
@@ -60,7 +61,7 @@ place_last {ws} {end} t (r ∷ front) at q s =
 place_next : {ws : List ℕ} {end : ℕ} (t u : Rule) (rest front : List Rule) (at q : ℕ) → RulesSpan ws end at (front ++ (t ∷ u ∷ rest)) q
     → RuleSpans ws end body_depth (get_or (places_from at (front ++ (t ∷ u ∷ rest))) (length front) 0) t
     (get_or (places_from at (front ++ (t ∷ u ∷ rest))) (suc (length front)) 0)
-unfolding places_from
+unfolding places_from_in
 place_next t u rest [] at q s =
     let f = first_spans s in
     let e : f.0 ≡ at + length (encode_rule (encode_block body_depth) t) = let z = stands_length f.1.stands in omega arith in
@@ -78,7 +79,7 @@ module _ {ws : List ℕ} {end : ℕ} {rules : Rules} (s : Standing ws end rules)
   unfolding row
   place_is i l =
       ap (λ l. get_or l i 0) s.rows.rows.places
-      ∙ get_or-append (places_from 0 rs) _ 0 i (let e = places_length 0 rs in omega arith)
+      ∙ get_or-append (places_from 0 rs) _ 0 i (let e = places_length newest 0 rs in omega arith)
 
   spans_all : {i : ℕ} (a : Among rs i) → RulesSpan ws end 0 (a.front ++ (a.rule ∷ a.rest)) end
   spans_all a =

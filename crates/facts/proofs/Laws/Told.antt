@@ -5,6 +5,7 @@ use mathlib.Core.List.{List, [], ◌∷◌}
 use mathlib.Core.Bool.{Bool}
 use native.Mathlib.Omega.{arith}
 use lib.ListN.{length, get_or, replicate, length-replicate}
+use Rattle.grammar.specs.Form.{newest}
 use Rattle.grammar.specs.Numbers.{rule_limit, work_bytes}
 use Rattle.grammar.specs.Words.{words}
 use Rattle.grammar.specs.Tree.{body_depth}
@@ -68,7 +69,7 @@ rules_told {ws} {end} {rules} {past} {m} {count} {cs = cs} {ks} {ys} a b d f x y
 unfoldable pub read_stands : {bs work : List ℕ} {end : ℕ} {rules : Rules} → WasRead bs work end rules → Standing (words bs) end rules
 unfolding is_distinct
 read_stands w =
-    let d = (valid_parts w.tree w.good).distinct in
+    let d = (valid_parts newest w.tree w.good).distinct in
     record {
       rows = w.rows;
       ids = ap (λ rs. distinct (rule_ids rs)) w.trees ∙ first_so (distinct (rule_ids w.tree.rules)) _ d;

@@ -7,16 +7,17 @@ use native.Mathlib.Omega.{arith}
 use Rattle.grammar.specs.Numbers.{block_kind}
 use Rattle.grammar.specs.Stands.{Spans}
 use Rattle.grammar.specs.Tree.{ElementHead, Leaf, Element, AlternativeOf, Block, body_depth}
-use Rattle.grammar.specs.Encode.{encode_leaf, leaf_kind, encode_element, encode_alternative, encode_block, encode_rule}
+use Rattle.grammar.specs.Encode.{encode_leaf_in, leaf_kind, encode_element_in, encode_alternative_in, encode_block_in, encode_rule}
 use Rattle.grammar.specs.Lists.{each, all}
-use Rattle.grammar.specs.Valid.{ok_leaf, ok_element, ok_alternative, ok_block, ok_rule}
-use Rattle.grammar.specs.Found.{Found, FoundMany, FoundAlternatives, FoundRule, HeadAt, AlternativeAt, LeafEnd}
+use Rattle.grammar.specs.Valid.{ok_leaf_in, ok_element_in, ok_alternative_in, ok_block_in, ok_rule}
+use Rattle.grammar.specs.Form.{Form, newest}
+use Rattle.grammar.specs.Found.{Found, FoundMany, FoundAlternativesIn, FoundRuleIn, HeadAt, AlternativeAt, LeafEndIn}
 use Rattle.grammar.specs.Fold.{head_of, Steps, folded, element_fold, alternative_fold, block_fold, rule_fold, WalkedOne}
-use Rattle.grammar.specs.Fold.{WalkedMany, ElementWalked, ElementsWalked, AlternativeWalked, AlternativesWalked, RuleWalked}
+use Rattle.grammar.specs.Fold.{WalkedMany, ElementWalkedIn, ElementsWalkedIn, AlternativeWalkedIn, AlternativesWalkedIn, RuleWalkedIn}
 use Rattle.grammar.specs.Laws.Stands.{stands_length}
 use Rattle.grammar.specs.Laws.Complete.{leaf_kind_lem}
-use Rattle.grammar.specs.Laws.Opened.{HeadWords, Opened, opened_leaf, opened_block, opened, first_spans, first_found, rest_found}
-use Rattle.grammar.specs.Laws.Opened.{block_words_lem, AlternativeWords, alternative_words_lem, rule_words_lem}
+use Rattle.grammar.specs.Laws.Opened.{HeadWords, OpenedIn, opened_leaf, opened_block, opened, first_spans, first_found, rest_found}
+use Rattle.grammar.specs.Laws.Opened.{block_words_lem, AlternativeWordsIn, alternative_words_lem, rule_words_lem}
 use Rattle.grammar.specs.Laws.Found.{IsBlock, is_block, blocked, rule_room, body_found}
 
 module _ {ws : List ℕ} {end : ℕ} {A S : Type 0} {enc : A → List ℕ} {ok : A → Bool} (step : S → A → S) {n at : ℕ} where
@@ -74,29 +75,46 @@ module _ {ws : List ℕ} {end : ℕ} {A S : Type 0} {enc : A → List ℕ} {ok :
 
 pub ruleset folding = (folding_all, folding_done, folding_found, folding_more)
 
+module _ (form : Form) {S : Type 0} (walk : Steps S) (ws : List ℕ) (end : ℕ) where
+  module _ (d : ℕ) where
+    abbrev pub ElementsFoldingIn : ℕ → ℕ → S → ℕ → ℕ → S → Type 0
+    ElementsFoldingIn =
+        Folding ws end (encode_element_in form (encode_block_in form d)) (ok_element_in form (ok_block_in form d))
+        (element_fold walk (block_fold walk d))
+
+    abbrev pub AlternativesFoldingIn : ℕ → ℕ → S → ℕ → ℕ → S → Type 0
+    AlternativesFoldingIn =
+        Folding ws end (encode_alternative_in form (encode_block_in form d)) (ok_alternative_in form (ok_block_in form d))
+        (alternative_fold walk (block_fold walk d))
+
+  abbrev pub RulesFoldingIn : ℕ → ℕ → S → ℕ → ℕ → S → Type 0
+  RulesFoldingIn =
+      Folding ws end (encode_rule (encode_block_in form body_depth)) (ok_rule (ok_block_in form body_depth)) (rule_fold walk body_depth)
+
+-- In the newest form.
 module _ {S : Type 0} (walk : Steps S) (ws : List ℕ) (end : ℕ) where
   module _ (d : ℕ) where
     abbrev pub ElementsFolding : ℕ → ℕ → S → ℕ → ℕ → S → Type 0
-    ElementsFolding = Folding ws end (encode_element (encode_block d)) (ok_element (ok_block d)) (element_fold walk (block_fold walk d))
+    ElementsFolding = ElementsFoldingIn newest walk ws end d
 
     abbrev pub AlternativesFolding : ℕ → ℕ → S → ℕ → ℕ → S → Type 0
-    AlternativesFolding =
-        Folding ws end (encode_alternative (encode_block d)) (ok_alternative (ok_block d)) (alternative_fold walk (block_fold walk d))
+    AlternativesFolding = AlternativesFoldingIn newest walk ws end d
 
   abbrev pub RulesFolding : ℕ → ℕ → S → ℕ → ℕ → S → Type 0
-  RulesFolding = Folding ws end (encode_rule (encode_block body_depth)) (ok_rule (ok_block body_depth)) (rule_fold walk body_depth)
+  RulesFolding = RulesFoldingIn newest walk ws end
 
-module _ {S : Type 0} (walk : Steps S) {ws : List ℕ} {end at : ℕ} where
+module _ (form : Form) {S : Type 0} (walk : Steps S) {ws : List ℕ} {end at : ℕ} where
   module _ {k p : ℕ} (head : HeadAt ws end at k p) where
     -- A leaf: the state is what the step gives of any leaf whose words these are.
-    pub fold_leaf : (d : ℕ) → (k ≡ block_kind → ⊥) → {there : ℕ} {s r : S} → LeafEnd ws end d at p there
-        → ((h : ElementHead) (l : Leaf) (q : ℕ) → HeadWords ws end at h (leaf_kind l) p → Spans ws end encode_leaf ok_leaf p l q
+    pub fold_leaf : (d : ℕ) → (k ≡ block_kind → ⊥) → {there : ℕ} {s r : S} → LeafEndIn form ws end d at p there
+        → ((h : ElementHead) (l : Leaf) (q : ℕ) → HeadWords ws end at h (leaf_kind l) p
+        → Spans ws end (encode_leaf_in form) (ok_leaf_in form) p l q
         → r ≡ walk.past_leaf s h l)
-        → ElementWalked walk ws end d at s there r
+        → ElementWalkedIn form walk ws end d at s there r
     unfolding element_fold
     fold_leaf d other {there} {s} {r} e v = record { passed = e.is; value = λ t q u. go (opened t u); within = e.within }
       where
-        go : {t : Element (Block d)} {q : ℕ} → Opened ws end d at q t → r ≡ element_fold walk (block_fold walk d) s t
+        go : {t : Element (Block d)} {q : ℕ} → OpenedIn form ws end d at q t → r ≡ element_fold walk (block_fold walk d) s t
         go (opened_leaf {h = h} {l = l} o w u) =
             let x : o ≡ p = let y = leaf_kind_lem l in omega arith in
             v h l _ (rw x at w) (rw x at u)
@@ -105,33 +123,34 @@ module _ {S : Type 0} (walk : Steps S) {ws : List ℕ} {end at : ℕ} where
     -- A block: from the state in which it is entered its alternatives lead to t.
     pub fold_block : (six : k ≡ block_kind) (d : ℕ) {m q : ℕ} {s i t r : S} → m ≡ get_or ws p 0
         → ((h : ElementHead) → HeadWords ws end at h block_kind p → i ≡ walk.into_block s h)
-        → AlternativesWalked walk ws end (d - 1) m (p + 1) i q t
+        → AlternativesWalkedIn form walk ws end (d - 1) m (p + 1) i q t
         → ((h : ElementHead) → HeadWords ws end at h block_kind p → r ≡ walk.past_block s h t)
-        → ElementWalked walk ws end d at s q r
+        → ElementWalkedIn form walk ws end d at s q r
     unfolding element_fold block_fold
     fold_block six zero {q = q} {s} {i} {t} {r} c v w x =
         record {
-          passed = λ e z u. none (blocked head six zero e z u);
-          value = λ e z u. none (blocked head six zero e z u);
+          passed = λ e z u. none (blocked form head six zero e z u);
+          value = λ e z u. none (blocked form head six zero e z u);
           within = w.within;
         }
       where
-        none : {e : Element (Block zero)} {z : ℕ} {P : Type 0} → IsBlock head six zero z e → P
+        none : {e : Element (Block zero)} {z : ℕ} {P : Type 0} → IsBlock form head six zero z e → P
         none (is_block {b = b} y u) = absurd b
     fold_block six (suc d) {q = q} {s} {i} {t} {r} c v w x =
         record {
-          passed = λ e z u. past (blocked head six (suc d) e z u);
-          value = λ e z u. same (blocked head six (suc d) e z u);
+          passed = λ e z u. past (blocked form head six (suc d) e z u);
+          value = λ e z u. same (blocked form head six (suc d) e z u);
           within = w.within;
         }
       where
-        past : {e : Element (Block (suc d))} {z : ℕ} → IsBlock head six (suc d) z e → q ≡ z
+        past : {e : Element (Block (suc d))} {z : ℕ} → IsBlock form head six (suc d) z e → q ≡ z
         past (is_block {b = b} y u) =
             let o = block_words_lem d b u in
             let w' = rw (sub-one (suc d)) at w in
             w'.passed b _ o.alternatives (sym o.count ∙ sym c)
 
-        same : {e : Element (Block (suc d))} {z : ℕ} → IsBlock head six (suc d) z e → r ≡ element_fold walk (block_fold walk (suc d)) s e
+        same : {e : Element (Block (suc d))} {z : ℕ} → IsBlock form head six (suc d) z e
+            → r ≡ element_fold walk (block_fold walk (suc d)) s e
         same (is_block {h = h} {b = b} y u) =
             let o = block_words_lem d b u in
             let w' = rw (sub-one (suc d)) at w in
@@ -140,10 +159,10 @@ module _ {S : Type 0} (walk : Steps S) {ws : List ℕ} {end at : ℕ} where
 
   -- An alternative: from the state in which it is entered its elements lead to t.
   pub fold_alternative : (d : ℕ) {count first : ℕ} → AlternativeAt ws end at count first → {s i t r : S} {q : ℕ}
-      → ((a : AlternativeOf (Block d)) (q : ℕ) → AlternativeWords ws end d at a q → i ≡ walk.into_alternative s (head_of a))
-      → ElementsWalked walk ws end d count first i q t
-      → ((a : AlternativeOf (Block d)) (q : ℕ) → AlternativeWords ws end d at a q → r ≡ walk.past_alternative s (head_of a) t)
-      → AlternativeWalked walk ws end d at s q r
+      → ((a : AlternativeOf (Block d)) (q : ℕ) → AlternativeWordsIn form ws end d at a q → i ≡ walk.into_alternative s (head_of a))
+      → ElementsWalkedIn form walk ws end d count first i q t
+      → ((a : AlternativeOf (Block d)) (q : ℕ) → AlternativeWordsIn form ws end d at a q → r ≡ walk.past_alternative s (head_of a) t)
+      → AlternativeWalkedIn form walk ws end d at s q r
   unfolding alternative_fold
   fold_alternative d head {s} {i} {t} {r} {q} v c x =
       record {
@@ -160,8 +179,8 @@ module _ {S : Type 0} (walk : Steps S) {ws : List ℕ} {end at : ℕ} where
       }
 
   -- A rule is its body's alternatives.
-  pub fold_rule : (d : ℕ) {m : ℕ} → m ≡ get_or ws (at + 3) 0 → {s r : S} {q : ℕ} → AlternativesWalked walk ws end d m (at + 4) s q r
-      → WalkedOne ws end (encode_rule (encode_block (suc d))) (ok_rule (ok_block (suc d))) (rule_fold walk (suc d)) at s q r
+  pub fold_rule : (d : ℕ) {m : ℕ} → m ≡ get_or ws (at + 3) 0 → {s r : S} {q : ℕ} → AlternativesWalkedIn form walk ws end d m (at + 4) s q r
+      → WalkedOne ws end (encode_rule (encode_block_in form (suc d))) (ok_rule (ok_block_in form (suc d))) (rule_fold walk (suc d)) at s q r
   unfolding rule_fold block_fold
   fold_rule d e c =
       record {
@@ -171,18 +190,18 @@ module _ {S : Type 0} (walk : Steps S) {ws : List ℕ} {end at : ℕ} where
       }
 
 -- A rule of a sheet: its body's alternatives nest blocks at most 8 deep.
-module _ {ws : List ℕ} {end at : ℕ} where
+module _ (form : Form) {ws : List ℕ} {end at : ℕ} where
   pub rule_walked : {S : Type 0} (walk : Steps S) {m : ℕ} → m ≡ get_or ws (at + 3) 0 → {s r : S} {q : ℕ}
-      → AlternativesWalked walk ws end 8 m (at + 4) s q r
-      → RuleWalked walk ws end at s q r
-  rule_walked walk e c = fold_rule walk 8 e c
+      → AlternativesWalkedIn form walk ws end 8 m (at + 4) s q r
+      → RuleWalkedIn form walk ws end at s q r
+  rule_walked walk e c = fold_rule form walk 8 e c
 
-  pub rule_found : FoundRule ws end at → {m : ℕ} → m ≡ get_or ws (at + 3) 0 → FoundAlternatives ws end 8 m (at + 4)
-  rule_found f e = body_found 8 f e
+  pub rule_found : FoundRuleIn form ws end at → {m : ℕ} → m ≡ get_or ws (at + 3) 0 → FoundAlternativesIn form ws end 8 m (at + 4)
+  rule_found f e = body_found form 8 f e
 
-pub rules_room : {S : Type 0} (walk : Steps S) {ws : List ℕ} {end n at : ℕ} {s₀ : S} {i p : ℕ} {s : S}
-    → RulesFolding walk ws end n at s₀ i p s → (i ≡ 0 → ⊥)
+pub rules_room : (form : Form) {S : Type 0} (walk : Steps S) {ws : List ℕ} {end n at : ℕ} {s₀ : S} {i p : ℕ} {s : S}
+    → RulesFoldingIn form walk ws end n at s₀ i p s → (i ≡ 0 → ⊥)
     → p + 4 ≤ end
-rules_room walk g some = rule_room 8 (folding_found g some)
+rules_room form walk g some = rule_room form 8 (folding_found g some)
 
 pub ruleset bodies = (rule_walked, rule_found)

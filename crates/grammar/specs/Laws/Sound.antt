@@ -1,6 +1,6 @@
 -- Each parser is sound: what it finds is encoded where it found it, and passes the test of a tree.
 use Prim.Native.Nat.{ℕ, zero, suc, ◌+◌, ◌-◌, ◌/◌, ◌%◌, ◌≤◌}
-use Rattle.std.specs.Prelude.{◌≡◌, List, [], ◌∷◌, Bool, true, ◌&&◌, leb, eqb}
+use Rattle.std.specs.Prelude.{◌≡◌, List, [], ◌∷◌, Bool, true, false, ◌&&◌, leb, eqb}
 use Rattle.std.proofs.Math.Path.{refl, sym}
 use Rattle.std.proofs.Common.{◌∙◌}
 use native.Mathlib.Omega.{arith}
@@ -8,23 +8,25 @@ use Rattle.std.proofs.Math.ListN.{length, get_or}
 use Rattle.std.proofs.lemmas.Bool.{and_from}
 use Rattle.std.specs.Cmp.{first_so, second_so}
 use borrow.Author.Tests.{leb-true, eqb-true}
-use Rattle.grammar.specs.Numbers.{one_or_more_nongreedy, action_kind, predicate_kind, block_kind, kind_end}
+use Rattle.grammar.specs.Numbers.{one_or_more_nongreedy, action_kind, predicate_kind, call_kind, block_kind, kind_end}
 use Rattle.grammar.specs.Stands.{Spans, Stands}
 use Rattle.grammar.specs.Tree.{Reference, ElementHead, Leaf, Rule, body_depth}
-use Rattle.grammar.specs.Encode.{encode_option, encode_reference, encode_head, leaf_kind, encode_leaf, encode_element, encode_alternative}
-use Rattle.grammar.specs.Encode.{encode_rule, encode_block, encode_rules}
+use Rattle.grammar.specs.Encode.{encode_option, encode_reference, encode_head, leaf_kind, encode_leaf_in, encode_element_in}
+use Rattle.grammar.specs.Encode.{encode_alternative_in}
+use Rattle.grammar.specs.Encode.{encode_rule, encode_block_in, encode_rules_in}
 use Rattle.grammar.specs.Lists.{each, all}
+use Rattle.grammar.specs.Form.{Form}
 use Rattle.grammar.specs.Parse.{Got, given}
-use Rattle.grammar.specs.Read.{is_name, is_label, action_of, predicate_of, room, option_at, reference_at, body_at, call_at, token_at}
-use Rattle.grammar.specs.Read.{leaf_at}
-use Rattle.grammar.specs.Read.{is_head, head_at, payload_at, element_at, alternative_at, rule_at, block_at, rules_at}
-use Rattle.grammar.specs.Valid.{ok_option, ok_reference, ok_head, ok_leaf, ok_element, ok_alternative, ok_rule, ok_block}
+use Rattle.grammar.specs.Read.{is_name, is_label, action_of, predicate_of, room, option_at, reference_at, body_at, call_at_in, token_at}
+use Rattle.grammar.specs.Read.{leaf_at_in}
+use Rattle.grammar.specs.Read.{is_head, head_at, payload_at_in, element_at_in, alternative_at_in, rule_at_in, block_at_in, rules_at_in}
+use Rattle.grammar.specs.Valid.{ok_option, ok_reference, ok_head, ok_leaf_in, ok_element_in, ok_alternative_in, ok_rule, ok_block_in}
 use Rattle.grammar.specs.Laws.Stands.{first, stands_none, stands_two, stands_run, stands_length, stands_append}
 use Rattle.grammar.specs.Laws.Label.{label_fine, label_id_lem, label_name_lem}
 use Rattle.grammar.specs.Laws.Parse.{either, Yields, nothing, yields, yields_map, yields_then}
 use Rattle.grammar.specs.Laws.Parse.{yields_given, Sound, many_sound}
 
-module _ (ws : List ℕ) (end : ℕ) where
+module _ (form : Form) (ws : List ℕ) (end : ℕ) where
   yields_room : {A : Type 0} {P : A → ℕ → Type 0} (n at : ℕ) (f : Unit {0} → Got A)
       → at ≤ end → (at + n ≤ end → Yields P (f tt)) → Yields P (given (room ws end n at) f)
   yields_room n at f h k = yields_given (room ws end n at) f λ t. k (omega (arith, leb-true n (end - at) t))
@@ -44,12 +46,12 @@ module _ (ws : List ℕ) (end : ℕ) where
 
   -- A leaf of a kind.
   pub record LeafAt (kind at : ℕ) (l : Leaf) (q : ℕ) : Type 0 where
-    pub spans : Spans ws end encode_leaf ok_leaf at l q
+    pub spans : Spans ws end (encode_leaf_in form) (ok_leaf_in form) at l q
     pub sort : leaf_kind l ≡ kind
 
   body_sound : (make : ℕ → List Reference → Leaf) (kind : ℕ)
-      → ((i : ℕ) (rs : List Reference) → encode_leaf (make i rs) ≡ i ∷ length rs ∷ each encode_reference rs)
-      → ((i : ℕ) (rs : List Reference) → ok_leaf (make i rs) ≡ all ok_reference rs)
+      → ((i : ℕ) (rs : List Reference) → encode_leaf_in form (make i rs) ≡ i ∷ length rs ∷ each encode_reference rs)
+      → ((i : ℕ) (rs : List Reference) → ok_leaf_in form (make i rs) ≡ all ok_reference rs)
       → ((i : ℕ) (rs : List Reference) → leaf_kind (make i rs) ≡ kind)
       → (at : ℕ) → at ≤ end → Yields (LeafAt kind at) (body_at ws end make at)
   unfolding body_at
@@ -60,14 +62,24 @@ module _ (ws : List ℕ) (end : ℕ) where
       record { run = (first ws at, (sym x.1, stands_run at 2 x.0.stands)) } in
       yields (record { spans = record { stands = rw e t; fine = rw o x.0.fine }; sort = s (get_or ws at 0) rs })
 
-  pub leaf_sound : (kind at : ℕ) → at ≤ end → Yields (LeafAt kind at) (leaf_at ws end kind at)
-  unfolding leaf_at call_at token_at encode_leaf ok_leaf leaf_kind
+  call_sound : (at : ℕ) → at ≤ end → Yields (LeafAt call_kind at) (call_at_in form ws end at)
+  unfolding call_at_in encode_leaf_in ok_leaf_in leaf_kind
+  call_sound at h = go form.precedences refl
+    where
+      go : (b : Bool) → form.precedences ≡ b → Yields (LeafAt call_kind at) (call_at_in form ws end at)
+      go true e =
+          rw e (yields_room_and 3 at _ _ h λ r t.
+          yields (record { spans = record { stands = record { run = (first ws at, (refl, (refl, (refl, r)))) }; fine = t }; sort = refl }))
+      go false e =
+          rw e (yields_room_and 2 at _ _ h λ r t.
+          yields (record { spans = record { stands = record { run = (first ws at, (refl, (refl, r))) }; fine = t }; sort = refl }))
+
+  pub leaf_sound : (kind at : ℕ) → at ≤ end → Yields (LeafAt kind at) (leaf_at_in form ws end kind at)
+  unfolding leaf_at_in token_at encode_leaf_in ok_leaf_in leaf_kind
   leaf_sound zero at h = yields (record { spans = record { stands = stands_none h; fine = refl }; sort = refl })
   leaf_sound (suc zero) at h = body_sound action_of action_kind (λ i rs. refl) (λ i rs. refl) (λ i rs. refl) at h
   leaf_sound (suc (suc zero)) at h = body_sound predicate_of predicate_kind (λ i rs. refl) (λ i rs. refl) (λ i rs. refl) at h
-  leaf_sound (suc (suc (suc zero))) at h =
-      yields_room_and 2 at _ _ h λ r t.
-      yields (record { spans = record { stands = stands_two ws end at r; fine = t }; sort = refl })
+  leaf_sound (suc (suc (suc zero))) at h = call_sound at h
   leaf_sound (suc (suc (suc (suc zero)))) at h =
       yields_room_and 1 at _ _ h λ r t.
       yields (record { spans = record { stands = record { run = (first ws at, (refl, r)) }; fine = t }; sort = refl })
@@ -109,28 +121,29 @@ module _ (ws : List ℕ) (end : ℕ) where
 
   module _ {B : Type 0} (block_at : ℕ → Got B) (enc : B → List ℕ) (ok : B → Bool) (sound : Sound ws end block_at enc ok) where
     payload_sound : (e : ElementHead) (kind at p : ℕ) → Spans ws end (λ h. encode_head h kind) ok_head at e p
-        → Yields (Spans ws end (encode_element enc) (ok_element ok) at) (payload_at ws end block_at e kind p)
-    unfolding payload_at encode_element ok_element
+        → Yields (Spans ws end (encode_element_in form enc) (ok_element_in form ok) at) (payload_at_in form ws end block_at e kind p)
+    unfolding payload_at_in encode_element_in ok_element_in
     payload_sound e kind at p x =
         let h = (stands_length x.stands).1 in
         either (eqb kind block_kind)
-        (λ t. rw (t, payload_at) (yields_then (sound p h) λ b q y.
+        (λ t. rw (t, payload_at_in) (yields_then (sound p h) λ b q y.
         yields (record {
           stands = stands_append (rw (eqb-true kind block_kind t) at x.stands) y.stands;
           fine = and_from _ _ x.fine y.fine;
         })))
-        (λ t. rw (t, payload_at) (yields_then (leaf_sound kind p h) λ l q y.
+        (λ t. rw (t, payload_at_in) (yields_then (leaf_sound kind p h) λ l q y.
         yields (record {
           stands = stands_append (rw (← y.sort) at x.stands) y.spans.stands;
           fine = and_from _ _ x.fine y.spans.fine;
         })))
 
-    pub element_sound : Sound ws end (element_at ws end block_at) (encode_element enc) (ok_element ok)
-    unfolding element_at
+    pub element_sound : Sound ws end (element_at_in form ws end block_at) (encode_element_in form enc) (ok_element_in form ok)
+    unfolding element_at_in
     element_sound at h = yields_then (head_sound at h) λ e p x. payload_sound e (get_or ws (at + 2) 0 % kind_end) at p x
 
-    pub alternative_sound : Sound ws end (alternative_at ws end block_at) (encode_alternative enc) (ok_alternative ok)
-    unfolding alternative_at encode_alternative ok_alternative
+    pub alternative_sound : Sound ws end (alternative_at_in form ws end block_at) (encode_alternative_in form enc)
+        (ok_alternative_in form ok)
+    unfolding alternative_at_in encode_alternative_in ok_alternative_in
     alternative_sound at h =
         yields_room_and 5 at _ _ h λ r t.
         yields_then (many_sound _ _ _ option_sound (get_or ws (at + 3) 0) (at + 5) r) λ os p x.
@@ -149,8 +162,8 @@ module _ (ws : List ℕ) (end : ℕ) where
           fine = and_from _ _ t (and_from _ _ x.0.fine y.0.fine);
         })
 
-    pub rule_sound : Sound ws end (rule_at ws end block_at) (encode_rule enc) (ok_rule ok)
-    unfolding rule_at encode_rule ok_rule
+    pub rule_sound : Sound ws end (rule_at_in form ws end block_at) (encode_rule enc) (ok_rule ok)
+    unfolding rule_at_in encode_rule ok_rule
     rule_sound at h =
         yields_room_and 3 at _ _ h λ r t.
         yields_then (sound (at + 3) r) λ b q x.
@@ -161,8 +174,8 @@ module _ (ws : List ℕ) (end : ℕ) where
               (and_from _ _ (second_so (is_name (get_or ws (at + 1) 0)) _ t) x.fine);
         })
 
-  pub block_sound : (d : ℕ) → Sound ws end (block_at ws end d) (encode_block d) (ok_block d)
-  unfolding block_at encode_block ok_block
+  pub block_sound : (d : ℕ) → Sound ws end (block_at_in form ws end d) (encode_block_in form d) (ok_block_in form d)
+  unfolding block_at_in encode_block_in ok_block_in
   block_sound zero at h = nothing
   block_sound (suc d) at h =
       yields_room 1 at _ h λ r.
@@ -171,7 +184,7 @@ module _ (ws : List ℕ) (end : ℕ) where
 
   -- At most n rules from `at` up to the end.
   pub record RulesAt (n at : ℕ) (rs : List Rule) (q : ℕ) : Type 0 where
-    pub spans : Spans ws end encode_rules (all (ok_rule (ok_block body_depth))) at rs q
+    pub spans : Spans ws end (encode_rules_in form) (all (ok_rule (ok_block_in form body_depth))) at rs q
     pub ends : q ≡ end
     pub few : length rs ≤ n
 
@@ -179,12 +192,12 @@ module _ (ws : List ℕ) (end : ℕ) where
   unfolding all
   no_rules n at h t = record { spans = record { stands = stands_none h; fine = refl }; ends = eqb-true at end t; few = omega arith }
 
-  pub rules_sound : (n at : ℕ) → at ≤ end → Yields (RulesAt n at) (rules_at ws end n at)
-  unfolding rules_at all
+  pub rules_sound : (n at : ℕ) → at ≤ end → Yields (RulesAt n at) (rules_at_in form ws end n at)
+  unfolding rules_at_in all
   rules_sound zero at h = yields_given (eqb at end) _ λ t. yields (no_rules zero at h t)
   rules_sound (suc n) at h =
-      either (eqb at end) (λ t. rw (t, rules_at) (yields (no_rules (suc n) at h t))) λ t.
-      rw (t, rules_at) (
+      either (eqb at end) (λ t. rw (t, rules_at_in) (yields (no_rules (suc n) at h t))) λ t.
+      rw (t, rules_at_in) (
       yields_then (rule_sound _ _ _ (block_sound body_depth) at h) λ r p x.
       yields_then (rules_sound n p (stands_length x.stands).1) λ rs q y.
       yields (record {

@@ -11,14 +11,15 @@ use borrow.Author.Tests.{leb-true, eqb-true, le-leb, eq-eqb}
 use Rattle.grammar.specs.Numbers.{trailer_words}
 use Rattle.grammar.specs.Stands.{Stands}
 use Rattle.grammar.specs.Tree.{Rule, Sheet, body_depth}
-use Rattle.grammar.specs.Encode.{encode, encode_rules, encode_counters}
+use Rattle.grammar.specs.Encode.{encode_in, encode_rules_in, encode_counters}
 use Rattle.grammar.specs.Parse.{Got, got}
+use Rattle.grammar.specs.Form.{Form, newest}
 use Rattle.grammar.specs.Ids.{is_distinct, is_below}
 use Rattle.grammar.specs.Lists.{member, all, rising}
-use Rattle.grammar.specs.Valid.{ok_rule, ok_block, ok_rules, rule_limit, is_kind, valid}
+use Rattle.grammar.specs.Valid.{ok_rule, ok_block_in, ok_rules_in, rule_limit, is_kind, valid_in}
 use Rattle.grammar.specs.Reading.{Reading, refused, sheet, refusals, trailer, unit_kind, first_distance, second_distance, is_trailer}
 use Rattle.grammar.specs.Reading.{rules_end}
-use Rattle.grammar.specs.Reading.{preserved_ids, counters_of, rules_of, sheet_of, judge, read_words}
+use Rattle.grammar.specs.Reading.{preserved_ids, counters_of, rules_of_in, sheet_of, judge, read_words_in}
 use Rattle.grammar.specs.Laws.Stands.{first, stands_head, stands_length, stands_append, stands_within, stands_slice, slice_stands}
 use Rattle.grammar.specs.Laws.Stands.{stands_split, stands_whole, stands_self}
 use Rattle.grammar.specs.Laws.Parse.{either, Yields, found, nothing, yields, yields_then}
@@ -44,44 +45,44 @@ reads_refused (accepts x) e = absurd (let z : ◌≡◌ {A = ℕ} 0 1 = cc in om
 reads_refused (refuses m) e = subst (λ k. member k refusals ≡ true) (cc) m
 
 -- The parts of validity.
-pub record Parts (s : Sheet) : Type 0 where
+pub record PartsIn (form : Form) (s : Sheet) : Type 0 where
   pub kind : is_kind s.kind ≡ true
   pub few : leb (length s.rules) rule_limit ≡ true
-  pub rules : all (ok_rule (ok_block body_depth)) s.rules ≡ true
+  pub rules : all (ok_rule (ok_block_in form body_depth)) s.rules ≡ true
   pub preserved : rising s.preserved ≡ true
   pub distinct : is_distinct s.rules ≡ true
   pub below : is_below s.counters s.rules ≡ true
 
-pub parts_valid : (s : Sheet) → Parts s → valid s ≡ true
-unfolding valid ok_rules
-parts_valid s v =
+pub parts_valid : (form : Form) (s : Sheet) → PartsIn form s → valid_in form s ≡ true
+unfolding valid_in ok_rules_in
+parts_valid form s v =
     and_from _ _ v.kind (and_from _ _ (and_from _ _ (and_from _ _ v.few v.rules) v.preserved)
     (and_from _ _ v.distinct v.below))
 
-pub valid_parts : (s : Sheet) → valid s ≡ true → Parts s
-unfolding valid ok_rules
-valid_parts s v =
+pub valid_parts : (form : Form) (s : Sheet) → valid_in form s ≡ true → PartsIn form s
+unfolding valid_in ok_rules_in
+valid_parts form s v =
     let r = second_so (is_kind s.kind) _ v in
-    let a = first_so (ok_rules s.rules && rising s.preserved) _ r in
-    let b = second_so (ok_rules s.rules && rising s.preserved) _ r in
-    let c = first_so (ok_rules s.rules) (rising s.preserved) a in
+    let a = first_so (ok_rules_in form s.rules && rising s.preserved) _ r in
+    let b = second_so (ok_rules_in form s.rules && rising s.preserved) _ r in
+    let c = first_so (ok_rules_in form s.rules) (rising s.preserved) a in
     record {
       kind = first_so (is_kind s.kind) _ v;
       few = first_so (leb (length s.rules) rule_limit) _ c;
       rules = second_so (leb (length s.rules) rule_limit) _ c;
-      preserved = second_so (ok_rules s.rules) (rising s.preserved) a;
+      preserved = second_so (ok_rules_in form s.rules) (rising s.preserved) a;
       distinct = first_so (is_distinct s.rules) _ b;
       below = second_so (is_distinct s.rules) _ b;
     }
 
 -- What 4 asks of a tree: the parts but for 5 and 6.
-pub record Records (s : Sheet) : Type 0 where
+pub record RecordsIn (form : Form) (s : Sheet) : Type 0 where
   pub kind : is_kind s.kind ≡ true
   pub few : leb (length s.rules) rule_limit ≡ true
-  pub rules : all (ok_rule (ok_block body_depth)) s.rules ≡ true
+  pub rules : all (ok_rule (ok_block_in form body_depth)) s.rules ≡ true
   pub preserved : rising s.preserved ≡ true
 
-module _ (ws : List ℕ) where
+module _ (form : Form) (ws : List ℕ) where
   judge_reads : {Q : List Rule → ℕ → Type 0} {P : Sheet → Type 0} {g : Got (List Rule)} → Yields Q g
       → ((rs : List Rule) (q : ℕ) → Q rs q → is_distinct rs ≡ true → is_below (counters_of ws) rs ≡ true → P (sheet_of ws rs))
       → Reads P (judge ws g)
@@ -95,21 +96,21 @@ module _ (ws : List ℕ) where
       (λ d. rw (d, judge) (refuses refl))
 
   record Found (rs : List Rule) (q : ℕ) : Type 0 where
-    rules : RulesAt ws (rules_end ws) rule_limit 0 rs q
+    rules : RulesAt form ws (rules_end ws) rule_limit 0 rs q
     preserved : rising (preserved_ids ws) ≡ true
 
-  rules_of_sound : Yields Found (rules_of ws)
-  unfolding rules_of
+  rules_of_sound : Yields Found (rules_of_in form ws)
+  unfolding rules_of_in
   rules_of_sound =
-      yields_then (rules_sound ws (rules_end ws) rule_limit 0 (omega arith)) λ rs q x.
+      yields_then (rules_sound form ws (rules_end ws) rule_limit 0 (omega arith)) λ rs q x.
       yields_given (rising (preserved_ids ws)) _ λ t.
       yields (record { rules = x; preserved = t })
 
   whole : trailer_words ≤ length ws → first_distance ws ≡ trailer ws → second_distance ws ≤ trailer ws → (rs : List Rule) (q : ℕ)
-      → Found rs q → encode (sheet_of ws rs) ≡ ws
-  unfolding encode sheet_of counters_of preserved_ids
+      → Found rs q → encode_in form (sheet_of ws rs) ≡ ws
+  unfolding encode_in sheet_of counters_of preserved_ids
   whole h f g rs q x =
-      let a : Stands ws (length ws) (encode_rules rs) 0 (rules_end ws) =
+      let a : Stands ws (length ws) (encode_rules_in form rs) 0 (rules_end ws) =
       stands_within (length ws) (omega arith) (rw x.rules.ends at x.rules.spans.stands) in
       let b : Stands ws (length ws) (take (second_distance ws) (drop (rules_end ws) ws)) (rules_end ws) (trailer ws) =
       slice_stands ws (length ws) (second_distance ws) (rules_end ws) (trailer ws) (omega arith) (omega arith) (omega arith) in
@@ -125,7 +126,7 @@ module _ (ws : List ℕ) where
 
   -- What passes 3 and 4 is encoded by these very words.
   records_found : trailer_words ≤ length ws → is_trailer ws ≡ true → (rs : List Rule) (q : ℕ) → Found rs q
-      → (encode (sheet_of ws rs) ≡ ws) × Records (sheet_of ws rs)
+      → (encode_in form (sheet_of ws rs) ≡ ws) × RecordsIn form (sheet_of ws rs)
   unfolding is_trailer sheet_of
   records_found h t rs q x =
       let u = second_so (is_kind (unit_kind ws)) _ t in
@@ -140,14 +141,14 @@ module _ (ws : List ℕ) where
         },
       )
 
-  pub stands_encoded : trailer_words ≤ length ws → is_trailer ws ≡ true → (rs : List Rule) (q : ℕ) → rules_of ws ≡ got rs q
-      → (encode (sheet_of ws rs) ≡ ws) × Records (sheet_of ws rs)
+  pub stands_encoded : trailer_words ≤ length ws → is_trailer ws ≡ true → (rs : List Rule) (q : ℕ) → rules_of_in form ws ≡ got rs q
+      → (encode_in form (sheet_of ws rs) ≡ ws) × RecordsIn form (sheet_of ws rs)
   stands_encoded h t rs q e = records_found h t rs q (yields_got rules_of_sound e)
 
   -- What is found is valid and encoded by these very words.
   pub record IsSheet (s : Sheet) : Type 0 where
-    pub words : encode s ≡ ws
-    pub parts : Parts s
+    pub words : encode_in form s ≡ ws
+    pub parts : PartsIn form s
 
   sheet_found : trailer_words ≤ length ws → is_trailer ws ≡ true → (rs : List Rule) (q : ℕ) → Found rs q → is_distinct rs ≡ true
       → is_below (counters_of ws) rs ≡ true
@@ -160,24 +161,24 @@ module _ (ws : List ℕ) where
         parts = record { kind = r.kind; few = r.few; rules = r.rules; preserved = r.preserved; distinct = d; below = b };
       }
 
-  pub words_sound : trailer_words ≤ length ws → Reads IsSheet (read_words ws)
-  unfolding read_words member
+  pub words_sound : trailer_words ≤ length ws → Reads IsSheet (read_words_in form ws)
+  unfolding read_words_in member
   words_sound h =
-      either (is_trailer ws) (λ t. rw (t, read_words) (judge_reads rules_of_sound (sheet_found h t)))
-      (λ t. rw (t, read_words) (refuses refl))
+      either (is_trailer ws) (λ t. rw (t, read_words_in) (judge_reads rules_of_sound (sheet_found h t)))
+      (λ t. rw (t, read_words_in) (refuses refl))
 
   -- Where the parts of an encoded sheet stand.
   record Placed (s : Sheet) : Type 0 where
-    rules : Stands ws (rules_end ws) (encode_rules s.rules) 0 (rules_end ws)
+    rules : Stands ws (rules_end ws) (encode_rules_in form s.rules) 0 (rules_end ws)
     preserved : preserved_ids ws ≡ s.preserved
     kind : unit_kind ws ≡ s.kind
     first_distance_is : first_distance ws ≡ trailer ws
     second_distance_is : second_distance ws ≤ first_distance ws
     counters : counters_of ws ≡ s.counters
 
-  placed_at : (s : Sheet) (o p : ℕ) → Stands ws (length ws) (encode_rules s.rules) 0 o → Stands ws (length ws) s.preserved o p
+  placed_at : (s : Sheet) (o p : ℕ) → Stands ws (length ws) (encode_rules_in form s.rules) 0 o → Stands ws (length ws) s.preserved o p
       → Stands ws (length ws)
-      (s.kind ∷ length (encode_rules s.rules ++ s.preserved) ∷ length s.preserved ∷ encode_counters s.counters) p (length ws)
+      (s.kind ∷ length (encode_rules_in form s.rules ++ s.preserved) ∷ length s.preserved ∷ encode_counters s.counters) p (length ws)
       → Placed s
   unfolding preserved_ids counters_of
   placed_at s o p a b c =
@@ -204,25 +205,25 @@ module _ (ws : List ℕ) where
         };
       }
 
-  placed : (s : Sheet) → Stands ws (length ws) (encode s) 0 (length ws) → Placed s
-  unfolding encode
+  placed : (s : Sheet) → Stands ws (length ws) (encode_in form s) 0 (length ws) → Placed s
+  unfolding encode_in
   placed s t =
-      let body = encode_rules s.rules ++ s.preserved in
+      let body = encode_rules_in form s.rules ++ s.preserved in
       let (p, x, c) = stands_split body (s.kind ∷ length body ∷ length s.preserved ∷ encode_counters s.counters) t in
-      let (o, a, b) = stands_split (encode_rules s.rules) s.preserved x in
+      let (o, a, b) = stands_split (encode_rules_in form s.rules) s.preserved x in
       placed_at s o p a b c
 
-  module _ (s : Sheet) (p : Placed s) (v : Records s) where
+  module _ (s : Sheet) (p : Placed s) (v : RecordsIn form s) where
     is_trailer_complete : is_trailer ws ≡ true
     unfolding is_trailer
     is_trailer_complete =
         let k : is_kind (unit_kind ws) ≡ true = rw p.kind v.kind in
         and_from _ _ k (and_from _ _ (eq-eqb _ _ p.first_distance_is) (le-leb _ _ p.second_distance_is))
 
-    rules_of_complete : rules_of ws ≡ got s.rules (rules_end ws)
-    unfolding rules_of
+    rules_of_complete : rules_of_in form ws ≡ got s.rules (rules_end ws)
+    unfolding rules_of_in
     rules_of_complete =
-        then_got _ (rules_complete ws (rules_end ws) rule_limit 0 s.rules (leb-true _ _ v.few)
+        then_got _ (rules_complete form ws (rules_end ws) rule_limit 0 s.rules (leb-true _ _ v.few)
         (record { stands = p.rules; fine = v.rules }))
         (given_got (rising (preserved_ids ws)) _ (rw p.preserved v.preserved) refl)
 
@@ -230,21 +231,31 @@ module _ (ws : List ℕ) where
     unfolding sheet_of
     sheet_of_complete = λ i. record { kind = p.kind i; rules = s.rules; preserved = p.preserved i; counters = p.counters i }
 
-  placed_complete : (s : Sheet) → Placed s → Parts s → read_words ws ≡ sheet s
-  unfolding read_words judge
+  placed_complete : (s : Sheet) → Placed s → PartsIn form s → read_words_in form ws ≡ sheet s
+  unfolding read_words_in judge
   placed_complete s p v =
-      let r : Records s = record { kind = v.kind; few = v.few; rules = v.rules; preserved = v.preserved } in
+      let r : RecordsIn form s = record { kind = v.kind; few = v.few; rules = v.rules; preserved = v.preserved } in
       let b : is_below (counters_of ws) s.rules ≡ true = rw p.counters v.below in
-      rw (is_trailer_complete s p r, read_words)
+      rw (is_trailer_complete s p r, read_words_in)
       (rw (rules_of_complete s p r) (rw (v.distinct, b, judge) (ap sheet (sheet_of_complete s p r))))
 
   -- A valid sheet that these words encode is found.
-  pub words_complete : (s : Sheet) → Stands ws (length ws) (encode s) 0 (length ws) → Parts s → read_words ws ≡ sheet s
+  pub words_complete : (s : Sheet) → Stands ws (length ws) (encode_in form s) 0 (length ws) → PartsIn form s
+      → read_words_in form ws ≡ sheet s
   words_complete s t v = placed_complete s (placed s t) v
 
 -- What is encoded of a tree that 4 allows is found again.
-pub encoded_stands : (s : Sheet) → Records s
-    → (is_trailer (encode s) ≡ true) × (rules_of (encode s) ≡ got s.rules (rules_end (encode s))) × (sheet_of (encode s) s.rules ≡ s)
-encoded_stands s v =
-    let p = placed (encode s) s (stands_self (encode s)) in
-    (is_trailer_complete (encode s) s p v, rules_of_complete (encode s) s p v, sheet_of_complete (encode s) s p v)
+pub encoded_stands : (form : Form) (s : Sheet) → RecordsIn form s
+    → (is_trailer (encode_in form s) ≡ true) × (rules_of_in form (encode_in form s) ≡ got s.rules (rules_end (encode_in form s)))
+    × (sheet_of (encode_in form s) s.rules ≡ s)
+encoded_stands form s v =
+    let ws = encode_in form s in
+    let p = placed form ws s (stands_self ws) in
+    (is_trailer_complete form ws s p v, rules_of_complete form ws s p v, sheet_of_complete form ws s p v)
+
+-- In the newest form.
+abbrev pub Parts : Sheet → Type 0
+Parts = PartsIn newest
+
+abbrev pub Records : Sheet → Type 0
+Records = RecordsIn newest

@@ -5,6 +5,7 @@ use mathlib.Core.List.{List, [], ◌∷◌, ◌++◌}
 use native.Mathlib.Omega.{arith}
 use native.Mathlib.Numerals.{add-one}
 use lib.ListN.{length}
+use Rattle.grammar.specs.Form.{newest}
 use Rattle.grammar.specs.Encode.{encode_option}
 use Rattle.grammar.specs.Lists.{each}
 use Rattle.grammar.specs.Laws.Lists.{each_append}
@@ -100,7 +101,7 @@ module _ (ws : List ℕ) (end d : ℕ) (b : List ℕ) where
         (subst (λ os. Wrote m a (to + 5) (each encode_option os)) v t)
 
     pub slot_room : {p : ℕ} → ListedIn ws end d b x → p ≡ place_of x.slot → p + 5 ≤ end
-    slot_room t e = rw e (alternative_room d t.head.slot_found)
+    slot_room t e = rw e (alternative_room newest d t.head.slot_found)
 
 -- Behind words that were written the list is as it was.
 module _ {b m : List ℕ} {to : ℕ} {ys : List ℕ} {x : Listed} (low : compose_at ≤ to) (u : Wrote b m to ys) where

@@ -10,6 +10,7 @@ use Rattle.grammar.specs.Words.{words}
 use Rattle.grammar.specs.Stands.{Stands}
 use Rattle.grammar.specs.Tree.{Element, leaf, block, Block}
 use Rattle.grammar.specs.Encode.{encode_element, encode_block, encode_head, encode_option, encode_leaf, leaf_kind, label_id, label_name}
+use Rattle.grammar.specs.Encode.{encode_element_in}
 use Rattle.grammar.specs.Lists.{each}
 use Rattle.grammar.specs.Found.{FoundElement, ElementSpans}
 use Rattle.grammar.specs.Fold.{ElementWalked}
@@ -35,7 +36,7 @@ slice {bs} {end} {at} {q} {xs} r s =
 
 -- Without its quantifier it is as long.
 plain_length : (d : ℕ) (e : Element (Block d)) → length (encode_element (encode_block d) (plain e)) ≡ length (encode_element (encode_block d) e)
-unfolding encode_element encode_head plain
+unfolding encode_element_in encode_head plain
 plain_length d (leaf h l) = refl
 plain_length d (block h b) = refl
 
@@ -52,7 +53,7 @@ record PlainWords (ws : List ℕ) (end d at : ℕ) (e : Element (Block d)) (q : 
 
 module _ {ws : List ℕ} {end at : ℕ} (d : ℕ) where
   plain_words : ItemThere ws end d at true → (e : Element (Block d)) (q : ℕ) → ElementSpans ws end d at e q → PlainWords ws end d at e q
-  unfolding encode_element encode_head plain
+  unfolding encode_element_in encode_head plain
   plain_words i (leaf h l) q s =
       let w = s.stands.run.1 in
       let c = i.call refl in

@@ -5,6 +5,7 @@ use mathlib.Core.List.{List, [], ◌∷◌}
 use mathlib.Core.Bool.{Bool, true, false, ◌||◌}
 use native.Mathlib.Omega.{arith}
 use lib.ListN.{length, get_or}
+use Rattle.grammar.specs.Form.{newest}
 use Rattle.grammar.specs.Tree.{AlternativeOf, Block, inner_depth}
 use Rattle.grammar.specs.Stands.{Spans}
 use Rattle.grammar.specs.Encode.{encode_alternative, encode_block}
@@ -82,11 +83,11 @@ module _ {c : Cycle} {ws : List ℕ} {end d : ℕ} where
       try_found = first_found g.found left
 
       pub try_room : p + 5 ≤ end
-      try_room = alternative_room d try_found
+      try_room = alternative_room newest d try_found
 
       module _ {count first : ℕ} (head : AlternativeAt ws end p count first) where
         pub try_inner : FoundElements ws end d count first
-        try_inner = inner_found d head try_found
+        try_inner = inner_found newest d head try_found
 
         pub try_yes : {b : Bool} → Settles c ws end d count first b → b ≡ true → AnySettles c ws end d n at true
         try_yes v e = g.rest true (yes_any left head v e)

@@ -9,7 +9,7 @@ use native.Mathlib.Numerals.{add-one}
 use lib.ListN.{length, get_or, length-append}
 use Rattle.grammar.specs.Numbers.{most_words, rule_limit}
 use Rattle.grammar.specs.Tree.{AlternativeOf, Block, Rule, body_depth, inner_depth}
-use Rattle.grammar.specs.Encode.{encode_alternative, encode_block}
+use Rattle.grammar.specs.Encode.{encode_alternative, encode_block, encode_alternative_in}
 use Rattle.grammar.specs.Lists.{each, member, keep, push, total}
 use Rattle.grammar.specs.Found.{FoundRule, RuleSpans}
 use Rattle.grammar.specs.Laws.Stands.{stands_length}
@@ -31,7 +31,7 @@ pub record Counted (ws : List ℕ) (end at : ℕ) (on : Bool) (r : ℕ) : Type 0
 
 -- An alternative takes a word at least.
 words_of : (d : ℕ) (as' : List (AlternativeOf (Block d))) → length as' ≤ length (each (encode_alternative (encode_block d)) as')
-unfolding encode_alternative
+unfolding encode_alternative_in
 words_of d [] = omega arith
 words_of d (a ∷ as') =
     let h = words_of d as' in

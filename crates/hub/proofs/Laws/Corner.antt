@@ -6,10 +6,11 @@ use mathlib.Core.Option.{Option, none, some}
 use mathlib.Core.Bool.{Bool, true, false, ◌&&◌, not}
 use native.Mathlib.Omega.{arith}
 use lib.ListN.{length, get_or}
+use Rattle.grammar.specs.Form.{newest}
 use Rattle.grammar.specs.Numbers.{call_kind}
 use Rattle.grammar.specs.Tree.{ElementHead, Call, Leaf, epsilon, action, predicate, call, token, terminal, end_of_input, Element, leaf, Block}
 use Rattle.grammar.specs.Stands.{Spans}
-use Rattle.grammar.specs.Encode.{encode_element, encode_block, encode_leaf, leaf_kind}
+use Rattle.grammar.specs.Encode.{encode_element, encode_block, encode_leaf, leaf_kind, encode_leaf_in}
 use Rattle.grammar.specs.Valid.{ok_element, ok_block, ok_leaf}
 use Rattle.grammar.specs.Lists.{each, all, member}
 use Rattle.grammar.specs.Found.{FoundElement, FoundElements, HeadAt, LeafEnd, ElementSpans}
@@ -113,7 +114,7 @@ module _ {c : Cycle} {ws : List ℕ} {end d : ℕ} where
 
     call_settles : {n w : ℕ} {r : Bool} → (n ≡ 0 → ⊥) → k ≡ call_kind → w ≡ get_or ws p 0 → NameSettles c w r
         → Settles c ws end d n at r
-    unfolding leaf_kind encode_leaf
+    unfolding leaf_kind encode_leaf_in
     call_settles {n} {w} {r} z l e v = first_settles z λ g cycle t x es q s. go g cycle t es (opened x s)
       where
         named : (g : Grammar) (cycle : List ℕ) → Tells g cycle c → (es : List (Element (Block d))) (h : ElementHead) (x : Leaf)
@@ -177,7 +178,7 @@ module _ {c : Cycle} {ws : List ℕ} {end d : ℕ} where
       seek_found = first_found g.found left
 
       pub seek_room : p + 6 ≤ end
-      seek_room = element_room d seek_found
+      seek_room = element_room newest d seek_found
 
       module _ {kind q : ℕ} (head : HeadAt ws end p kind q) where
         pub seek_past : call_kind < kind → Settles c ws end d n at true

@@ -13,7 +13,7 @@ use Rattle.grammar.specs.Numbers.{alternative_sort, element_sort, label_sort, ac
 use Rattle.grammar.specs.Numbers.{most_name, one_or_more_nongreedy, action_kind, predicate_kind, block_kind, kind_end}
 use Rattle.grammar.specs.Tree.{Label, unlabelled, labelled, ElementHead, Leaf, epsilon, action, predicate, call, token, terminal}
 use Rattle.grammar.specs.Tree.{end_of_input, Element, leaf, block, AlternativeOf, Block, Rule, body_depth}
-use Rattle.grammar.specs.Encode.{label_id, label_name, encode_leaf, leaf_kind}
+use Rattle.grammar.specs.Encode.{label_id, label_name, encode_leaf, leaf_kind, encode_leaf_in}
 use Rattle.grammar.specs.Lists.{each, only}
 use Rattle.grammar.specs.Valid.{ok_head, ok_label}
 use Rattle.grammar.specs.Words.{words}
@@ -39,7 +39,7 @@ leaf_ids_lem : {ws : List ℕ} {end p q : ℕ} (sort : ℕ) (l : Leaf) → Stand
     → only (eqb sort action_sort && eqb (leaf_kind l) action_kind) (get_or ws p 0)
     ++ only (eqb sort predicate_sort && eqb (leaf_kind l) predicate_kind) (get_or ws p 0)
     ≡ leaf_ids sort l
-unfolding leaf_ids leaf_kind encode_leaf
+unfolding leaf_ids leaf_kind encode_leaf_in
 leaf_ids_lem sort epsilon s = simp and-false
 leaf_ids_lem sort (action a) s = simp (and-false, and-true, stands_head s, append-nil)
 leaf_ids_lem sort (predicate p) s = simp (and-false, and-true, stands_head s)

@@ -6,6 +6,7 @@ use Rattle.std.proofs.Common.{◌∙◌, subst, true≢false}
 use mathlib.Core.List.{List, [], ◌∷◌, map, Memᴰ}
 use Rattle.std.proofs.Math.Option.{Option, none, some}
 use Rattle.std.proofs.Math.Bool.{◌&&◌, ◌||◌, not}
+use Rattle.grammar.specs.Form.{newest}
 use Rattle.grammar.specs.Laws.Lists.{in_map}
 use Rattle.grammar.specs.Tree.{ElementHead, Leaf, epsilon, action, predicate, call, token, terminal, end_of_input, Block, RuleOf, Rule}
 use Rattle.grammar.specs.Tree.{body_depth, Counters, Sheet}
@@ -251,4 +252,4 @@ outcome_same limits bs result trail work b p =
   where
     go : (r : Reading) → read bs ≡ r → answer_reading limits rust r ≡ answer_reading limits textbook r
     go (refused n) e = refl
-    go (sheet s) e = ap (answer_run s) (sheet_same limits s (accepted_valid bs b s e).0 (p s e))
+    go (sheet s) e = ap (answer_run s) (sheet_same limits s (accepted_valid newest bs b s e).0 (p s e))

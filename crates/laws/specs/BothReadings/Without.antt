@@ -5,6 +5,7 @@ use Rattle.std.proofs.Math.Path.{refl, sym, ap, ap₂}
 use Rattle.std.proofs.Common.{◌∙◌, subst}
 use mathlib.Core.List.{List, [], ◌∷◌, Memᴰ}
 use Rattle.std.proofs.Math.Bool.{◌&&◌, not}
+use Rattle.grammar.specs.Form.{newest}
 use Rattle.grammar.specs.Laws.Lists.{in_map}
 use Rattle.grammar.specs.Laws.Codec.{accepted_valid}
 use Rattle.grammar.specs.Lists.{all, any, meet}
@@ -224,4 +225,4 @@ outcome_before limits corners bs result trail work b p =
   where
     go : (r : Reading) → read bs ≡ r → answer_reading limits corners r ≡ Before.answer_reading limits corners r
     go (refused n) e = refl
-    go (sheet s) e = ap (answer_run s) (sheet_same limits corners s (accepted_valid bs b s e).0 (p s e))
+    go (sheet s) e = ap (answer_run s) (sheet_same limits corners s (accepted_valid newest bs b s e).0 (p s e))

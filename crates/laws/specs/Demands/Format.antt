@@ -1,8 +1,10 @@
 -- The format of a sheet (SPECIFICATION 2.2 to 2.15 and 2.19), told a second time by its numbers: the words of each record where they
 -- stand, and what is good in a sheet.
-use Rattle.std.specs.Prelude.{ℕ, zero, suc, ◌+◌, ◌*◌, ◌%◌, ◌≤◌, ◌≡◌, ◌↔◌, List, [], ◌∷◌, ◌++◌, map, true, length, eqb}
+use Rattle.std.specs.Prelude.{ℕ, zero, suc, ◌+◌, ◌*◌, ◌%◌, ◌≤◌, ◌≡◌, ◌↔◌, List, [], ◌∷◌, ◌++◌, map, true, false, length, eqb}
 use Rattle.grammar.specs.Lists.{each, only, AllOf}
-use Rattle.grammar.specs.Tree.{OptionDecl, Reference, Label, unlabelled, labelled, ElementHead, Leaf, epsilon, action, predicate, call}
+use Rattle.grammar.specs.Form.{newest}
+use Rattle.grammar.specs.Tree.{OptionDecl, Reference, Label, unlabelled, labelled, ElementHead, Call, Leaf, epsilon, action, predicate}
+use Rattle.grammar.specs.Tree.{call}
 use Rattle.grammar.specs.Tree.{token, terminal, end_of_input, Element, leaf, block, AlternativeOf, Block, RuleOf, Sheet}
 use Rattle.grammar.specs.Words.{words, bytes}
 use Rattle.grammar.specs.Encode.{encode}
@@ -34,11 +36,15 @@ head_words h kind =
 abbrev pub body_words : (id : ℕ) → List Reference → List ℕ
 body_words i rs = i ∷ length rs ∷ each reference_words rs
 
+-- A call has its precedence behind these two, if there is a place for it.
+abbrev pub call_words : Call → List ℕ
+call_words c = c.name ∷ c.arguments ∷ only newest.precedences c.precedence
+
 abbrev pub leaf_words : ElementHead → Leaf → List ℕ
 leaf_words h epsilon = head_words h 0 ++ []
 leaf_words h (action a) = head_words h 1 ++ body_words a.id a.references
 leaf_words h (predicate p) = head_words h 2 ++ body_words p.id p.references
-leaf_words h (call c) = head_words h 3 ++ (c.name ∷ c.arguments ∷ [])
+leaf_words h (call c) = head_words h 3 ++ call_words c
 leaf_words h (token n) = head_words h 4 ++ (n ∷ [])
 leaf_words h terminal = head_words h 5 ++ []
 leaf_words h end_of_input = head_words h 7 ++ []
@@ -97,11 +103,15 @@ GoodLabel (labelled i n) = Name n
 abbrev pub GoodHead : ElementHead → Type 0
 GoodHead h = (h.quantifier ≤ 6) × (GoodLabel h.label × AllOf Named h.options)
 
+-- A call has a name, and no precedence if there is no place for one.
+abbrev pub GoodCall : Call → Type 0
+GoodCall c = (newest.precedences ≡ false → c.precedence ≡ 0) × Name c.name
+
 abbrev pub GoodLeaf : Leaf → Type 0
 GoodLeaf epsilon = Unit {0}
 GoodLeaf (action a) = AllOf GoodReference a.references
 GoodLeaf (predicate p) = AllOf GoodReference p.references
-GoodLeaf (call c) = Name c.name
+GoodLeaf (call c) = GoodCall c
 GoodLeaf (token n) = Name n
 GoodLeaf terminal = Unit {0}
 GoodLeaf end_of_input = Unit {0}

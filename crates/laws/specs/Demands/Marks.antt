@@ -29,7 +29,7 @@ module _ (f r : ℕ → ℕ) where
       }
 
   abbrev pub on_call : Call → Call
-  on_call c = record { name = f c.name; arguments = c.arguments }
+  on_call c = record { name = f c.name; arguments = c.arguments; precedence = c.precedence }
 
   unfoldable pub on_leaf : Leaf → Leaf
   on_leaf epsilon = epsilon

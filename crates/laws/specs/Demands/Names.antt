@@ -2,9 +2,10 @@
 use Rattle.std.specs.Prelude.{ℕ, zero, suc, ◌≤◌, ◌≡◌, List, Bool, true, ◌&&◌, length, leb}
 use Rattle.grammar.specs.Numbers.{rule_limit, most_name, one_or_more_nongreedy, non_local, most_rule_flags, most_alternative_flag}
 use Rattle.grammar.specs.Lists.{all, rising}
+use Rattle.grammar.specs.Form.{newest}
 use Rattle.grammar.specs.Tree.{OptionDecl, Reference, Label, unlabelled, labelled, ElementHead, Leaf, epsilon, action, predicate, call}
 use Rattle.grammar.specs.Tree.{token, terminal, end_of_input, Element, leaf, block, AlternativeOf, Block, RuleOf, Rule, body_depth, Sheet}
-use Rattle.grammar.specs.Valid.{is_kind, valid}
+use Rattle.grammar.specs.Valid.{is_kind, has_place, valid}
 use Rattle.grammar.specs.Ids.{is_distinct, is_below}
 use Rattle.laws.specs.Demands.Marks.{names_in}
 
@@ -27,7 +28,7 @@ module _ (name : ℕ → Bool) where
   ok_leaf_by epsilon = true
   ok_leaf_by (action a) = all ok_reference_by a.references
   ok_leaf_by (predicate p) = all ok_reference_by p.references
-  ok_leaf_by (call c) = name c.name
+  ok_leaf_by (call c) = has_place newest c && name c.name
   ok_leaf_by (token n) = name n
   ok_leaf_by terminal = true
   ok_leaf_by end_of_input = true

@@ -1,10 +1,11 @@
 -- A sheet with other names and other carried numbers, told a second time, by its words: the sort of each word, record by record as
 -- SPECIFICATION 2.7 and 2.11 list them, and what becomes of a word of each sort (18). No definition here uses one of Marks.
-use Rattle.std.specs.Prelude.{ℕ, zero, suc, ◌≡◌, length}
+use Rattle.std.specs.Prelude.{ℕ, zero, suc, ◌≡◌, Bool, true, false, length}
 use mathlib.Core.List.{List, [], ◌∷◌, ◌++◌, map, flat_map, flatten, zip_with}
 use Rattle.grammar.specs.Tree.{OptionDecl, Reference, Label, unlabelled, labelled, ElementHead, Leaf, epsilon, action, predicate, call}
 use Rattle.grammar.specs.Tree.{token, terminal, end_of_input, Element, leaf, block, AlternativeOf, Block, RuleOf, Sheet, body_depth}
 use Rattle.grammar.specs.Encode.{encode}
+use Rattle.grammar.specs.Form.{newest}
 use Rattle.laws.specs.Demands.Marks.{on_sheet, names_in}
 
 -- A name, a carried number, or a word of any other sort.
@@ -28,12 +29,18 @@ label_sort (labelled i n) = name
 unfoldable pub head_sorts : ElementHead → List Sort
 head_sorts h = kept ∷ carried ∷ kept ∷ kept ∷ label_sort h.label ∷ kept ∷ flat_map option_sorts h.options
 
--- The payload: an id, a number of references and the references; a name and arguments; a name; or nothing.
+-- One word that is kept, where a test holds.
+abbrev pub kept_where : Bool → List Sort
+kept_where true = kept ∷ []
+kept_where false = []
+
+-- The payload: an id, a number of references and the references; a name, arguments and, if there is a place for it, a precedence; a
+-- name; or nothing.
 unfoldable pub leaf_sorts : Leaf → List Sort
 leaf_sorts epsilon = []
 leaf_sorts (action a) = kept ∷ kept ∷ flat_map reference_sorts a.references
 leaf_sorts (predicate p) = kept ∷ kept ∷ flat_map reference_sorts p.references
-leaf_sorts (call c) = name ∷ kept ∷ []
+leaf_sorts (call c) = name ∷ kept ∷ kept_where newest.precedences
 leaf_sorts (token n) = name ∷ []
 leaf_sorts terminal = []
 leaf_sorts end_of_input = []

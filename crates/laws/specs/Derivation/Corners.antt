@@ -13,7 +13,8 @@ use Rattle.grammar.specs.Lists.{all, distinct}
 use Rattle.grammar.specs.Tree.{ElementHead, Leaf, epsilon, action, predicate, call, token, terminal, end_of_input, Element, leaf, block}
 use Rattle.grammar.specs.Tree.{AlternativeOf, Block, RuleOf, Sheet, inner_depth}
 use Rattle.grammar.specs.Numbers.{most_alternative_flag}
-use Rattle.grammar.specs.Valid.{valid, ok_option, ok_head, ok_element, ok_alternative, ok_block}
+use Rattle.grammar.specs.Valid.{valid, ok_option, ok_head, ok_element, ok_alternative, ok_block, ok_alternative_in, ok_block_in}
+use Rattle.grammar.specs.Valid.{ok_element_in}
 use Rattle.grammar.specs.Laws.Parse.{either}
 use Rattle.grammar.specs.Corners.{Corners, rust, textbook}
 use Rattle.language.specs.Shape.{is_mark, Shape, alts, call_of, erase_leaf, erase_element, erase_elements, erase_block, Shapes, erase_rules}
@@ -150,7 +151,7 @@ module _ (d : ℕ) (rs : List (RuleOf (Block (suc d)))) (names : distinct (map (
         → Corner c G (erase_block k b) n → CornerTold d rs c n k (block h b ∷ es)) where
       found_at : (e : Element (Block k)) (es : List (Element (Block k))) {n : ℕ} → ok_element (ok_block k) e ≡ true
           → Corner c G (erase_element (erase_block k) e) n → CornerTold d rs c n k (e ∷ es)
-      unfolding erase_element ok_element
+      unfolding erase_element ok_element_in
       found_at (leaf h l) es t x = at_leaf h l es ((corner_quantified h.quantifier (erase_leaf h.carried l)).0 x)
       found_at (block h b) es {n} t x =
           inner h b es n (second_so (ok_head h) (ok_block k b) t) ((corner_quantified h.quantifier (erase_block k b)).0 x)
@@ -166,7 +167,7 @@ module _ (d : ℕ) (rs : List (RuleOf (Block (suc d)))) (names : distinct (map (
 
     in_block : (k : ℕ) (h : ElementHead) (b : Block k) (es : List (Element (Block k))) (n : ℕ) → ok_block k b ≡ true
         → Corner c G (erase_block k b) n → CornerTold d rs c n k (block h b ∷ es)
-    unfolding erase_block ok_block ok_alternative
+    unfolding erase_block ok_block_in ok_alternative_in
     in_block zero h b es n t x = absurd b
     in_block (suc k) h b es n t x =
         let (a, m, y) = alternative_of (λ a. erase_elements (erase_block k) a.elements) b x in
@@ -206,7 +207,7 @@ module _ (d : ℕ) (rs : List (RuleOf (Block (suc d)))) (names : distinct (map (
 
     leads_told : {r : RuleOf (Block (suc d))} (m : Memᴰ r rs) {n k : ℕ} → r.name ≡ n → Leads c G n k
         → (a : AlternativeOf (Block d)) × Memᴰ a r.body × CornerTold d rs c k d a.elements
-    unfolding erase_block ok_block ok_alternative
+    unfolding erase_block ok_block_in ok_alternative_in
     leads_told {r} m {n} {k} e x =
         let b = erase_block (suc d) r.body in
         let same : x.body ≡ b =

@@ -10,7 +10,8 @@ use Rattle.grammar.specs.Lists.{all, distinct}
 use Rattle.grammar.specs.Tree.{ElementHead, Action, Predicate, Call, Element, leaf, block, epsilon, action, predicate, call, token}
 use Rattle.grammar.specs.Tree.{terminal, end_of_input, AlternativeOf, Block, RuleOf, Leaf}
 use Rattle.grammar.specs.Numbers.{most_alternative_flag}
-use Rattle.grammar.specs.Valid.{ok_option, ok_head, ok_leaf, ok_element, ok_alternative, ok_block}
+use Rattle.grammar.specs.Valid.{ok_option, ok_head, ok_leaf, ok_element, ok_alternative, ok_block, ok_alternative_in, ok_block_in}
+use Rattle.grammar.specs.Valid.{ok_element_in}
 use Rattle.language.specs.Shape.{Symbol, token_symbol, other_symbol, unknown_symbol, end_symbol, Word, Shape, eps, fail, symbol, call_of}
 use Rattle.language.specs.Shape.{seq}
 use Rattle.language.specs.Shape.{alt, opt, star, plus, alts, quantified, erase_leaf, erase_element, erase_elements, erase_block, find}
@@ -97,7 +98,7 @@ module _ (k : ℕ) (block_is : (h : ElementHead) (b : Block k) → ok_block k b 
   head_six h t = leb-true h.quantifier 6 (first_so _ _ t)
 
   element_is : (e : Element (Block k)) → ok_element (ok_block k) e ≡ true → Is (erase_element (erase_block k) e) (part (element k e))
-  unfolding ok_element erase_element
+  unfolding ok_element_in erase_element
   element_is (leaf h l) t = counted_is (leaf h l) _ (head_six h (first_so _ (ok_leaf l) t)) (leaf_is h l)
   element_is (block h b) t =
       counted_is (block h b) _ (head_six h (first_so _ (ok_block k b) t)) (block_is h b (second_so (ok_head h) _ t))
@@ -112,7 +113,7 @@ module _ (k : ℕ) (block_is : (h : ElementHead) (b : Block k) → ok_block k b 
 
   alternatives_are : (as' : List (AlternativeOf (Block k))) → all (ok_alternative (ok_block k)) as' ≡ true
       → Is (alts (map (λ a. erase_elements (erase_block k) a.elements) as')) (part (choice k as'))
-  unfolding all ok_alternative
+  unfolding all ok_alternative_in
   alternatives_are [] t = is_none
   alternatives_are (a ∷ as') t =
       let own = first_so (ok_alternative (ok_block k) a) (all (ok_alternative (ok_block k)) as') t in
@@ -122,12 +123,12 @@ module _ (k : ℕ) (block_is : (h : ElementHead) (b : Block k) → ok_block k b 
       (alternatives_are as' (second_so (ok_alternative (ok_block k) a) _ t))
 
 block_is_lem : (k : ℕ) (h : ElementHead) (b : Block k) → ok_block k b ≡ true → Is (erase_block k b) (part (once k (block h b)))
-unfolding ok_block erase_block
+unfolding ok_block_in erase_block
 block_is_lem zero h b t = absurd b
 block_is_lem (suc k) h b t = is_block (alternatives_are k (block_is_lem k) b t)
 
 choice_is : (k : ℕ) (b : Block (suc k)) → ok_block (suc k) b ≡ true → Is (erase_block (suc k) b) (part (choice k b))
-unfolding ok_block erase_block
+unfolding ok_block_in erase_block
 choice_is k b t = alternatives_are k (block_is_lem k) b t
 
 module _ (d : ℕ) (rs : List (RuleOf (Block (suc d)))) (names : distinct (map (λ r. r.name) rs) ≡ true)

@@ -3,6 +3,7 @@ use Rattle.std.specs.Prelude.{ℕ, suc, ◌≡◌, ◌⊎◌, refl, true, leb}
 use Rattle.std.proofs.Common.{sym, ap, subst, inl, inr}
 use Rattle.std.specs.Cmp.{second_so}
 use mathlib.Core.List.{List, map, Memᴰ}
+use Rattle.grammar.specs.Form.{newest}
 use Rattle.grammar.specs.Lists.{distinct}
 use Rattle.grammar.specs.Numbers.{most_rule_flags}
 use Rattle.grammar.specs.Read.{is_name}
@@ -105,7 +106,7 @@ unfolding ok_rule
 good_body r t = second_so (leb r.flags most_rule_flags) _ (second_so (is_name r.name) _ t)
 
 pub good_rules : (s : Sheet) → valid s ≡ true → (r : Rule) → Memᴰ r s.rules → ok_block body_depth r.body ≡ true
-good_rules s v r m = good_body r (all_in (ok_rule (ok_block body_depth)) (valid_parts s v).rules m)
+good_rules s v r m = good_body r (all_in (ok_rule (ok_block body_depth)) (valid_parts newest s v).rules m)
 
 pub sheet_derives : (s : Sheet) → valid s ≡ true → DerivesTold inner_depth s.rules
 sheet_derives s v =

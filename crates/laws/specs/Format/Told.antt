@@ -1,22 +1,27 @@
 -- The two wordings of the format agree.
-use Rattle.std.specs.Prelude.{ℕ, zero, suc, ◌+◌, ◌*◌, ◌≤◌, ◌≡◌, refl, ◌↔◌, List, [], ◌∷◌, ◌++◌, map, Bool, true, ◌&&◌, length, leb, eqb}
-use Rattle.std.proofs.Common.{sym, ap, ap₂, subst, arith, leb-true, le-leb}
+use Rattle.std.specs.Prelude.{ℕ, zero, suc, ◌+◌, ◌*◌, ◌≤◌, ◌≡◌, refl, ◌↔◌, List, [], ◌∷◌, ◌++◌, map, Bool, true, false, ◌&&◌, ◌||◌, length}
+use Rattle.std.specs.Prelude.{leb, eqb}
+use Rattle.std.proofs.Common.{sym, ap, ap₂, subst, true≢false, arith, leb-true, le-leb, eqb-true, eq-eqb}
 use Rattle.std.proofs.lemmas.Bool.{and_from}
 use Rattle.std.specs.Cmp.{first_so, second_so}
+use Rattle.grammar.specs.Form.{newest}
 use Rattle.grammar.specs.Lists.{each, only, all, AllOf, distinct, below}
 use Rattle.grammar.specs.Ids.{block_ids, body_ids, is_distinct, is_below}
 use Rattle.grammar.specs.Words.{words}
 use Rattle.grammar.specs.Tree.{Reference, Label, unlabelled, labelled, ElementHead, Leaf, epsilon, action, predicate, call, token, terminal}
 use Rattle.grammar.specs.Tree.{end_of_input, OptionDecl, Element, leaf, block, AlternativeOf, Block, Rule, Sheet, body_depth, Counters}
 use Rattle.grammar.specs.Encode.{encode_head, leaf_kind, encode_leaf, encode_element, encode_alternative, encode_rule, encode_block, encode}
-use Rattle.grammar.specs.Valid.{ok_option, ok_reference, ok_label, ok_head, ok_leaf, ok_element, ok_alternative, ok_rule, ok_block, is_kind}
+use Rattle.grammar.specs.Encode.{encode_alternative_in, encode_block_in, encode_element_in, encode_in, encode_leaf_in}
+use Rattle.grammar.specs.Valid.{has_place, ok_option, ok_reference, ok_label, ok_head, ok_leaf, ok_element, ok_alternative, ok_rule}
+use Rattle.grammar.specs.Valid.{ok_block, is_kind, ok_alternative_in, ok_block_in, ok_element_in, ok_leaf_in}
 use Rattle.grammar.specs.Valid.{valid}
 use Rattle.grammar.specs.Read.{is_name}
 use Rattle.grammar.specs.Reading.{sheet, read}
 use Rattle.grammar.specs.Laws.Words.{bytes_words}
 use Rattle.grammar.specs.Laws.Whole.{valid_parts, parts_valid}
 use Rattle.grammar.specs.Laws.Codec.{reads_back_lem, is_encoding, accepted_valid}
-use Rattle.laws.specs.Demands.Format.{option_words, head_words, body_words, leaf_words, element_words, alternative_words, block_words}
+use Rattle.laws.specs.Demands.Format.{option_words, head_words, body_words, call_words, leaf_words, element_words, alternative_words}
+use Rattle.laws.specs.Demands.Format.{block_words}
 use Rattle.laws.specs.Demands.Format.{rule_words, sheet_words, Name, Named, GoodReference, GoodLabel, GoodHead, GoodLeaf, GoodElement}
 use Rattle.laws.specs.Demands.Format.{GoodAlternative, GoodBlock, GoodRule, ids_of, GoodSheet, FormatTold}
 use Rattle.laws.specs.Demands.Lists.{NoTwo, Low}
@@ -38,30 +43,30 @@ head_words_lem : (h : ElementHead) (kind : ℕ) → encode_head h kind ≡ head_
 head_words_lem h kind = label_words h kind h.label refl
 
 leaf_words_lem : (h : ElementHead) (l : Leaf) → encode_head h (leaf_kind l) ++ encode_leaf l ≡ leaf_words h l
-unfolding leaf_kind encode_leaf
+unfolding leaf_kind encode_leaf_in
 leaf_words_lem h epsilon = ap (λ ws. ws ++ []) (head_words_lem h 0)
 leaf_words_lem h (action a) = ap (λ ws. ws ++ body_words a.id a.references) (head_words_lem h 1)
 leaf_words_lem h (predicate p) = ap (λ ws. ws ++ body_words p.id p.references) (head_words_lem h 2)
-leaf_words_lem h (call c) = ap (λ ws. ws ++ (c.name ∷ c.arguments ∷ [])) (head_words_lem h 3)
+leaf_words_lem h (call c) = ap (λ ws. ws ++ call_words c) (head_words_lem h 3)
 leaf_words_lem h (token n) = ap (λ ws. ws ++ (n ∷ [])) (head_words_lem h 4)
 leaf_words_lem h terminal = ap (λ ws. ws ++ []) (head_words_lem h 5)
 leaf_words_lem h end_of_input = ap (λ ws. ws ++ []) (head_words_lem h 7)
 
 element_words_lem : {B : Type 0} (f g : B → List ℕ) → ((b : B) → f b ≡ g b) → (e : Element B) → encode_element f e ≡ element_words g e
-unfolding encode_element
+unfolding encode_element_in
 element_words_lem f g s (leaf h l) = leaf_words_lem h l
 element_words_lem f g s (block h b) = ap₂ ◌++◌ (head_words_lem h 6) (s b)
 
 alternative_words_lem : {B : Type 0} (f g : B → List ℕ) → ((b : B) → f b ≡ g b) → (a : AlternativeOf B)
     → encode_alternative f a ≡ alternative_words g a
-unfolding encode_alternative
+unfolding encode_alternative_in
 alternative_words_lem f g s a =
     ap (λ ws.
     a.id ∷ a.carried ∷ a.flag ∷ length a.options ∷ length a.elements ∷ (each option_words a.options ++ ws))
     (each_same (encode_element f) (element_words g) (element_words_lem f g s) a.elements)
 
 block_words_lem : (d : ℕ) (b : Block d) → encode_block d b ≡ block_words d b
-unfolding encode_block block_words
+unfolding encode_block_in block_words
 block_words_lem zero b = absurd b
 block_words_lem (suc d) as' =
     ap (λ ws. length as' ∷ ws)
@@ -73,7 +78,7 @@ unfolding encode_rule
 rule_words_lem r = ap (λ ws. r.id ∷ r.name ∷ r.flags ∷ ws) (block_words_lem body_depth r.body)
 
 sheet_words_lem : (s : Sheet) → encode s ≡ sheet_words s
-unfolding encode
+unfolding encode_in
 sheet_words_lem s =
     ap (λ ws.
     (ws ++ s.preserved)
@@ -126,31 +131,36 @@ head_says h =
     both_say (leb h.quantifier 6) _ (at_most h.quantifier 6)
     (both_say (ok_label h.label) (all ok_option h.options) (label_says h.label) (all_say ok_option Named option_says h.options))
 
+-- A number is 0 unless there is a place for it.
+place_says : (b : Bool) (n : ℕ) → Says (b || eqb n 0) (b ≡ false → n ≡ 0)
+place_says true n = (λ e f. absurd (true≢false f), λ h. refl)
+place_says false n = (λ e f. eqb-true n 0 e, λ h. eq-eqb n 0 (h refl))
+
 leaf_says : (l : Leaf) → Says (ok_leaf l) (GoodLeaf l)
-unfolding ok_leaf
+unfolding ok_leaf_in
 leaf_says epsilon = always
 leaf_says (action a) = all_say ok_reference GoodReference reference_says a.references
 leaf_says (predicate p) = all_say ok_reference GoodReference reference_says p.references
-leaf_says (call c) = name_says c.name
+leaf_says (call c) = both_say (has_place newest c) (is_name c.name) (place_says newest.precedences c.precedence) (name_says c.name)
 leaf_says (token n) = name_says n
 leaf_says terminal = always
 leaf_says end_of_input = always
 
 module _ {B : Type 0} (ok : B → Bool) (Good : B → Type 0) (says : (b : B) → Says (ok b) (Good b)) where
   element_says : (e : Element B) → Says (ok_element ok e) (GoodElement Good e)
-  unfolding ok_element
+  unfolding ok_element_in
   element_says (leaf h l) = both_say (ok_head h) (ok_leaf l) (head_says h) (leaf_says l)
   element_says (block h b) = both_say (ok_head h) (ok b) (head_says h) (says b)
 
   alternative_says : (a : AlternativeOf B) → Says (ok_alternative ok a) (GoodAlternative Good a)
-  unfolding ok_alternative
+  unfolding ok_alternative_in
   alternative_says a =
       both_say (leb a.flag 1) _ (at_most a.flag 1)
       (both_say (all ok_option a.options) (all (ok_element ok) a.elements) (all_say ok_option Named option_says a.options)
       (all_say (ok_element ok) (GoodElement Good) element_says a.elements))
 
 block_says : (d : ℕ) (b : Block d) → Says (ok_block d b) (GoodBlock d b)
-unfolding ok_block GoodBlock
+unfolding ok_block_in GoodBlock
 block_says zero b = absurd b
 block_says (suc d) as' =
     all_say (ok_alternative (ok_block d)) (GoodAlternative (GoodBlock d)) (alternative_says (ok_block d) (GoodBlock d) (block_says d)) as'
@@ -205,7 +215,7 @@ sheet_good s =
     let apart = apart_says s.rules in
     let low = low_says s.counters s.rules in (
       λ v.
-          let p = valid_parts s v in
+          let p = valid_parts newest s v in
           let (ids, (names, (a, (e, (l, (c, q)))))) = apart.0 p.distinct in
           let (a', (e', (l', (c', q')))) = low.0 p.below in
           record {
@@ -222,7 +232,7 @@ sheet_good s =
             predicate_ids = (q, q');
           },
       λ g.
-          parts_valid s
+          parts_valid newest s
           (record {
             kind = (kind_says s.kind).1 g.kind;
             few = few.1 g.few;
@@ -260,7 +270,7 @@ format_told_lem =
       of_sheet = sheet_words_lem;
       good = sheet_good;
       reading = λ bs b s. (
-        λ e. let v = accepted_valid bs b s e in (v.0, v.1, is_encoding bs b s e),
-        λ x. subst (λ bs. read bs ≡ sheet s) x.2 (reads_back_lem s x.0 x.1),
+        λ e. let v = accepted_valid newest bs b s e in (v.0, v.1, is_encoding newest bs b s e),
+        λ x. subst (λ bs. read bs ≡ sheet s) x.2 (reads_back_lem newest s x.0 x.1),
       );
     }

@@ -2,6 +2,7 @@
 use Rattle.std.specs.Prelude.{ℕ, ◌<◌, List, get_or}
 use Rattle.std.proofs.Math.Path.{◌≡◌, refl, subst₂}
 use Rattle.std.proofs.Common.{arith}
+use Rattle.grammar.specs.Form.{newest}
 use Rattle.grammar.specs.Tree.{Sheet}
 use Rattle.grammar.specs.Encode.{encode}
 use Rattle.grammar.specs.Lists.{each}
@@ -30,7 +31,7 @@ module _ (limits : Limits) (corners : Corners) (bs : List ℕ) (b : (i : ℕ) �
           → Answered limits corners bs plans steps result trail
       running s k (stopped ts n) u f = absurd (let z : ◌≡◌ {A = ℕ} 0 1 = cc in omega arith)
       running s k (ended ts) u f =
-          let (v, fit) = accepted_valid bs b s k in
+          let (v, fit) = accepted_valid newest bs b s k in
           let told = valid_told s v in
           let result_is : encode (sheet_after s ts) ≡ result = cc in
           let trail_is_lem : each encode_entry (entries_of ts) ≡ trail = cc in

@@ -4,9 +4,10 @@ use Rattle.std.proofs.Math.Path.{refl, sym, ap}
 use Rattle.std.proofs.Common.{ap₂, ◌∙◌, subst, ⊎_elim, arith}
 use mathlib.Core.List.{List, []}
 use Rattle.std.proofs.Math.ListN.{take}
+use Rattle.grammar.specs.Form.{newest}
 use Rattle.grammar.specs.Tree.{Rule, Sheet}
 use Rattle.grammar.specs.Words.{words, bytes}
-use Rattle.grammar.specs.Reading.{sheet, read, read_words, judge}
+use Rattle.grammar.specs.Reading.{sheet, read, judge, read_in, read_words_in}
 use Rattle.grammar.specs.Corners.{Corners, rust, textbook}
 use Rattle.grammar.specs.Laws.Words.{AreBytes, words_bytes, in_words}
 use Rattle.grammar.specs.Laws.Codec.{accepted_valid}
@@ -65,10 +66,10 @@ nothing_else bs result trail work =
 
 -- What passes the reader's tests is read.
 passes_reads : (bs : List ℕ) (s : Sheet) → GoodLength bs → Passes (words bs) s → read bs ≡ sheet s
-unfolding read read_words judge
+unfolding read_in read_words_in judge
 passes_reads bs s g p =
-    rw (length_good bs g, read)
-    (rw (p.trailer, read_words) (rw (p.records, judge) (rw (p.distinct_ids, p.low_ids) (ap sheet p.is_sheet))))
+    rw (length_good bs g, read_in)
+    (rw (p.trailer, read_words_in) (rw (p.records, judge) (rw (p.distinct_ids, p.low_ids) (ap sheet p.is_sheet))))
 
 fails_number : {ws : List ℕ} {n : ℕ} → Fails ws n → 1 ≤ n
 fails_number (trailer t) = omega arith
@@ -105,13 +106,13 @@ module _ (limits : Limits) (bs : List ℕ) (b : AreBytes bs) (result trail work 
     ts = x.stages
 
     abbrev told : Told s.rules
-    told = valid_told s (accepted_valid bs b s x.reads).0
+    told = valid_told s (accepted_valid newest bs b s x.reads).0
 
     -- What stands in the trail are the words of the entries.
     trail_read : words (take o.trail_length o.trail) ≡ each encode_entry (entries_of ts)
     trail_read =
         let d = x.is_delivered in
-        let (v, f) = accepted_valid bs b s x.reads in
+        let (v, f) = accepted_valid newest bs b s x.reads in
         let same = trail_words_lem ts in
         let lengths = ap length same in
         let entries = entries_length limits c (entries_of ts) in
@@ -125,7 +126,7 @@ module _ (limits : Limits) (bs : List ℕ) (b : AreBytes bs) (result trail work 
     came_again : OwnResult limits c o
     came_again r t w l =
         let d = x.is_delivered in
-        let (v, f) = accepted_valid bs b s x.reads in
+        let (v, f) = accepted_valid newest bs b s x.reads in
         subst (λ bs. outcome limits c bs r t w ≡ same_bytes bs r t w)
         (sym (ap (λ n. take n o.result) d.result_length ∙ d.result_holds.front))
         (again limits c s v f ts x.run r t w (lent_are r t w l) ∙ nothing_else (bytes (encode (sheet_after s ts))) r t w)
@@ -134,7 +135,7 @@ module _ (limits : Limits) (bs : List ℕ) (b : AreBytes bs) (result trail work 
     unfolding steps_of
     came_kept Without demand =
         let d = x.is_delivered in
-        let (v, f) = accepted_valid bs b s x.reads in
+        let (v, f) = accepted_valid newest bs b s x.reads in
         record {
           before = s;
           reads = x.reads;
@@ -167,7 +168,7 @@ module _ (limits : Limits) (bs : List ℕ) (b : AreBytes bs) (result trail work 
       record {
         kept = k;
         later_cycles =
-            later_rust_lem limits k.before (valid_told k.before (accepted_valid bs b k.before k.reads).0) k.stages k.run;
+            later_rust_lem limits k.before (valid_told k.before (accepted_valid newest bs b k.before k.reads).0) k.stages k.run;
       }
 
   kept_rust : Came rust → KeptRust limits bs o
@@ -181,7 +182,7 @@ module _ (limits : Limits) (bs : List ℕ) (b : AreBytes bs) (result trail work 
         handed_in = x.handed_in;
         reads = x.reads;
         stages = x.stages;
-        run = sym (sheet_same limits x.handed_in (accepted_valid bs b x.handed_in x.reads).0 (p x.handed_in x.reads)) ∙ x.run;
+        run = sym (sheet_same limits x.handed_in (accepted_valid newest bs b x.handed_in x.reads).0 (p x.handed_in x.reads)) ∙ x.run;
         is_delivered = x.is_delivered;
       }
 

@@ -5,6 +5,7 @@ use mathlib.Core.List.Memᴰ
 use mathlib.Core.List.{List, [], ◌∷◌, append-nil, Memᴰ}
 use Rattle.std.proofs.Math.Option.{some}
 use Rattle.std.proofs.lemmas.List.{length-replicate}
+use Rattle.grammar.specs.Form.{newest}
 use Rattle.grammar.specs.Lists.{AllOf, each, member}
 use Rattle.grammar.specs.Numbers.{lexer, parser, once, result_bytes, trail_bytes, work_bytes}
 use Rattle.grammar.specs.Tree.{unlabelled, Rule, body_depth, Sheet}
@@ -73,7 +74,7 @@ abbrev returning_bytes : List ℕ
 returning_bytes = bytes (encode returning)
 
 reads_returning : read returning_bytes ≡ sheet returning
-reads_returning = reads_back_lem returning valid_returning fits_returning
+reads_returning = reads_back_lem newest returning valid_returning fits_returning
 
 -- No end of input stands in its rules, and no other sheet stands in its bytes.
 ends_nowhere : AllOf (λ r. OnBlock NotEnd body_depth r.body) returning.rules
@@ -101,7 +102,7 @@ unfolding computed
 valid_bare = (refl, refl)
 
 reads_bare : read (bytes (encode bare)) ≡ sheet bare
-reads_bare = reads_back_lem bare valid_bare.0 valid_bare.1
+reads_bare = reads_back_lem newest bare valid_bare.0 valid_bare.1
 
 no_optional : NoOptionalSymbol []
 no_optional = record { everywhere = λ r m. absurd (Memᴰ.not-nil m) }
@@ -228,7 +229,7 @@ met =
         1,
         [],
         record { id = 0; carried = 0; quantifier = once; label = unlabelled; options = [] },
-        record { name = 1; arguments = 0 },
+        record { name = 1; arguments = 0; precedence = 0 },
         tt,
         hub_known,
         refl,

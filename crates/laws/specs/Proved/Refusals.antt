@@ -3,6 +3,7 @@ use Rattle.std.specs.Prelude.{ℕ, suc, ◌<◌, ◌+◌, List, [], ◌∷◌, �
 use Rattle.std.proofs.Math.Path.{◌≡◌, refl, subst}
 use Rattle.std.proofs.Common.{ap, ◌∙◌, zero-add, arith}
 use Rattle.std.proofs.Math.Logic.{⊎_map}
+use Rattle.grammar.specs.Form.{newest}
 use Rattle.grammar.specs.Tree.{Rule, Sheet, body_depth}
 use Rattle.grammar.specs.Encode.{encode}
 use Rattle.grammar.specs.Reading.{Reading, refused, sheet, read}
@@ -102,7 +103,7 @@ module _ (limits : Limits) (corners : Corners) (bs : List ℕ) (b : (i : ℕ) �
           → answer_run s r ≡ refusal n → RefusedSo limits corners bs n
       running s k (ended ts) u f = absurd (let z : ◌≡◌ {A = ℕ} 0 1 = cc in omega arith)
       running s k (stopped ts m) u f =
-          let told = valid_told s (accepted_valid bs b s k).0 in
+          let told = valid_told s (accepted_valid newest bs b s k).0 in
           let same : m ≡ n = cc in
           let (parser, x) = sheet_stops limits corners s ts m u in
           subst (RefusedSo limits corners bs) same

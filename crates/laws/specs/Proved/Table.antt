@@ -8,6 +8,7 @@ use Rattle.std.proofs.Math.Dec.{leb}
 use Rattle.std.proofs.lemmas.Bool.{and_from}
 use Rattle.std.specs.Cmp.{first_so, second_so}
 use borrow.Author.Tests.{leb-true, le-leb, eqb-true, eq-eqb}
+use Rattle.grammar.specs.Form.{newest}
 use Rattle.grammar.specs.Lists.{each, total}
 use Rattle.grammar.specs.Tree.{Rule, Sheet, Counters}
 use Rattle.grammar.specs.Words.{words, bytes}
@@ -15,6 +16,7 @@ use Rattle.grammar.specs.Encode.{encode}
 use Rattle.grammar.specs.Ids.{is_distinct, is_below}
 use Rattle.grammar.specs.Parse.{Got, got, bad}
 use Rattle.grammar.specs.Reading.{Reading, refused, sheet, is_length, is_trailer, rules_of, counters_of, sheet_of, judge, read_words, read}
+use Rattle.grammar.specs.Reading.{read_in, read_words_in}
 use Rattle.grammar.specs.Corners.{Corners}
 use Rattle.grammar.specs.Laws.Lists.{each_append}
 use Rattle.grammar.specs.Laws.Words.{length_words, length_bytes}
@@ -72,7 +74,7 @@ Judged ws (refused n) = Fails ws n
 Judged ws (sheet s) = Passes ws s
 
 judged : (ws : List ℕ) → Judged ws (read_words ws)
-unfolding read_words judge
+unfolding read_words_in judge
 judged ws = whole (is_trailer ws) refl
   where
     low : is_trailer ws ≡ true → (rs : List Rule) (q : ℕ) → rules_of ws ≡ got rs q → is_distinct rs ≡ true → (b : Bool)
@@ -151,7 +153,7 @@ module _ (limits : Limits) (corners : Corners) (bs result trail work : List ℕ)
       (u : eliminate_mutual_left_recursion limits corners s ≡ ended ts) where
     pub result_fits : 4 * length (encode (sheet_after s ts)) ≤ length result
     result_fits =
-        let e = ap length (is_encoding_words bs s k) in
+        let e = ap length (is_encoding_words newest bs s k) in
         let n = length_words bs in
         let short : length (encode s) ≤ most_words = omega (arith, g.most) in
         let h = stages_words limits corners s.kind s.preserved (sheet_ends limits corners s ts u).0 short in
@@ -198,8 +200,8 @@ module _ (limits : Limits) (corners : Corners) (bs result trail work : List ℕ)
   reading g l (sheet s) k p = running g l s k p (eliminate_mutual_left_recursion limits corners s) refl
 
   read_judged : is_length (length bs) ≡ true → Judged (words bs) (read bs)
-  unfolding read
-  read_judged t = rw (t, read) (judged (words bs))
+  unfolding read_in
+  read_judged t = rw (t, read_in) (judged (words bs))
 
   pub table : Row limits corners bs result trail work (outcome limits corners bs result trail work)
   unfolding outcome untouched answer_to

@@ -6,9 +6,10 @@ use Rattle.std.proofs.Math.Nat.{max-le, suc-mul}
 use Rattle.std.specs.Cmp.{first_so}
 use native.Mathlib.Omega.{arith}
 use Rattle.grammar.specs.Tree.{AlternativeOf, Counters, Rule, body_depth, Sheet}
-use Rattle.grammar.specs.Encode.{encode_alternative, encode_rule, encode_block, encode_rules, encode}
+use Rattle.grammar.specs.Encode.{encode_alternative, encode_rule, encode_block, encode_rules, encode, encode_alternative_in}
+use Rattle.grammar.specs.Encode.{encode_block_in, encode_in}
 use Rattle.grammar.specs.Lists.{each, keep, member, push, total}
-use Rattle.grammar.specs.Valid.{fits}
+use Rattle.grammar.specs.Valid.{fits, fits_in}
 use Rattle.grammar.specs.Corners.{Corners}
 use Rattle.grammar.specs.Numbers.{most_words}
 use Rattle.reference.specs.Analysis.{grammar_of}
@@ -40,7 +41,7 @@ total_keep test f (r ∷ rs) = go (test r) (total_keep test f rs)
 -- The words of outermost alternatives.
 alternatives_words : {B : Type 0} (enc : B → List ℕ) (as' : List (AlternativeOf B))
     → 5 * length as' ≤ length (each (encode_alternative enc) as')
-unfolding encode_alternative
+unfolding encode_alternative_in
 alternatives_words enc [] = omega arith
 alternatives_words enc (a ∷ as') =
     let h = alternatives_words enc as' in
@@ -48,7 +49,7 @@ alternatives_words enc (a ∷ as') =
     omega arith
 
 rules_words : (rs : List Rule) → 5 * total (map (λ r. length r.body) rs) ≤ length (encode_rules rs)
-unfolding total encode_rule encode_block
+unfolding total encode_rule encode_block_in
 rules_words [] = omega arith
 rules_words (r ∷ rs) =
     let h = rules_words rs in
@@ -57,12 +58,12 @@ rules_words (r ∷ rs) =
     omega arith
 
 encode_rules_lem : (s : Sheet) → length (encode_rules s.rules) ≤ length (encode s)
-unfolding encode
+unfolding encode_in
 encode_rules_lem s = simp length-append (omega arith)
 
 -- So a sheet that fits has few of them.
 sheet_bodies : (s : Sheet) → fits s ≡ true → total (map (λ r. length r.body) s.rules) ≤ most_bodies
-unfolding fits
+unfolding fits_in
 sheet_bodies s f =
     let short = leb-true (length (encode s)) most_words (first_so (leb (length (encode s)) most_words) _ f) in
     let h = rules_words s.rules in

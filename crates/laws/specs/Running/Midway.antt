@@ -8,11 +8,12 @@ use native.Mathlib.Omega.{arith}
 use Rattle.std.proofs.Math.ListN.{length}
 use Rattle.std.specs.Cmp.{first_so}
 use borrow.Author.Tests.{leb-true, eq-eqb}
+use Rattle.grammar.specs.Form.{newest}
 use Rattle.grammar.specs.Tree.{body_depth, Sheet}
 use Rattle.grammar.specs.Encode.{encode}
 use Rattle.grammar.specs.Ids.{rule_ids, rule_names}
 use Rattle.grammar.specs.Lists.{distinct, member}
-use Rattle.grammar.specs.Valid.{rule_limit, valid, fits}
+use Rattle.grammar.specs.Valid.{rule_limit, valid, fits, fits_in}
 use Rattle.grammar.specs.Corners.{Corners}
 use Rattle.grammar.specs.Laws.Whole.{valid_parts}
 use Rattle.grammar.specs.Numbers.{most_words, word_end, parser, plan_too_large}
@@ -88,7 +89,7 @@ module _ (limits : Limits) (corners : Corners) (s : Sheet) where
     told = valid_told s m.is_valid
 
     pub midway_so_far : SoFar stages now
-    unfolding fits
+    unfolding fits_in
     midway_so_far =
         let good = good_of s m.is_valid m.is_fitting in
         let g = subst Good m.is_now (stages_good limits corners s.kind s.preserved m.happened good) in
@@ -201,7 +202,7 @@ module _ (limits : Limits) (corners : Corners) (s : Sheet) where
     pub steps_fit : limits.budget_floor ≤ 2 ^ 24 → steps_of stages < word_end
     steps_fit l =
         let known = midway_so_far in
-        let parts = leb-true (length s.rules) rule_limit (valid_parts s m.is_valid).few in
+        let parts = leb-true (length s.rules) rule_limit (valid_parts newest s m.is_valid).few in
         let plans : length stages ≤ rule_limit = le_trans known.plans parts in
         let each : most_steps limits ≤ most_bodies * most_bodies + 2 ^ 24 = omega arith in
         let all = le_trans known.steps (mul-le-mul plans each) in

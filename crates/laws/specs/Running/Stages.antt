@@ -9,6 +9,7 @@ use mathlib.Core.List.{List, [], ◌∷◌, ◌++◌, append-nil, append_assoc, 
 use Rattle.std.proofs.Math.ListN.{length, length-append}
 use Rattle.std.proofs.lemmas.Bool.{eqb-false}
 use Rattle.std.specs.Cmp.{first_so, second_so}
+use Rattle.grammar.specs.Form.{newest}
 use Rattle.grammar.specs.Tree.{Rule, body_depth, Counters, Sheet}
 use Rattle.grammar.specs.Ids.{rule_ids, rule_names, is_distinct}
 use Rattle.grammar.specs.Lists.{distinct, total}
@@ -95,7 +96,7 @@ distinct_told rs t =
     }
 
 pub valid_told : (s : Sheet) → valid s ≡ true → Told s.rules
-valid_told s v = distinct_told s.rules (valid_parts s v).distinct
+valid_told s v = distinct_told s.rules (valid_parts newest s v).distinct
 
 -- A grammar with its names and nullable rules.
 pub known : (rs : List Rule) → Told rs → Known body_depth rs (grammar_of body_depth rs)

@@ -10,6 +10,7 @@ use Rattle.grammar.specs.Lists.{AllOf, all, each}
 use Rattle.grammar.specs.Read.{is_name}
 use Rattle.grammar.specs.Numbers.{word_end, most_name, block_kind}
 use Rattle.grammar.specs.Encode.{encode_option, encode_reference, label_id, label_name, encode_head, leaf_kind, encode_leaf, encode_element}
+use Rattle.grammar.specs.Encode.{encode_alternative_in, encode_block_in, encode_element_in, encode_leaf_in}
 use Rattle.grammar.specs.Encode.{encode_alternative, encode_rule, encode_block}
 use Rattle.grammar.specs.Tree.{OptionDecl, Reference, Label, unlabelled, labelled, ElementHead, Leaf, epsilon, action, predicate, call}
 use Rattle.grammar.specs.Tree.{token, terminal, end_of_input, Element, leaf, block, AlternativeOf, Block, Rule, body_depth}
@@ -103,7 +104,7 @@ module _ (f r : ℕ → ℕ) (words : (n : ℕ) → W n ≡ true → W (r n) ≡
   kind_same end_of_input = refl
 
   leaf_words_lem : (l : Leaf) → AllOf (Good f r) (names_of_leaf l) → Wordy (encode_leaf l) → Wordy (encode_leaf (on_leaf f r l))
-  unfolding encode_leaf on_leaf names_of_leaf
+  unfolding encode_leaf_in on_leaf names_of_leaf
   leaf_words_lem epsilon h = λ t. t
   leaf_words_lem (action a) h =
       more a.id a.id _ _ (λ t. t) (more (length a.references) (length (map (on_reference f r) a.references)) _ _
@@ -129,7 +130,7 @@ module _ (f r : ℕ → ℕ) (words : (n : ℕ) → W n ≡ true → W (r n) ≡
       (e : (b : B) → AllOf (Good f r) (of_b b) → Wordy (enc b) → Wordy (enc (on_b b))) where
     element_words_lem : (x : Element B) → AllOf (Good f r) (element_names of_b x) → Wordy (encode_element enc x)
         → Wordy (encode_element enc (on_element f r on_b x))
-    unfolding encode_element on_element element_names
+    unfolding encode_element_in on_element element_names
     element_words_lem (leaf h l) n t =
         wordy_both (encode_head (on_head f r h) (leaf_kind (on_leaf f r l))) (encode_leaf (on_leaf f r l))
         (subst (λ k. Wordy (encode_head (on_head f r h) k)) (sym (kind_same l))
@@ -144,7 +145,7 @@ module _ (f r : ℕ → ℕ) (words : (n : ℕ) → W n ≡ true → W (r n) ≡
 
     alternative_words_lem : (a : AlternativeOf B) → AllOf (Good f r) (alternative_names of_b a) → Wordy (encode_alternative enc a)
         → Wordy (encode_alternative enc (on_alternative f r on_b a))
-    unfolding encode_alternative
+    unfolding encode_alternative_in
     alternative_words_lem a n =
         more a.id a.id _ _ (λ t. t)
         (more a.carried (r a.carried) _ _ (words a.carried)
@@ -161,7 +162,7 @@ module _ (f r : ℕ → ℕ) (words : (n : ℕ) → W n ≡ true → W (r n) ≡
 
   block_words_lem : (d : ℕ) (b : Block d) → AllOf (Good f r) (block_names d b) → Wordy (encode_block d b)
       → Wordy (encode_block d (on_block f r d b))
-  unfolding encode_block on_block block_names
+  unfolding encode_block_in on_block block_names
   block_words_lem zero b n = absurd b
   block_words_lem (suc d) as' n =
       let on = on_alternative f r (on_block f r d) in

@@ -6,9 +6,11 @@ use Rattle.std.proofs.lemmas.Bool.{and_from}
 use Rattle.std.specs.Cmp.{first_so, second_so}
 use mathlib.Core.List.{List, [], ◌∷◌, map}
 use Rattle.grammar.specs.Lists.{AllOf, all, each}
+use Rattle.grammar.specs.Form.{newest}
 use Rattle.grammar.specs.Read.{is_name}
 use Rattle.grammar.specs.Numbers.{non_local, one_or_more_nongreedy, most_alternative_flag, most_rule_flags}
-use Rattle.grammar.specs.Valid.{ok_option, ok_reference, ok_label, ok_head, ok_leaf, ok_element, ok_alternative, ok_rule, ok_block}
+use Rattle.grammar.specs.Valid.{has_place, ok_option, ok_reference, ok_label, ok_head, ok_leaf, ok_element, ok_alternative, ok_rule}
+use Rattle.grammar.specs.Valid.{ok_block, ok_alternative_in, ok_block_in, ok_element_in, ok_leaf_in}
 use Rattle.grammar.specs.Tree.{OptionDecl, Reference, Label, unlabelled, labelled, ElementHead, Leaf, epsilon, action, predicate, call}
 use Rattle.grammar.specs.Tree.{token, terminal, end_of_input, Element, leaf, block, AlternativeOf, Block, Rule, body_depth}
 use Rattle.reference.specs.Walks.{label_names}
@@ -50,11 +52,11 @@ module _ (f r : ℕ → ℕ) where
       (options_good x.options (right_of Good (label_names x.label) (option_names x.options) h)))
 
   leaf_good : (l : Leaf) → AllOf Good (names_of_leaf l) → ok_leaf l ≡ true → ok_leaf (on_leaf f r l) ≡ true
-  unfolding ok_leaf on_leaf names_of_leaf
+  unfolding ok_leaf_in on_leaf names_of_leaf
   leaf_good epsilon h t = refl
   leaf_good (action a) h t = references_good a.references h t
   leaf_good (predicate p) h t = references_good p.references h t
-  leaf_good (call c) h t = h.0
+  leaf_good (call c) h t = and_from (has_place newest c) _ (first_so (has_place newest c) _ t) h.0
   leaf_good (token n) h t = h.0
   leaf_good terminal h t = refl
   leaf_good end_of_input h t = refl
@@ -72,7 +74,7 @@ module _ (f r : ℕ → ℕ) where
       (e : (b : B) → AllOf Good (of_b b) → ok b ≡ true → ok (on_b b) ≡ true) where
     element_good : (x : Element B) → AllOf Good (element_names of_b x) → ok_element ok x ≡ true
         → ok_element ok (on_element f r on_b x) ≡ true
-    unfolding ok_element on_element element_names
+    unfolding ok_element_in on_element element_names
     element_good (leaf h l) n t =
         and_from (ok_head (on_head f r h)) _ (head_good h (left_of Good (head_names h) (names_of_leaf l) n) (first_so (ok_head h) _ t))
         (leaf_good l (right_of Good (head_names h) (names_of_leaf l) n) (second_so (ok_head h) _ t))
@@ -82,7 +84,7 @@ module _ (f r : ℕ → ℕ) where
 
     alternative_good : (a : AlternativeOf B) → AllOf Good (alternative_names of_b a) → ok_alternative ok a ≡ true
         → ok_alternative ok (on_alternative f r on_b a) ≡ true
-    unfolding ok_alternative
+    unfolding ok_alternative_in
     alternative_good a n t =
         let u = second_so (leb a.flag most_alternative_flag) _ t in
         and_from (leb a.flag most_alternative_flag) _ (first_so (leb a.flag most_alternative_flag) _ t)
@@ -92,7 +94,7 @@ module _ (f r : ℕ → ℕ) where
         (right_of Good (option_names a.options) (each (element_names of_b) a.elements) n) (second_so (all ok_option a.options) _ u)))
 
   block_good : (d : ℕ) (b : Block d) → AllOf Good (block_names d b) → ok_block d b ≡ true → ok_block d (on_block f r d b) ≡ true
-  unfolding ok_block on_block block_names
+  unfolding ok_block_in on_block block_names
   block_good zero b n t = absurd b
   block_good (suc d) as' n t =
       let ok = ok_alternative (ok_block d) in

@@ -4,6 +4,7 @@ use Rattle.std.specs.Prelude.{◌≡◌, List, ◌++◌, map, length}
 use Rattle.std.proofs.Math.Path.{refl, ap}
 use Rattle.grammar.specs.Lists.{each}
 use Rattle.grammar.specs.Encode.{encode_option, encode_reference, encode_head, leaf_kind, encode_leaf, encode_element, encode_alternative}
+use Rattle.grammar.specs.Encode.{encode_alternative_in, encode_block_in, encode_element_in, encode_in, encode_leaf_in}
 use Rattle.grammar.specs.Encode.{encode_rule, encode_block, encode_rules, encode}
 use Rattle.grammar.specs.Tree.{ElementHead, Leaf, epsilon, action, predicate, call, token, terminal, end_of_input, Element, leaf, block}
 use Rattle.grammar.specs.Tree.{AlternativeOf, Block, Rule, Sheet, body_depth}
@@ -17,7 +18,7 @@ module _ (f r : ℕ → ℕ) where
       ap (λ n. suc (suc (suc (suc (suc (suc n)))))) (each_length (on_option f r) encode_option encode_option (λ o. refl) h.options)
 
   leaf_length : (l : Leaf) → length (encode_leaf (on_leaf f r l)) ≡ length (encode_leaf l)
-  unfolding encode_leaf on_leaf
+  unfolding encode_leaf_in on_leaf
   leaf_length epsilon = refl
   leaf_length (action a) =
       ap (λ n. suc (suc n)) (each_length (on_reference f r) encode_reference encode_reference (λ o. refl) a.references)
@@ -30,7 +31,7 @@ module _ (f r : ℕ → ℕ) where
 
   module _ {B : Type 0} (on_b : B → B) (enc : B → List ℕ) (e : (b : B) → length (enc (on_b b)) ≡ length (enc b)) where
     element_length : (x : Element B) → length (encode_element enc (on_element f r on_b x)) ≡ length (encode_element enc x)
-    unfolding encode_element on_element
+    unfolding encode_element_in on_element
     element_length (leaf h l) =
         both_length (encode_head (on_head f r h) (leaf_kind (on_leaf f r l))) (encode_leaf (on_leaf f r l))
         (encode_head h (leaf_kind l)) (encode_leaf l) (head_length h (leaf_kind (on_leaf f r l)) (leaf_kind l)) (leaf_length l)
@@ -39,7 +40,7 @@ module _ (f r : ℕ → ℕ) where
 
     alternative_length : (a : AlternativeOf B)
         → length (encode_alternative enc (on_alternative f r on_b a)) ≡ length (encode_alternative enc a)
-    unfolding encode_alternative
+    unfolding encode_alternative_in
     alternative_length a =
         ap (λ n. suc (suc (suc (suc (suc n)))))
         (both_length (each encode_option (map (on_option f r) a.options))
@@ -49,7 +50,7 @@ module _ (f r : ℕ → ℕ) where
         (each_length (on_element f r on_b) (encode_element enc) (encode_element enc) element_length a.elements))
 
   block_length : (d : ℕ) (b : Block d) → length (encode_block d (on_block f r d b)) ≡ length (encode_block d b)
-  unfolding encode_block on_block
+  unfolding encode_block_in on_block
   block_length zero b = absurd b
   block_length (suc d) as' =
       ap suc (each_length (on_alternative f r (on_block f r d)) (encode_alternative (encode_block d)) (encode_alternative (encode_block d))
@@ -70,7 +71,7 @@ module _ (f r : ℕ → ℕ) where
       (each_length (on_rule f r (on_block f r body_depth)) enc enc rule_length rs) refl
 
   pub whole_length : (s : Sheet) → length (encode (on_sheet f r s)) ≡ length (encode s)
-  unfolding encode on_sheet
+  unfolding encode_in on_sheet
   whole_length s =
       both_length (encode_rules (on_sheet f r s).rules ++ s.preserved) _ (encode_rules s.rules ++ s.preserved) _
       (body_length s.rules s.preserved) refl

@@ -42,7 +42,7 @@ module _ (f g r : ℕ → ℕ) where
   leaf_agrees epsilon h = refl
   leaf_agrees (action a) h = ap (λ os. action (record { id = a.id; references = os })) (references_agree a.references h)
   leaf_agrees (predicate p) h = ap (λ os. predicate (record { id = p.id; references = os })) (references_agree p.references h)
-  leaf_agrees (call c) h = ap (λ n. call (record { name = n; arguments = c.arguments })) h.0
+  leaf_agrees (call c) h = ap (λ n. call (record { name = n; arguments = c.arguments; precedence = c.precedence })) h.0
   leaf_agrees (token n) h = ap token h.0
   leaf_agrees terminal h = refl
   leaf_agrees end_of_input h = refl

@@ -6,6 +6,7 @@ use Rattle.std.proofs.Common.{◌∙◌, ⊎_elim, arith}
 use mathlib.Core.List.{List, [], ◌++◌}
 use Rattle.std.proofs.Math.Bool.{true, false}
 use Rattle.std.proofs.Math.ListN.{length}
+use Rattle.grammar.specs.Form.{newest}
 use Rattle.grammar.specs.Tree.{Sheet}
 use Rattle.grammar.specs.Lists.{member, each}
 use Rattle.grammar.specs.Words.{bytes}
@@ -139,7 +140,7 @@ module _ (limits : Limits) (c : Corners) (bs : List ℕ) (b : AreBytes bs) (g : 
       ≡ handed (answer (length ts) (steps_of ts) (encode (on_sheet f r (sheet_after t ts))) (each encode_entry (entries_of ts)))
   unfolding answer_run
   ended_on f r ts k u =
-      let (v, w) = accepted_valid bs b t k in
+      let (v, w) = accepted_valid newest bs b t k in
       delivered_on result trail work f r (sheet_after t ts) (result_reads_back_lem t v w limits c ts u).found
       (result_fits limits c bs result trail work g l t k ts u) (length ts) (steps_of ts) (each encode_entry (entries_of ts))
 

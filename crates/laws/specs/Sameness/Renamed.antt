@@ -7,15 +7,16 @@ use Rattle.std.proofs.lemmas.List.{length-map}
 use Rattle.std.proofs.Math.Dec.{leb}
 use Rattle.std.proofs.lemmas.Bool.{and_from}
 use Rattle.std.specs.Cmp.{first_so, second_so}
+use Rattle.grammar.specs.Form.{newest}
 use Rattle.grammar.specs.Lists.{all, member}
 use Rattle.grammar.specs.Laws.Words.{AreBytes, AreWords, words_bound, length_words, length_bytes, words_bytes}
 use Rattle.grammar.specs.Words.{words, bytes}
 use Rattle.grammar.specs.Read.{is_name}
 use Rattle.grammar.specs.Numbers.{word_end, trailer_words, shared_number, id_past_counter}
-use Rattle.grammar.specs.Encode.{encode, encode_rules, encode_counters}
+use Rattle.grammar.specs.Encode.{encode, encode_rules, encode_counters, encode_in}
 use Rattle.grammar.specs.Ids.{is_distinct, is_below}
 use Rattle.grammar.specs.Valid.{rule_limit}
-use Rattle.grammar.specs.Reading.{Reading, refused, sheet, is_length, is_trailer, rules_of, sheet_of, judge, read_words, read}
+use Rattle.grammar.specs.Reading.{Reading, refused, sheet, is_length, is_trailer, rules_of, sheet_of, judge, read, read_in, read_words_in}
 use Rattle.grammar.specs.Tree.{Sheet, body_depth}
 use Rattle.grammar.specs.Laws.Whole.{Records, stands_encoded, encoded_stands}
 use Rattle.laws.specs.Demands.Sameness.{TreeIn}
@@ -47,10 +48,10 @@ reading_of t =
     ]
 
 pub holds_read : (bs : List ℕ) (t : Sheet) → TreeIn bs t → read bs ≡ reading_of t
-unfolding read read_words judge reading_of sheet_of
+unfolding read_in read_words_in judge reading_of sheet_of
 holds_read bs t h =
-    rw (length_good bs h.good_length, read)
-    (rw (h.trailer, read_words)
+    rw (length_good bs h.good_length, read_in)
+    (rw (h.trailer, read_words_in)
     (rw h.records
     (ap {B = Reading} (λ (s : Sheet). elim (is_distinct t.rules) as (λ x. Reading) [
       | false ↦ refused shared_number
@@ -62,10 +63,10 @@ module _ (bs : List ℕ) (b : AreBytes bs) (t : Sheet) (h : TreeIn bs t) where
   least = let l = h.good_length.least in let w = length_words bs in omega arith
 
   encoded : encode t ≡ words bs
-  encoded = ap encode (sym h.is_sheet) ∙ (stands_encoded (words bs) least h.trailer t.rules h.next h.records).0
+  encoded = ap encode (sym h.is_sheet) ∙ (stands_encoded newest (words bs) least h.trailer t.rules h.next h.records).0
 
   allowed : Records t
-  allowed = subst Records h.is_sheet (stands_encoded (words bs) least h.trailer t.rules h.next h.records).1
+  allowed = subst Records h.is_sheet (stands_encoded newest (words bs) least h.trailer t.rules h.next h.records).1
 
   -- Other names that 4 allows, and other carried numbers that are words.
   module _ (f r : ℕ → ℕ) (word : (n : ℕ) → W n ≡ true → W (r n) ≡ true)
@@ -87,7 +88,7 @@ module _ (bs : List ℕ) (b : AreBytes bs) (t : Sheet) (h : TreeIn bs t) where
         }
 
     wordy_on : Wordy (encode t')
-    unfolding encode on_sheet names_in
+    unfolding encode_in on_sheet names_in
     wordy_on =
         let w : Wordy (encode t) = subst Wordy (sym encoded) (words_wordy (words bs) (words_bound bs b)) in
         let body = encode_rules t.rules ++ t.preserved in
@@ -114,7 +115,7 @@ module _ (bs : List ℕ) (b : AreBytes bs) (t : Sheet) (h : TreeIn bs t) where
     -- The changed sheet stands in its bytes.
     pub holds_on : TreeIn bs' t'
     holds_on =
-        let x = encoded_stands t' allowed_on in
+        let x = encoded_stands newest t' allowed_on in
         record {
           good_length = good_length_lem bs' (ap is_length bytes_length ∙ length_good bs h.good_length);
           trailer = ap is_trailer words_on ∙ x.0;

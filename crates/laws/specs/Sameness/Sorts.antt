@@ -1,12 +1,14 @@
 -- What Marks says of trees is what WordSorts says of their words; and one sheet by computation.
 use Prim.Native.Nat.{ℕ, zero, suc}
-use Rattle.std.specs.Prelude.{◌≡◌, length}
+use Rattle.std.specs.Prelude.{◌≡◌, Bool, true, false, length}
 use Rattle.std.proofs.Math.Path.{refl, ap, ap₂}
 use Rattle.std.proofs.Common.{subst}
 use mathlib.Core.List.{List, [], ◌∷◌, ◌++◌, map, append-nil, flat_map, flatten, zip_with}
 use Rattle.std.proofs.lemmas.List.{length-map}
-use Rattle.grammar.specs.Lists.{each}
+use Rattle.grammar.specs.Lists.{each, only}
+use Rattle.grammar.specs.Form.{newest}
 use Rattle.grammar.specs.Encode.{encode_option, encode_reference, label_id, label_name, encode_head, leaf_kind, encode_leaf, encode_element}
+use Rattle.grammar.specs.Encode.{encode_alternative_in, encode_block_in, encode_element_in, encode_in, encode_leaf_in}
 use Rattle.grammar.specs.Encode.{encode_alternative, encode_rule, encode_block, encode_counters, encode}
 use Rattle.grammar.specs.Tree.{OptionDecl, Reference, Label, unlabelled, labelled, ElementHead, Leaf, epsilon, action, predicate, call}
 use Rattle.grammar.specs.Tree.{token, terminal, end_of_input, Element, leaf, block, AlternativeOf, Block, Rule, Sheet, body_depth}
@@ -15,7 +17,8 @@ use Rattle.reference.specs.Computed.{computed}
 use Rattle.laws.specs.Demands.Marks.{on_option, on_reference, on_label, on_head, on_leaf, on_element, on_alternative, on_rule, on_block}
 use Rattle.laws.specs.Demands.Marks.{on_sheet, option_names, head_names, names_of_leaf, element_names, alternative_names, block_names}
 use Rattle.laws.specs.Demands.Marks.{names_in}
-use Rattle.laws.specs.Demands.WordSorts.{Sort, kept, name, carried, option_sorts, reference_sorts, label_sort, head_sorts, leaf_sorts}
+use Rattle.laws.specs.Demands.WordSorts.{Sort, kept, name, carried, option_sorts, reference_sorts, label_sort, head_sorts, kept_where}
+use Rattle.laws.specs.Demands.WordSorts.{leaf_sorts}
 use Rattle.laws.specs.Demands.WordSorts.{element_sorts, alternative_sorts, rule_sorts, block_sorts, sorts_of, moved, names_among}
 use Rattle.laws.specs.Demands.WordSorts.{MarksTold}
 use Rattle.laws.specs.Demands.Sameness.{same}
@@ -95,11 +98,15 @@ module _ (f r : ℕ → ℕ) where
       more_kept refl (more_carried (more_kept refl (label_told h.label
       (more_kept (length-map h.options (on_option f r)) (options_told h.options)))))
 
+  third_told : (b : Bool) (n : ℕ) → Told (kept_where b) (only b n) (only b n) []
+  third_told true n = more_kept refl none
+  third_told false n = none
+
   -- A leaf with its head, which names its kind.
   leaf_told : (h : ElementHead) (l : Leaf)
       → Told (head_sorts h ++ leaf_sorts l) (encode_head h (leaf_kind l) ++ encode_leaf l)
       (encode_head (on_head f r h) (leaf_kind (on_leaf f r l)) ++ encode_leaf (on_leaf f r l)) (head_names h ++ names_of_leaf l)
-  unfolding leaf_sorts leaf_kind encode_leaf on_leaf names_of_leaf
+  unfolding leaf_sorts leaf_kind encode_leaf_in on_leaf names_of_leaf
   leaf_told h epsilon = both (head_told h _) none
   leaf_told h (action a) =
       both (head_told h _)
@@ -107,7 +114,7 @@ module _ (f r : ℕ → ℕ) where
   leaf_told h (predicate p) =
       both (head_told h _)
       (more_kept refl (more_kept (length-map p.references (on_reference f r)) (references_told p.references)))
-  leaf_told h (call c) = both (head_told h _) (more_name (more_kept refl none))
+  leaf_told h (call c) = both (head_told h _) (more_name (more_kept refl (third_told newest.precedences c.precedence)))
   leaf_told h (token n) = both (head_told h _) (more_name none)
   leaf_told h terminal = both (head_told h _) none
   leaf_told h end_of_input = both (head_told h _) none
@@ -116,14 +123,14 @@ module _ (f r : ℕ → ℕ) where
       (e : (b : B) → Told (sorts b) (enc b) (enc (on_b b)) (names b)) where
     element_told : (x : Element B)
         → Told (element_sorts sorts x) (encode_element enc x) (encode_element enc (on_element f r on_b x)) (element_names names x)
-    unfolding element_sorts encode_element on_element element_names
+    unfolding element_sorts encode_element_in on_element element_names
     element_told (leaf h l) = leaf_told h l
     element_told (block h b) = both (head_told h _) (e b)
 
     alternative_told : (a : AlternativeOf B)
         → Told (alternative_sorts sorts a) (encode_alternative enc a) (encode_alternative enc (on_alternative f r on_b a))
         (alternative_names names a)
-    unfolding alternative_sorts encode_alternative
+    unfolding alternative_sorts encode_alternative_in
     alternative_told a =
         more_kept refl (more_carried (more_kept refl
         (more_kept (length-map a.options (on_option f r)) (more_kept (length-map a.elements (on_element f r on_b))
@@ -131,7 +138,7 @@ module _ (f r : ℕ → ℕ) where
         (told_each (element_sorts sorts) (on_element f r on_b) (encode_element enc) (element_names names) element_told a.elements))))))
 
   block_told : (d : ℕ) (b : Block d) → Told (block_sorts d b) (encode_block d b) (encode_block d (on_block f r d b)) (block_names d b)
-  unfolding block_sorts encode_block on_block block_names
+  unfolding block_sorts encode_block_in on_block block_names
   block_told zero b = absurd b
   block_told (suc d) as' =
       more_kept (length-map as' (on_alternative f r (on_block f r d)))
@@ -151,7 +158,7 @@ module _ (f r : ℕ → ℕ) where
   numbers_told (i ∷ is) = more_kept refl (numbers_told is)
 
   sheet_told : (s : Sheet) → Told (sorts_of s) (encode s) (encode (on_sheet f r s)) (names_in s)
-  unfolding sorts_of encode on_sheet names_in
+  unfolding sorts_of encode_in on_sheet names_in
   sheet_told s =
       no_names (no_names
       (told_each (rule_sorts (block_sorts body_depth)) (on_rule f r (on_block f r body_depth)) (encode_rule (encode_block body_depth))

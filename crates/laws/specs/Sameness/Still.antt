@@ -5,10 +5,11 @@ use native.Mathlib.Omega.{arith}
 use Rattle.std.proofs.Math.ListN.{length}
 use Rattle.std.specs.Cmp.{second_so}
 use borrow.Author.Tests.{eqb-true}
+use Rattle.grammar.specs.Form.{newest}
 use Rattle.grammar.specs.Tree.{Sheet}
 use Rattle.grammar.specs.Words.{words, bytes}
 use Rattle.grammar.specs.Lists.{total}
-use Rattle.grammar.specs.Reading.{refused, sheet, is_length, read}
+use Rattle.grammar.specs.Reading.{refused, sheet, is_length, read, read_in}
 use Rattle.grammar.specs.Corners.{Corners}
 use Rattle.grammar.specs.Laws.Parse.{either}
 use Rattle.grammar.specs.Laws.Words.{AreBytes, length_words, bytes_words}
@@ -24,13 +25,13 @@ module _ (limits : Limits) (c : Corners) where
   pub still_answer : (bs : List ℕ) (s : Sheet) → read bs ≡ sheet s → eliminate_mutual_left_recursion limits c s ≡ ended []
       → answer_to limits c bs ≡ answer 0 0 (words bs) []
   unfolding answer_to answer_reading answer_run steps_of total sheet_after entries_of
-  still_answer bs s e n = rw (e, n, is_encoding_words bs s e) refl
+  still_answer bs s e n = rw (e, n, is_encoding_words newest bs s e) refl
 
   accepted_length : (bs : List ℕ) (s : Sheet) → read bs ≡ sheet s → is_length (length bs) ≡ true
-  unfolding read
+  unfolding read_in
   accepted_length bs s e =
       either (is_length (length bs)) (λ t. t)
-      (λ f. let g : refused bad_length ≡ sheet s = rw (f, read) at e in absurd (let z : ◌≡◌ {A = ℕ} 0 1 = cc in omega arith))
+      (λ f. let g : refused bad_length ≡ sheet s = rw (f, read_in) at e in absurd (let z : ◌≡◌ {A = ℕ} 0 1 = cc in omega arith))
 
   -- The whole outcome: the same bytes.
   pub still_outcome : (bs result trail work : List ℕ) → AreBytes bs → (s : Sheet) → read bs ≡ sheet s

@@ -13,12 +13,14 @@ use borrow.Author.Tests.{leb-true, ltb-true, le-leb, lt-ltb}
 use Rattle.grammar.specs.Tree.{Leaf, epsilon, action, predicate, call, token, terminal, end_of_input, Element, leaf, block, AlternativeOf}
 use Rattle.grammar.specs.Tree.{Block, Rule, Counters, Sheet, body_depth}
 use Rattle.grammar.specs.Encode.{encode_option, encode_head, leaf_kind, encode_leaf, encode_element, encode_alternative, encode_rule}
+use Rattle.grammar.specs.Encode.{encode_alternative_in, encode_block_in, encode_element_in, encode_in}
 use Rattle.grammar.specs.Encode.{encode_block}
 use Rattle.grammar.specs.Encode.{encode_rules, encode_counters, encode}
 use Rattle.grammar.specs.Lists.{each, only, below, all}
 use Rattle.grammar.specs.Read.{is_name}
 use Rattle.grammar.specs.Ids.{head_ids, leaf_ids, element_ids, alternative_ids, block_ids, body_ids, is_below}
-use Rattle.grammar.specs.Valid.{ok_option, ok_head, ok_element, ok_alternative, ok_rule, ok_block, fits}
+use Rattle.grammar.specs.Valid.{ok_option, ok_head, ok_element, ok_alternative, ok_rule, ok_block, fits, fits_in, ok_alternative_in}
+use Rattle.grammar.specs.Valid.{ok_block_in, ok_element_in}
 use Rattle.grammar.specs.Laws.Whole.{Parts}
 use Rattle.grammar.specs.Numbers.{most_words, most_name, kind_end, word_end, lexer, combined, most_rule_flags, most_alternative_flag}
 use Rattle.grammar.specs.Numbers.{alternative_sort}
@@ -48,7 +50,7 @@ module _ {B : Type 0} (of_block enc : B → List ℕ) (ids : ℕ → B → List 
   element_told : (e : Element B) → ok_element ok e ≡ true → length (encode_element enc e) ≤ most_name → {w : ℕ}
       → Memᴰ w (encode_element enc e)
       → Told (element_words of_block e) (λ k. element_ids k (ids k) e) w
-  unfolding ok_element encode_element element_words element_ids
+  unfolding ok_element_in encode_element_in element_words element_ids
   element_told (leaf x l) t h m =
       let n = length-append (encode_head x (leaf_kind l)) (encode_leaf l) in
       ⊎_elim
@@ -67,14 +69,14 @@ module _ {B : Type 0} (of_block enc : B → List ℕ) (ids : ℕ → B → List 
       (Memᴰ.append_cases (encode_head x 6) m)
 
   long : (e : Element B) → 1 ≤ length (encode_element enc e)
-  unfolding encode_element encode_head
+  unfolding encode_element_in encode_head
   long (leaf x l) = omega arith
   long (block x b) = omega arith
 
   alternative_told : (a : AlternativeOf B) → ok_alternative ok a ≡ true → length (encode_alternative enc a) ≤ most_name → {w : ℕ}
       → Memᴰ w (encode_alternative enc a)
       → Told (alternative_words of_block a) (λ k. alternative_ids k (ids k) a) w
-  unfolding ok_alternative encode_alternative alternative_words alternative_ids
+  unfolding ok_alternative_in encode_alternative_in alternative_words alternative_ids
   alternative_told a t h {w} m =
       let f = leb-true a.flag most_alternative_flag (first_so (leb a.flag most_alternative_flag) _ t) in
       let u = second_so (leb a.flag most_alternative_flag) _ t in
@@ -108,12 +110,12 @@ module _ {B : Type 0} (of_block enc : B → List ℕ) (ids : ℕ → B → List 
           (Memᴰ.append_cases (each encode_option a.options) m)
 
   long_alternative : (a : AlternativeOf B) → 1 ≤ length (encode_alternative enc a)
-  unfolding encode_alternative
+  unfolding encode_alternative_in
   long_alternative a = omega arith
 
 block_told : (d : ℕ) (b : Block d) → ok_block d b ≡ true → length (encode_block d b) ≤ most_name → (w : ℕ) → Memᴰ w (encode_block d b)
     → Told (block_words d b) (λ k. block_ids k d b) w
-unfolding ok_block encode_block block_words block_ids
+unfolding ok_block_in encode_block_in block_words block_ids
 block_told zero b t h w m = absurd b
 block_told (suc d) as' t h w (Memᴰ.head e) =
     let p =
@@ -134,7 +136,7 @@ pub record Carries (s : Sheet) : Type 0 where
   pub preserved : (w : ℕ) → Memᴰ w s.preserved → w < word_end
 
 pub fits_carries : (s : Sheet) → fits s ≡ true → Carries s
-unfolding fits encode encode_rule
+unfolding fits_in encode_in encode_rule
 fits_carries s t =
     let u = second_so (leb (length (encode s)) most_words) _ t in
     record {
@@ -232,7 +234,7 @@ module _ (s : Sheet) (v : Parts s) (c : Carries s) (a : are_words s.counters ≡
       let e = Memᴰ.eq_of_singleton m in let x = counters_words s.counters a of_predicate in omega arith
 
   pub carries_fits : fits s ≡ true
-  unfolding fits encode
+  unfolding fits_in encode_in
   carries_fits =
       let body = encode_rules s.rules ++ s.preserved in
       let n = length-append body (s.kind ∷ length body ∷ length s.preserved ∷ encode_counters s.counters) in

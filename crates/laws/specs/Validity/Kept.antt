@@ -5,7 +5,8 @@ use Rattle.std.proofs.Math.Bool.{◌&&◌}
 use Rattle.grammar.specs.Tree.{Label, unlabelled, labelled, ElementHead, Leaf, epsilon, action, predicate, call, token, terminal}
 use Rattle.grammar.specs.Tree.{end_of_input, Element, leaf, block, AlternativeOf, Block, Counters}
 use Rattle.grammar.specs.Lists.{each, all}
-use Rattle.grammar.specs.Valid.{ok_label, ok_head, ok_leaf, ok_element, ok_alternative, ok_block}
+use Rattle.grammar.specs.Valid.{ok_label, ok_head, ok_leaf, ok_element, ok_alternative, ok_block, ok_alternative_in, ok_block_in}
+use Rattle.grammar.specs.Valid.{ok_element_in, ok_leaf_in}
 use Rattle.grammar.specs.Numbers.{alternative_sort, element_sort}
 use Rattle.reference.specs.Apply.{Fresh, fresh_each, past, renumber_label, renumber_head, renumber_leaf, renumber_element}
 use Rattle.reference.specs.Apply.{renumber_elements}
@@ -36,7 +37,7 @@ unfolding renumber_head ok_head
 ok_head_lem h c = rw (ok_label_lem h.label (past element_sort c)) refl
 
 ok_leaf_lem : (l : Leaf) (c : Counters) → ok_leaf (renumber_leaf l c).node ≡ ok_leaf l
-unfolding renumber_leaf ok_leaf
+unfolding renumber_leaf ok_leaf_in
 ok_leaf_lem epsilon c = refl
 ok_leaf_lem (action a) c = refl
 ok_leaf_lem (predicate p) c = refl
@@ -58,7 +59,7 @@ words_leaf end_of_input c = refl
 module _ {B : Type 0} (renumber : B → Counters → Fresh B) (ok : B → Bool)
     (h : (b : B) (c : Counters) → ok (renumber b c).node ≡ ok b) where
   pub ok_element_lem : (e : Element B) (c : Counters) → ok_element ok (renumber_element renumber e c).node ≡ ok_element ok e
-  unfolding renumber_element ok_element
+  unfolding renumber_element ok_element_in
   ok_element_lem (leaf x l) c = ap₂ ◌&&◌ (ok_head_lem x c) (ok_leaf_lem l (renumber_head x c).counters)
   ok_element_lem (block x b) c = ap₂ ◌&&◌ (ok_head_lem x c) (h b (renumber_head x c).counters)
 
@@ -69,11 +70,11 @@ module _ {B : Type 0} (renumber : B → Counters → Fresh B) (ok : B → Bool)
 
   pub ok_alternative_lem : (a : AlternativeOf B) (c : Counters)
       → ok_alternative ok (renumber_alternative renumber a c).node ≡ ok_alternative ok a
-  unfolding renumber_alternative ok_alternative
+  unfolding renumber_alternative ok_alternative_in
   ok_alternative_lem a c = rw (ok_elements a.elements (past alternative_sort c)) refl
 
 pub ok_block_lem : (d : ℕ) (b : Block d) (c : Counters) → ok_block d (renumber_block d b c).node ≡ ok_block d b
-unfolding renumber_block ok_block
+unfolding renumber_block ok_block_in
 ok_block_lem zero b c = absurd b
 ok_block_lem (suc d) as' c =
     all_kept (renumber_alternative (renumber_block d)) (ok_alternative (ok_block d))

@@ -9,10 +9,12 @@ use Rattle.std.proofs.Math.Dec.{leb}
 use borrow.Author.Tests.{leb-true, le-leb}
 use Rattle.grammar.specs.Numbers.{rule_limit, most_name, one_or_more_nongreedy, non_local, most_rule_flags, most_alternative_flag}
 use Rattle.grammar.specs.Lists.{each, all, rising}
+use Rattle.grammar.specs.Form.{newest}
 use Rattle.grammar.specs.Tree.{OptionDecl, Reference, Label, unlabelled, labelled, ElementHead, Leaf, epsilon, action, predicate, call}
 use Rattle.grammar.specs.Tree.{token, terminal, end_of_input, Element, leaf, block, AlternativeOf, Block, RuleOf, Rule, body_depth, Sheet}
 use Rattle.grammar.specs.Read.{is_name}
-use Rattle.grammar.specs.Valid.{is_kind, ok_option, ok_reference, ok_label, ok_head, ok_leaf, ok_element, ok_alternative, ok_rule, ok_block}
+use Rattle.grammar.specs.Valid.{is_kind, has_place, ok_option, ok_reference, ok_label, ok_head, ok_leaf, ok_element, ok_alternative}
+use Rattle.grammar.specs.Valid.{ok_rule, ok_block, ok_alternative_in, ok_block_in, ok_element_in, ok_leaf_in, ok_rules_in, valid_in}
 use Rattle.grammar.specs.Valid.{ok_rules, valid}
 use Rattle.grammar.specs.Ids.{is_distinct, is_below}
 use Rattle.grammar.specs.Laws.Parse.{either}
@@ -95,18 +97,20 @@ module _ (m : ℕ) (low : m ≤ most_name) where
       ∙ sym (and_assoc (leb h.quantifier one_or_more_nongreedy) (ok_label h.label && all ok_option h.options) (fine (head_names h)))
 
   leaf_told : (l : Leaf) → ok_leaf_by (up_to m) l ≡ (ok_leaf l && fine (names_of_leaf l))
-  unfolding ok_leaf names_of_leaf all
+  unfolding ok_leaf_in names_of_leaf all
   leaf_told epsilon = refl
   leaf_told (action a) = references_told a.references
   leaf_told (predicate p) = references_told p.references
-  leaf_told (call c) = name_told c.name
+  leaf_told (call c) =
+      ap (λ b. has_place newest c && b) (name_told c.name)
+      ∙ sym (and_assoc (has_place newest c) (is_name c.name) (fine (c.name ∷ [])))
   leaf_told (token n) = name_told n
   leaf_told terminal = refl
   leaf_told end_of_input = refl
 
   module _ {B : Type 0} (f g : B → Bool) (inside : B → List ℕ) (h : (b : B) → f b ≡ (g b && fine (inside b))) where
     element_told : (e : Element B) → ok_element_by (up_to m) f e ≡ (ok_element g e && fine (element_names inside e))
-    unfolding ok_element element_names
+    unfolding ok_element_in element_names
     element_told (leaf i l) =
         ap₂ ◌&&◌ (head_told i) (leaf_told l)
         ∙ both (ok_head i) (fine (head_names i)) (ok_leaf l) (fine (names_of_leaf l))
@@ -117,7 +121,7 @@ module _ (m : ℕ) (low : m ≤ most_name) where
         ∙ ap (λ b. (ok_head i && g x) && b) (sym (fine_append (head_names i) (inside x)))
 
     alternative_told : (a : AlternativeOf B) → ok_alternative_by (up_to m) f a ≡ (ok_alternative g a && fine (alternative_names inside a))
-    unfolding ok_alternative
+    unfolding ok_alternative_in
     alternative_told a =
         let os = a.options in
         let es = a.elements in
@@ -140,7 +144,7 @@ module _ (m : ℕ) (low : m ≤ most_name) where
         ∙ ap (λ b. (is_name r.name && (flags && g r.body)) && b) (sym (fine_append (r.name ∷ []) (inside r.body)))
 
   block_told : (d : ℕ) (b : Block d) → ok_block_by (up_to m) d b ≡ (ok_block d b && fine (block_names d b))
-  unfolding ok_block_by ok_block block_names
+  unfolding ok_block_by ok_block_in block_names
   block_told zero b = absurd b
   block_told (suc d) b =
       each_told (ok_alternative_by (up_to m) (ok_block_by (up_to m) d)) (ok_alternative (ok_block d)) (alternative_names (block_names d))
@@ -148,7 +152,7 @@ module _ (m : ℕ) (low : m ≤ most_name) where
 
   rules_told : (rs : List Rule)
       → ok_rules_by (up_to m) rs ≡ (ok_rules rs && fine (each (λ (q : Rule). q.name ∷ block_names body_depth q.body) rs))
-  unfolding ok_rules
+  unfolding ok_rules_in
   rules_told rs =
       let d = body_depth in
       let names = fine (each (λ (q : Rule). q.name ∷ block_names body_depth q.body) rs) in
@@ -158,7 +162,7 @@ module _ (m : ℕ) (low : m ≤ most_name) where
       ∙ sym (and_assoc (leb (length rs) rule_limit) (all (ok_rule (ok_block body_depth)) rs) names)
 
   sheet_told : (s : Sheet) → valid_by (up_to m) s ≡ (valid s && fine (names_in s))
-  unfolding valid names_in
+  unfolding valid_in names_in
   sheet_told s =
       ap
       (λ b. is_kind s.kind && ((b && rising s.preserved) && (is_distinct s.rules && is_below s.counters s.rules)))

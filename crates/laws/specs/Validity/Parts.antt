@@ -11,7 +11,7 @@ use borrow.Author.Tests.{eqb-true, eq-eqb}
 use Rattle.grammar.specs.Tree.{OptionDecl, Element, leaf, block, Block, RuleOf, Counters}
 use Rattle.grammar.specs.Lists.{each, all, keep}
 use Rattle.grammar.specs.Ids.{head_ids, element_ids, block_ids}
-use Rattle.grammar.specs.Valid.{ok_option, ok_label, ok_head, ok_element, ok_block}
+use Rattle.grammar.specs.Valid.{ok_option, ok_label, ok_head, ok_element, ok_block, ok_element_in}
 use Rattle.grammar.specs.Laws.Parse.{either}
 use Rattle.grammar.specs.Numbers.{word_end, most_alternative_flag, one_or_more_nongreedy}
 use Rattle.reference.specs.Substitute.{plain}
@@ -87,7 +87,7 @@ pub record Part (d : ℕ) (c : Counters) (e : Element (Block d)) : Type 0 where
   pub ids : (s : Sort) (i : ℕ) → Memᴰ i (element_ids (number s) (block_ids (number s) d) e) → i < counter_at s c
 
 pub plain_part : (d : ℕ) (c : Counters) (e : Element (Block d)) → Part d c e → Part d c (plain e)
-unfolding plain ok_element element_words element_ids ok_head head_ids
+unfolding plain ok_element_in element_words element_ids ok_head head_ids
 plain_part d c (leaf h l) p =
     record {
       ok = and_from _ _ (second_so (leb h.quantifier one_or_more_nongreedy) _

@@ -9,11 +9,12 @@ use native.Mathlib.Omega.{arith}
 use Rattle.std.proofs.Math.ListN.{length-append}
 use Rattle.std.proofs.lemmas.Bool.{and_from}
 use Rattle.std.specs.Cmp.{first_so, second_so}
+use Rattle.grammar.specs.Form.{newest}
 use Rattle.grammar.specs.Tree.{Rule, Counters, Sheet, body_depth}
-use Rattle.grammar.specs.Encode.{encode, encode_rules}
+use Rattle.grammar.specs.Encode.{encode, encode_rules, encode_in}
 use Rattle.grammar.specs.Lists.{each, distinct, below, rising}
 use Rattle.grammar.specs.Ids.{rule_ids, rule_names, body_ids, is_distinct, is_below}
-use Rattle.grammar.specs.Valid.{is_kind, rule_limit, valid, fits}
+use Rattle.grammar.specs.Valid.{is_kind, rule_limit, valid, fits, fits_in}
 use Rattle.grammar.specs.Corners.{Corners}
 use Rattle.grammar.specs.Laws.Whole.{Parts, parts_valid, valid_parts}
 use Rattle.grammar.specs.Laws.Codec.{reads_back_lem}
@@ -104,19 +105,19 @@ pub record Good (s : Sheet) : Type 0 where
   pub fitting : fits s ≡ true
 
 pub good_of : (s : Sheet) → valid s ≡ true → fits s ≡ true → Good s
-good_of s v f = record { parts = valid_parts s v; fitting = f }
+good_of s v f = record { parts = valid_parts newest s v; fitting = f }
 
 pub good_sound : {s : Sheet} → Good s → Sound body_depth s.counters s.rules
 good_sound {s} g = parts_sound s g.parts (fits_carries s g.fitting)
 
 pub good_reads : {s : Sheet} → Good s → ReadsBack s
 good_reads {s} g =
-    let v = parts_valid s g.parts in
-    record { is_valid = v; is_fitting = g.fitting; found = reads_back_lem s v g.fitting }
+    let v = parts_valid newest s g.parts in
+    record { is_valid = v; is_fitting = g.fitting; found = reads_back_lem newest s v g.fitting }
 
 -- The counters of a sheet that fits are words.
 counters_fit : (s : Sheet) → fits s ≡ true → (k : Sort) → counter_at k s.counters < word_end
-unfolding fits encode
+unfolding fits_in encode_in
 counters_fit s t k =
     ltb-true (counter_at k s.counters) word_end
     (all_in (λ w. ltb w word_end) (second_so (leb (length (encode s)) most_words) _ t)

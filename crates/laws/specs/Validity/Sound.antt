@@ -12,7 +12,7 @@ use Rattle.grammar.specs.Tree.{Element, AlternativeOf, Block, RuleOf, Counters}
 use Rattle.grammar.specs.Lists.{each, member, distinct, only, all, keep}
 use Rattle.grammar.specs.Ids.{element_ids, alternative_ids, block_ids}
 use Rattle.grammar.specs.Read.{is_name}
-use Rattle.grammar.specs.Valid.{ok_option, ok_element, ok_alternative, ok_rule, ok_block}
+use Rattle.grammar.specs.Valid.{ok_option, ok_element, ok_alternative, ok_rule, ok_block, ok_alternative_in, ok_block_in}
 use Rattle.grammar.specs.Laws.Parse.{either}
 use Rattle.grammar.specs.Numbers.{word_end, rule_limit, most_rule_flags, most_alternative_flag, alternative_sort}
 use Rattle.language.specs.Laws.Copies.{map_unseen}
@@ -61,7 +61,7 @@ module _ (d : ℕ) (c : Counters) where
       → ((w : ℕ) → Memᴰ w (alternative_words (block_words d) a) → w < word_end)
       → ((s : Sort) (i : ℕ) → Memᴰ i (alternative_ids (number s) (block_ids (number s) d) a) → i < counter_at s c)
       → Alternative-holds d Slot (λ i. i < c.alternative) Choice (Part d c) a
-  unfolding ok_alternative alternative_words alternative_ids
+  unfolding ok_alternative_in alternative_words alternative_ids
   alternative_fine a t w i =
       let u = second_so (leb a.flag most_alternative_flag) _ t in
       record {
@@ -99,7 +99,7 @@ module _ (d : ℕ) (c : Counters) where
 
     -- The alternative that it becomes.
     made_ok : (c₁ : Counters) → ok_alternative (ok_block d) (apply_alternative d p c₁).node ≡ true
-    unfolding apply_alternative ok_alternative
+    unfolding apply_alternative ok_alternative_in
     made_ok c₁ =
         let o = in_all ok_option p.options λ o m. (h.options o m).0 in
         either p.verbatim
@@ -129,7 +129,7 @@ module _ (d : ℕ) (c : Counters) (rs : List (RuleOf (Block (suc d)))) (h : Soun
     (f : FromHub d rs plan) where
   given : (r : RuleOf (Block (suc d))) → Memᴰ r rs → (a : AlternativeOf (Block d)) → Memᴰ a r.body
       → Alternative-holds d Slot (λ i. i < c.alternative) Choice (Part d c) a
-  unfolding ok_rule ok_block block_words block_ids
+  unfolding ok_rule ok_block_in block_words block_ids
   given r m a k =
       let t =
       second_so (leb r.flags most_rule_flags) _ (second_so (is_name r.name) _ (all_in (ok_rule (ok_block (suc d))) h.rules m)) in
@@ -148,7 +148,7 @@ module _ (d : ℕ) (c : Counters) (rs : List (RuleOf (Block (suc d)))) (h : Soun
   made_trail = applied_trail d plan.alternatives c (λ p m. fine_below d c p (planned p m))
 
   body_ok : ok_block (suc d) made.node ≡ true
-  unfolding ok_block
+  unfolding ok_block_in
   body_ok =
       in_all (ok_alternative (ok_block d)) made.node λ a m.
       let (p, c₁, k, e) = fresh_in (apply_alternative d) plan.alternatives c m in

@@ -7,20 +7,23 @@ use Rattle.std.specs.Cmp.{first_so, second_so}
 use mathlib.Core.List.Memᴰ
 use mathlib.Core.List.{List, [], ◌∷◌, ◌++◌, map, Memᴰ}
 use Rattle.grammar.specs.Laws.Lists.{in_map}
+use Rattle.grammar.specs.Laws.Opened.{call_named}
 use Rattle.grammar.specs.Tree.{OptionDecl, Reference, Label, unlabelled, labelled, ElementHead, Leaf, epsilon, action, predicate, call}
 use Rattle.grammar.specs.Tree.{token, terminal, end_of_input, Element, leaf, block, AlternativeOf, Block}
 use Rattle.grammar.specs.Encode.{encode_option, encode_reference, label_id, label_name, encode_head, leaf_kind, encode_leaf, encode_element}
+use Rattle.grammar.specs.Encode.{encode_alternative_in, encode_block_in, encode_element_in, encode_leaf_in}
 use Rattle.grammar.specs.Encode.{encode_alternative, encode_block}
-use Rattle.grammar.specs.Lists.{each, all}
+use Rattle.grammar.specs.Lists.{each, all, only}
+use Rattle.grammar.specs.Form.{newest}
 use Rattle.grammar.specs.Read.{is_name}
 use Rattle.grammar.specs.Ids.{label_ids, head_ids, leaf_ids}
-use Rattle.grammar.specs.Valid.{ok_option, ok_reference, ok_label, ok_head, ok_leaf}
+use Rattle.grammar.specs.Valid.{ok_option, ok_reference, ok_label, ok_head, ok_leaf, ok_leaf_in}
 use Rattle.grammar.specs.Numbers.{most_name, one_or_more_nongreedy, kind_end, non_local}
 use Rattle.laws.specs.Lists.Lookup.{all_in}
 use Rattle.graph.specs.Members.{in_each, each_in}
 use Rattle.laws.specs.Demands.Applied.{Sort, of_element, of_label, of_action, of_predicate, number}
 
--- The numbers that are copied and never looked at: carried numbers, option values, arguments.
+-- The numbers that are copied and never looked at: carried numbers, option values, arguments, precedences.
 abbrev pub option_words : List OptionDecl → List ℕ
 option_words = map λ o. o.value
 
@@ -28,7 +31,7 @@ abbrev pub leaf_words : Leaf → List ℕ
 leaf_words epsilon = []
 leaf_words (action a) = []
 leaf_words (predicate p) = []
-leaf_words (call c) = c.arguments ∷ []
+leaf_words (call c) = c.arguments ∷ only newest.precedences c.precedence
 leaf_words (token n) = []
 leaf_words terminal = []
 leaf_words end_of_input = []
@@ -59,7 +62,7 @@ head_in h k (Memᴰ.tail m) =
     Memᴰ.tail (Memᴰ.tail (Memᴰ.tail (Memᴰ.tail (Memᴰ.tail (Memᴰ.tail (value_in h.options m))))))
 
 leaf_in : (l : Leaf) {w : ℕ} → Memᴰ w (leaf_words l) → Memᴰ w (encode_leaf l)
-unfolding encode_leaf
+unfolding encode_leaf_in
 leaf_in epsilon m = absurd (Memᴰ.not-nil m)
 leaf_in (action a) m = absurd (Memᴰ.not-nil m)
 leaf_in (predicate p) m = absurd (Memᴰ.not-nil m)
@@ -70,7 +73,7 @@ leaf_in end_of_input m = absurd (Memᴰ.not-nil m)
 
 module _ {B : Type 0} (of_block enc : B → List ℕ) (inside : (b : B) (w : ℕ) → Memᴰ w (of_block b) → Memᴰ w (enc b)) where
   element_in : (e : Element B) {w : ℕ} → Memᴰ w (element_words of_block e) → Memᴰ w (encode_element enc e)
-  unfolding element_words encode_element
+  unfolding element_words encode_element_in
   element_in (leaf h l) m =
       ⊎_elim (λ n. Memᴰ.append_left (encode_leaf l) (head_in h (leaf_kind l) n))
       (λ n. Memᴰ.append_right (encode_head h (leaf_kind l)) (leaf_in l n)) (Memᴰ.append_cases (head_words h) m)
@@ -79,7 +82,7 @@ module _ {B : Type 0} (of_block enc : B → List ℕ) (inside : (b : B) (w : ℕ
       (Memᴰ.append_cases (head_words h) m)
 
   alternative_in : (a : AlternativeOf B) {w : ℕ} → Memᴰ w (alternative_words of_block a) → Memᴰ w (encode_alternative enc a)
-  unfolding alternative_words encode_alternative
+  unfolding alternative_words encode_alternative_in
   alternative_in a (Memᴰ.head e) = Memᴰ.tail (Memᴰ.head e)
   alternative_in a {w} (Memᴰ.tail m) =
       Memᴰ.tail (Memᴰ.tail (Memᴰ.tail (Memᴰ.tail (Memᴰ.tail
@@ -89,7 +92,7 @@ module _ {B : Type 0} (of_block enc : B → List ℕ) (inside : (b : B) (w : ℕ
       (Memᴰ.append_cases (option_words a.options) m))))))
 
 pub block_in : (d : ℕ) (b : Block d) (w : ℕ) → Memᴰ w (block_words d b) → Memᴰ w (encode_block d b)
-unfolding block_words encode_block
+unfolding block_words encode_block_in
 block_in zero b w m = absurd b
 block_in (suc d) as' w m =
     let (a, k, l) = each_in (alternative_words (block_words d)) as' m in
@@ -140,7 +143,7 @@ reference_told rs t m =
 
 pub leaf_told : (l : Leaf) → ok_leaf l ≡ true → length (encode_leaf l) ≤ most_name → {w : ℕ} → Memᴰ w (encode_leaf l)
     → Told (leaf_words l) (λ k. leaf_ids k l) w
-unfolding ok_leaf encode_leaf leaf_ids
+unfolding ok_leaf_in encode_leaf_in leaf_ids
 leaf_told epsilon t h m = absurd (Memᴰ.not-nil m)
 leaf_told (action a) t h (Memᴰ.head e) = is_id of_action (Memᴰ.head e)
 leaf_told (action a) t h (Memᴰ.tail (Memᴰ.head e)) =
@@ -150,7 +153,7 @@ leaf_told (predicate p) t h (Memᴰ.head e) = is_id of_predicate (Memᴰ.head e)
 leaf_told (predicate p) t h (Memᴰ.tail (Memᴰ.head e)) =
     small (let g = each_count encode_reference (λ r. omega arith) p.references in omega arith)
 leaf_told (predicate p) t h (Memᴰ.tail (Memᴰ.tail m)) = reference_told p.references t m
-leaf_told (call c) t h (Memᴰ.head e) = small (let g = name_small c.name t in omega arith)
+leaf_told (call c) t h (Memᴰ.head e) = small (let g = name_small c.name (call_named newest c t) in omega arith)
 leaf_told (call c) t h (Memᴰ.tail m) = copied m
 leaf_told (token n) t h m = let e = Memᴰ.eq_of_singleton m in small (let g = name_small n t in omega arith)
 leaf_told terminal t h m = absurd (Memᴰ.not-nil m)

@@ -8,6 +8,7 @@ use native.Mathlib.Omega.{arith}
 use native.Mathlib.Nat.{add-zero}
 use lib.ListN.{length, get_or, length-append}
 use lib.Seq.{length-sets}
+use Rattle.grammar.specs.Form.{newest}
 use Rattle.grammar.specs.Numbers.{block_kind, rule_limit}
 use Rattle.grammar.specs.Lists.{each}
 use Rattle.grammar.specs.Tree.{leaf, block, Rule, body_depth}
@@ -105,7 +106,7 @@ pub list_rule : {ws : List ℕ} {end at : ℕ} {id name m : ℕ} {b i a : List �
     → RuleListed ws end at (pen b n 0) q (pen a r 0)
 unfolding rule_step
 list_rule {ws} {end} {at} {id} {name} {b = b} {n = n} {q = q} e f g x w =
-    let o = rule_walked listing g w in
+    let o = rule_walked newest listing g w in
     record {
       passed = o.passed;
       value = λ t z u.
@@ -136,11 +137,11 @@ RulesListing ws end = Folding ws end (encode_rule (encode_block body_depth)) (ok
 
 pub listing_room : {ws : List ℕ} {end n at : ℕ} {p₀ : Pen} {i here : ℕ} {p : Pen} → RulesListing ws end n at p₀ (n - i) here p → i < n
     → here + 4 ≤ end
-listing_room g h = rule_room 8 (steps_found g h)
+listing_room g h = rule_room newest 8 (steps_found g h)
 
 -- The reader finds rules anew, and as many.
 pub rules_there : {ws : List ℕ} {end : ℕ} {r : Option Rules} → Ruled ws end → RulesRead ws end r → is_some r ≡ true
-rules_there {ws} {end} w f = f.good ∙ ap is_got (rules_complete ws end rule_limit 0 w.rules w.few w.spans)
+rules_there {ws} {end} w f = f.good ∙ ap is_got (rules_complete newest ws end rule_limit 0 w.rules w.few w.spans)
 
 pub rules_counted : {ws : List ℕ} {end : ℕ} {r : Option Rules} {x : Rules} → Ruled ws end → RulesRead ws end r → r ≡ Some x
     → Counted ws end x.n
@@ -151,7 +152,7 @@ rules_counted {ws} {end} {r} {x} w f e = record {
   where
     count : (w : Ruled ws end) → length w.rules ≡ x.n
     count w =
-        sym (f.rows x w.rules end e (rules_complete ws end rule_limit 0 w.rules w.few w.spans)).count
+        sym (f.rows x w.rules end e (rules_complete newest ws end rule_limit 0 w.rules w.few w.spans)).count
 
 -- The rules were listed.
 pub rules_listed : {ws : List ℕ} {end k p : ℕ} {b a : List ℕ} {n r : ℕ} → Counted ws end k → r ≤ 10 * p + 64

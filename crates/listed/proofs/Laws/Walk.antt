@@ -8,7 +8,7 @@ use lib.ListN.{get_or}
 use Rattle.grammar.specs.Numbers.{kind_end, block_kind}
 use Rattle.grammar.specs.Stands.{Spans}
 use Rattle.grammar.specs.Tree.{ElementHead, Leaf, epsilon, action, predicate, call, token, terminal, end_of_input}
-use Rattle.grammar.specs.Encode.{leaf_kind, encode_leaf}
+use Rattle.grammar.specs.Encode.{leaf_kind, encode_leaf, encode_leaf_in}
 use Rattle.grammar.specs.Valid.{ok_leaf}
 use Rattle.grammar.specs.Found.{HeadAt}
 use Rattle.grammar.specs.Laws.Stands.{stands_head}
@@ -27,7 +27,7 @@ put_is level p = rw (p.is, p.moved) refl
 
 -- A leaf's name is the first word of its payload, or 0.
 name_is : {ws : List ℕ} {end p q : ℕ} (l : Leaf) → Spans ws end encode_leaf ok_leaf p l q → name_of (leaf_kind l) (get_or ws p 0) ≡ leaf_name l
-unfolding name_of leaf_kind leaf_name encode_leaf
+unfolding name_of leaf_kind leaf_name encode_leaf_in
 name_is epsilon s = refl
 name_is (action a) s = refl
 name_is (predicate a) s = refl

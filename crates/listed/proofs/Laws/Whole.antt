@@ -7,15 +7,16 @@ use lib.ListN.{length, get_or}
 use lib.Dec.{leb}
 use borrow.Author.Tests.{leb-true}
 use Rattle.std.specs.Cmp.{first_so, second_so}
+use Rattle.grammar.specs.Form.{newest}
 use Rattle.grammar.specs.Numbers.{trailer_words, rule_limit}
 use Rattle.grammar.specs.Lists.{all}
 use Rattle.grammar.specs.Tree.{Sheet, body_depth}
 use Rattle.grammar.specs.Words.{words}
 use Rattle.grammar.specs.Stands.{Stands}
 use Rattle.grammar.specs.Encode.{encode_rules}
-use Rattle.grammar.specs.Valid.{ok_rule, ok_block, ok_rules}
+use Rattle.grammar.specs.Valid.{ok_rule, ok_block, ok_rules_in}
 use Rattle.grammar.specs.Laws.Stands.{stands_split, stands_length, stands_within}
-use Rattle.grammar.specs.Laws.Trailer.{trailing, encode_split}
+use Rattle.grammar.specs.Laws.Trailer.{trailing, encode_split, trailing_in}
 use Rattle.listed.specs.Text.{line}
 use Rattle.listed.specs.Listed.{ok_word, refused_word, listed_refusal, listed_rules}
 use Rattle.listed.specs.Put.{PutFew, Filled}
@@ -29,10 +30,10 @@ record Parts (ws : List ℕ) (n : ℕ) (s : Sheet) : Type 0 where
   counted : get_or ws (n - trailer_words + 2) 0 ≡ length s.preserved
 
 parts : {result : List ℕ} {n : ℕ} (h : Held result n) → Parts (words result) n h.sheet
-unfolding trailing
+unfolding trailing_in
 parts {result} {n} h =
     let s = h.sheet in
-    let (p, a, b) = stands_split (encode_rules s.rules) (s.preserved ++ trailing s) (rw (encode_split s) at h.stands) in
+    let (p, a, b) = stands_split (encode_rules s.rules) (s.preserved ++ trailing s) (rw (encode_split newest s) at h.stands) in
     let (q, c, d) = stands_split s.preserved (trailing s) b in
     let k = stands_length a in
     let l = stands_length c in
@@ -67,7 +68,7 @@ module _ {result : List ℕ} {n : ℕ} (h : Held result n) where
     end_is = let p = (parts h).long in let q = o.is h in omega arith
 
     pub held_ruled : Ruled (words result) end
-    unfolding ok_rules
+    unfolding ok_rules_in
     held_ruled =
         let e = end_is in
         let s = (parts h).rules in

@@ -11,6 +11,7 @@ use lib.ListN.{length, replicate, length-append}
 use lib.Seq.{take-append_seam}
 use lib.Dec.{leb}
 use borrow.Author.Tests.{leb-true, le-leb}
+use Rattle.grammar.specs.Form.{newest}
 use Rattle.grammar.specs.Numbers.{most_words, result_bytes, trail_bytes, work_bytes}
 use Rattle.grammar.specs.Corners.{rust}
 use Rattle.grammar.specs.Lists.{all, member}
@@ -18,9 +19,9 @@ use Rattle.grammar.specs.Tree.{Sheet}
 use Rattle.grammar.specs.Words.{word_of, words, bytes}
 use Rattle.grammar.specs.Encode.{encode}
 use Rattle.grammar.specs.Stands.{Stands}
-use Rattle.grammar.specs.Valid.{ok_rules, fits}
+use Rattle.grammar.specs.Valid.{fits_in, ok_rules_in}
 use Rattle.grammar.specs.Reading as reading
-use Rattle.grammar.specs.Reading.{refused, sheet, is_length, read}
+use Rattle.grammar.specs.Reading.{refused, sheet, is_length, read, read_in}
 use Rattle.grammar.specs.Laws.Words.{AreBytes, length_bytes, words_bytes, in_words}
 use Rattle.grammar.specs.Laws.Parse.{either}
 use Rattle.grammar.specs.Laws.Stands.{slice_stands}
@@ -102,21 +103,21 @@ stops_positive (too_long x d y) e = omega arith
 refused_positive : {bs : List ℕ} {n : ℕ} → RefusedSo standard rust bs n → n ≡ 0 → ⊥
 unfolding member
 refused_positive {bs} {n} (by_reader e) z =
-    let m = refuses_only bs n e in let k : false ≡ true = rw z at m in absurd (let u : ◌≡◌ {A = ℕ} 0 1 = cc in omega arith)
+    let m = refuses_only newest bs n e in let k : false ≡ true = rw z at m in absurd (let u : ◌≡◌ {A = ℕ} 0 1 = cc in omega arith)
 refused_positive (by_run r k e s x) z = stops_positive x z
 
 module _ {bs : List ℕ} {plans steps : ℕ} {ws ts : List ℕ} (a : Answered standard rust bs plans steps ws ts) where
   -- The sheet of an answer in the result.
   answer_held : {after : List ℕ} (buffer : List ℕ) (n : ℕ) → after ≡ filled (bytes ws) buffer → n ≡ length ws → Held after n
-  unfolding ok_rules fits
+  unfolding ok_rules_in fits_in
   answer_held {after} buffer n f e =
       let g = a.good in
       let t = sheet_after a.handed_in a.stages in
       let r = g.reads_back in
-      let same : words (bytes ws) ≡ ws = rw g.is_encoding at (sym (is_encoding_words (bytes (encode t)) t r.found)) in
+      let same : words (bytes ws) ≡ ws = rw g.is_encoding at (sym (is_encoding_words newest (bytes (encode t)) t r.found)) in
       record {
         sheet = t;
-        good = let v = valid_parts t r.is_valid in and_from _ _ v.few v.rules;
+        good = let v = valid_parts newest t r.is_valid in and_from _ _ v.few v.rules;
         stands = rw (f, e, g.is_encoding) (front_stands buffer same);
         room = rw (f, e) (front_long ws buffer);
         most =
@@ -163,8 +164,8 @@ module _ (bs result trail work : List ℕ) (are : AreBytes bs) (lent : are_lent 
   refuses e = rw (e, outcome) refl
 
   short_answer : is_length (length bs) ≡ false → answer_to standard rust bs ≡ refusal 1
-  unfolding answer_to answer_reading read
-  short_answer e = rw (e, read) refl
+  unfolding answer_to answer_reading read_in
+  short_answer e = rw (e, read_in) refl
 
   -- The answer, and the outcome with its number.
   data Came : Type 0 where
@@ -198,7 +199,7 @@ module _ (bs result trail work : List ℕ) (are : AreBytes bs) (lent : are_lent 
     refused_answers r h (came_answered p s ws ts e f) =
         let a = theorems.answered standard rust bs are p s ws ts e in
         let z : 0 ≡ 4 * length ws = ap (λ o. o.result_length) (h ∙ f) in
-        let l = encode_length (sheet_after a.handed_in a.stages) in
+        let l = encode_length newest (sheet_after a.handed_in a.stages) in
         let m = ap length a.good.is_encoding in
         absurd (omega arith)
 

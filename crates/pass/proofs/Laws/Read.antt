@@ -10,13 +10,14 @@ use lib.ListN.{length, take, drop}
 use lib.Seq.{take-length}
 use lib.Dec.{leb}
 use borrow.Author.Tests.{leb-true}
+use Rattle.grammar.specs.Form.{newest}
 use Rattle.grammar.specs.Numbers.{parser, trailer_words, least_bytes, most_bytes, most_words, result_bytes}
 use Rattle.grammar.specs.Tree as tree
 use Rattle.grammar.specs.Words.{words}
 use Rattle.grammar.specs.Stands.{Stands}
 use Rattle.grammar.specs.Encode.{encode, encode_rules}
 use Rattle.grammar.specs.Reading as reading
-use Rattle.grammar.specs.Reading.{refused, sheet, is_length, read_words, read}
+use Rattle.grammar.specs.Reading.{refused, sheet, is_length, read_words, read, read_in}
 use Rattle.grammar.specs.Laws.Words.{AreBytes, length_words}
 use Rattle.grammar.specs.Laws.Stands.{stands_none}
 use Rattle.grammar.specs.Laws.Codec.{accepted_valid, is_encoding_words}
@@ -64,8 +65,8 @@ was_refused (refused m) a = let x = a.answer in ap refused cc
 was_refused (sheet s) a = absurd (let x = a.answer in let z : ◌≡◌ {A = ℕ} 0 1 = cc in omega arith)
 
 read_is : (bs : List ℕ) → is_length (length bs) ≡ true → read bs ≡ read_words (words bs)
-unfolding read
-read_is bs e = rw (e, read) refl
+unfolding read_in
+read_is bs e = rw (e, read_in) refl
 
 module _ (past : Bool) (bs : List ℕ) (long : is_length (length bs) ≡ true) where
   -- A refusal of the reader.
@@ -97,7 +98,7 @@ module _ (past : Bool) (bs : List ℕ) (long : is_length (length bs) ≡ true) w
     rows = (was_sheet (read_words (words bs)) a).3
 
     encoded : encode tree_read ≡ words bs
-    encoded = is_encoding_words bs tree_read reads
+    encoded = is_encoding_words newest bs tree_read reads
 
     answer_is : answer_to standard (survey.reading past) bs
         ≡ answer_run tree_read (eliminate_mutual_left_recursion standard (survey.reading past) tree_read)
@@ -158,7 +159,7 @@ module _ (past : Bool) (bs : List ℕ) (long : is_length (length bs) ≡ true) w
         -- A parser's unit stands in the result.
         pub begun : Begun result' end to r.rules counters
         begun =
-            let good = accepted_valid bs are tree_read reads in
+            let good = accepted_valid newest bs are tree_read reads in
             let l = encode_long tree_read in
             let q = ap length encoded in
             let c = length_words bs in

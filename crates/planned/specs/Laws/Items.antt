@@ -4,6 +4,7 @@ use Rattle.std.proofs.Math.Path.{refl, sym}
 use Rattle.std.proofs.Common.{ap, ◌∙◌, arith, add-one, le-leb}
 use Rattle.std.proofs.Math.ListN.{drop}
 use Rattle.std.proofs.lemmas.Bool.{lt-leb}
+use Rattle.grammar.specs.Form.{newest}
 use Rattle.grammar.specs.Tree.{ElementHead, Call, call, Element, leaf, Block}
 use Rattle.grammar.specs.Numbers.{call_kind, kind_end}
 use Rattle.grammar.specs.Encode.{leaf_kind, encode_block}
@@ -36,7 +37,10 @@ module _ (ws : List ℕ) (end d : ℕ) where
   pub standing_is : {at q : ℕ} {e : Element (Block d)} → ElementSpans ws end d at e q → standing ws end d at ≡ e
   unfolding standing
   standing_is {at} {q} {e} s =
-      rw (element_complete ws end (block_at ws end d) (encode_block d) (ok_block d) (block_complete ws end d) at e q s, standing)
+      rw (
+        element_complete newest ws end (block_at ws end d) (encode_block d) (ok_block d) (block_complete newest ws end d) at e q s,
+        standing,
+      )
 
 -- The element at an index.
 pub item_is : {bs : List ℕ} {x : Listed} {i at : ℕ} {made : Bool} → i < x.ne → place_of (half bs (x.e + i)) ≡ at

@@ -7,6 +7,7 @@ use native.Mathlib.Omega.{arith}
 use lib.ListN.{length, length-append}
 use lib.Seq.{take-append_seam, drop-append_seam}
 use borrow.Author.Tests.{leb-true}
+use Rattle.grammar.specs.Form.{newest}
 use Rattle.grammar.specs.Numbers.{most_words}
 use Rattle.grammar.specs.Tree as tree
 use Rattle.grammar.specs.Words.{words}
@@ -34,14 +35,14 @@ encoded : {bs work : List ℕ} {s : tree.Sheet} → Taken bs work s → encode s
 encoded {bs} t =
     let l = length_words bs in
     let h = (lent t).least in
-    (reads_sheet (words_sound (words bs) (omega arith)) t.is).words
+    (reads_sheet (words_sound newest (words bs) (omega arith)) t.is).words
 
 -- The words behind the rules are the preserved ids.
 kept_between : (s : tree.Sheet) {ws : List ℕ} {from to : ℕ} → encode s ≡ ws → from ≡ length (encode_rules s.rules)
     → to ≡ from + length s.preserved → between ws from to ≡ s.preserved
 kept_between s {ws} {from} {to} e f g =
     let n : to - from ≡ length s.preserved = omega arith in
-    rw (n, f, ← e, encode_split s, drop-append_seam (encode_rules s.rules) (s.preserved ++ trailing s))
+    rw (n, f, ← e, encode_split newest s, drop-append_seam (encode_rules s.rules) (s.preserved ++ trailing s))
     (take-append_seam s.preserved (trailing s))
 
 -- An answer of the reader.
@@ -76,7 +77,7 @@ module _ (bs work : List ℕ) {r : Reading} (a : ReadAs (read_lent bs work) (Ok 
     read_kept =
         let w = encoded (taken bs work was.tree was.is) in
         let l = length_words bs in
-        let k = ap length (sym w ∙ encode_split was.tree) in
+        let k = ap length (sym w ∙ encode_split newest was.tree) in
         let i = length-append (encode_rules was.tree.rules) (was.tree.preserved ++ trailing was.tree) in
         let j = length-append was.tree.preserved (trailing was.tree) in
         let x = read_end in
@@ -84,7 +85,7 @@ module _ (bs work : List ℕ) {r : Reading} (a : ReadAs (read_lent bs work) (Ok 
         record {
           order = omega arith;
           inside = omega arith;
-          rises = ap rising between_read ∙ (valid_parts was.tree was.good).preserved;
+          rises = ap rising between_read ∙ (valid_parts newest was.tree was.good).preserved;
         }
 
 pub ruleset readings = (read_small, read_kept)

@@ -9,8 +9,10 @@ use lib.ListN.{get_or}
 use lib.Dec.{leb, eqb}
 use borrow.Author.Tests.{le-leb, lt-leb, eq-eqb, ne_eqb}
 use Rattle.grammar.specs.Numbers.{most_name, non_local}
+use Rattle.grammar.specs.Form.{Form, call_words}
 use Rattle.grammar.specs.Parse.{got, given, many}
-use Rattle.grammar.specs.Read.{is_name, is_label, action_of, predicate_of, option_at, reference_at, body_at, call_at, token_at, leaf_at}
+use Rattle.grammar.specs.Read.{is_name, is_label, action_of, predicate_of, option_at, reference_at, body_at, token_at, call_at_in}
+use Rattle.grammar.specs.Read.{leaf_at_in}
 use Rattle.std.specs.Prelude.{Option, Some, None, Result, is_ok, is_err}
 use Rattle.words.specs.declared.numbers.ReferenceKind.{ReferenceKind}
 use Rattle.words.specs.declared.numbers.Unnamed.{Unnamed}
@@ -74,9 +76,9 @@ module _ (ws : List ℕ) (end at : ℕ) {r : Option ℕ} where
   unfolding option_at
   option_named e = e ∙ given_step _ _ _ _
 
-  pub call_named : r ≡ step_of (named ws end 2 at) → r ≡ step_of (call_at ws end at)
-  unfolding call_at
-  call_named e = e ∙ given_step _ _ _ _
+  pub call_named : (form : Form) {n : ℕ} → n ≡ call_words form → r ≡ step_of (named ws end n at) → r ≡ step_of (call_at_in form ws end at)
+  unfolding call_at_in
+  call_named form g e = e ∙ rw g (given_step _ _ _ _)
 
   pub token_named : r ≡ step_of (named ws end 1 at) → r ≡ step_of (token_at ws end at)
   unfolding token_at
@@ -124,31 +126,32 @@ body_any ws end at = go (leb 2 (end - at)) refl
           then_same (many (reference_at ws end) (get_or ws (at + 1) 0) (at + 2)) (predicate_of (get_or ws at 0)),
         )
 
-module _ (ws : List ℕ) (end at : ℕ) where
-  pub leaf_plain : {k : Kind} → k ≡ Epsilon ⊎ (k ≡ Terminal ⊎ k ≡ EndOfInput) → Some at ≡ step_of (leaf_at ws end (kind_number k) at)
-  unfolding leaf_at
+module _ (form : Form) (ws : List ℕ) (end at : ℕ) where
+  pub leaf_plain : {k : Kind} → k ≡ Epsilon ⊎ (k ≡ Terminal ⊎ k ≡ EndOfInput)
+      → Some at ≡ step_of (leaf_at_in form ws end (kind_number k) at)
+  unfolding leaf_at_in
   leaf_plain (inl e) = rw e
   leaf_plain (inr (inl e)) = rw e
   leaf_plain (inr (inr e)) = rw e
 
   module _ {k : Kind} {r : Option ℕ} where
-    pub leaf_call : k ≡ Call → r ≡ step_of (call_at ws end at) → r ≡ step_of (leaf_at ws end (kind_number k) at)
-    unfolding leaf_at
+    pub leaf_call : k ≡ Call → r ≡ step_of (call_at_in form ws end at) → r ≡ step_of (leaf_at_in form ws end (kind_number k) at)
+    unfolding leaf_at_in
     leaf_call e f = rw e f
 
-    pub leaf_token : k ≡ Token → r ≡ step_of (token_at ws end at) → r ≡ step_of (leaf_at ws end (kind_number k) at)
-    unfolding leaf_at
+    pub leaf_token : k ≡ Token → r ≡ step_of (token_at ws end at) → r ≡ step_of (leaf_at_in form ws end (kind_number k) at)
+    unfolding leaf_at_in
     leaf_token e f = rw e f
 
     pub leaf_body : k ≡ Action ⊎ k ≡ Predicate → r ≡ step_of (body_at ws end action_of at)
-        → r ≡ step_of (leaf_at ws end (kind_number k) at)
-    unfolding leaf_at
+        → r ≡ step_of (leaf_at_in form ws end (kind_number k) at)
+    unfolding leaf_at_in
     leaf_body (inl e) f = rw e f
     leaf_body (inr e) f = rw e (f ∙ body_any ws end at)
 
   pub leaf_other : (k : Kind) → (k ≡ Epsilon ⊎ (k ≡ Terminal ⊎ k ≡ EndOfInput) → ⊥) → (k ≡ Call → ⊥) → (k ≡ Token → ⊥)
-      → (k ≡ Action ⊎ k ≡ Predicate → ⊥) → None ≡ step_of (leaf_at ws end (kind_number k) at)
-  unfolding leaf_at
+      → (k ≡ Action ⊎ k ≡ Predicate → ⊥) → None ≡ step_of (leaf_at_in form ws end (kind_number k) at)
+  unfolding leaf_at_in
   leaf_other Epsilon a b c d = absurd (a (inl refl))
   leaf_other Action a b c d = absurd (d (inl refl))
   leaf_other Predicate a b c d = absurd (d (inr refl))

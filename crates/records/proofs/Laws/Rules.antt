@@ -6,11 +6,12 @@ use native.Mathlib.Omega.{arith}
 use lib.ListN.{length, get_or, set, replicate, length-append, length-map, length-replicate}
 use lib.Seq.{set-append_seam}
 use borrow.Author.Tests.{eq-eqb, ne_eqb}
+use Rattle.grammar.specs.Form.{Form}
 use Rattle.grammar.specs.Stands.{Stands}
 use Rattle.grammar.specs.Tree.{Rule, body_depth}
 use Rattle.grammar.specs.Parse.{Got, got, bad, ◌then◌}
-use Rattle.grammar.specs.Encode.{encode_rule, encode_rules, encode_block}
-use Rattle.grammar.specs.Read.{rule_at, block_at, rules_at}
+use Rattle.grammar.specs.Encode.{encode_rule, encode_rules_in, encode_block_in}
+use Rattle.grammar.specs.Read.{rule_at_in, block_at_in, rules_at_in}
 use Rattle.grammar.specs.Numbers.{rule_limit}
 use Rattle.grammar.specs.Ids.{rule_ids, rule_names}
 use Rattle.grammar.specs.Laws.Stands.{stands_length, stands_head}
@@ -19,16 +20,16 @@ use Rattle.grammar.specs.Laws.Sound.{rule_sound, block_sound}
 use Rattle.std.specs.Prelude.{Option, Some, None}
 use Rattle.records.specs.declared.rules.Rules.{Rules}
 use Rattle.records.specs.Step.{step_of}
-use Rattle.records.specs.Rules.{row, places_from, RowsOf, IsEmpty, IsWith, RulesRead, is_got}
+use Rattle.records.specs.Rules.{row, places_from_in, RowsOfIn, IsEmpty, IsWith, RulesReadIn, is_got}
 use Rattle.records.specs.Laws.Places.{places_length, places_more}
 
-pub record SoFar (ws : List ℕ) (end at : ℕ) (rules : Rules) : Type 0 where
+pub record SoFar (form : Form) (ws : List ℕ) (end at : ℕ) (rules : Rules) : Type 0 where
   pub read : List Rule
-  pub rows : RowsOf read rules
+  pub rows : RowsOfIn form read rules
   pub few : rules.n ≤ rule_limit
-  pub place : at ≡ length (encode_rules read)
+  pub place : at ≡ length (encode_rules_in form read)
   pub within : at ≤ end
-  pub rest : rules_at ws end rule_limit 0 ≡ (rules_at ws end (rule_limit - rules.n) at then λ rs q. got (read ++ rs) q)
+  pub rest : rules_at_in form ws end rule_limit 0 ≡ (rules_at_in form ws end (rule_limit - rules.n) at then λ rs q. got (read ++ rs) q)
 
 then_self : {A : Type 0} (g : Got A) → g ≡ (g then λ a q. got a q)
 then_self (got a q) = refl
@@ -47,13 +48,14 @@ pub row_long : (xs : List ℕ) → length xs ≤ rule_limit → length (row xs) 
 unfolding row
 row_long xs l = rw (length-append, length-replicate) (omega arith)
 
-rules_length : (rs : List Rule) (r : Rule)
-    → length (encode_rules (rs ++ (r ∷ []))) ≡ length (encode_rules rs) + length (encode_rule (encode_block body_depth) r)
-rules_length [] r = let l = length-append (encode_rule (encode_block body_depth) r) [] in omega arith
-rules_length (x ∷ rs) r =
-    let i = rules_length rs r in
-    let a = length-append (encode_rule (encode_block body_depth) x) (encode_rules rs) in
-    let b = length-append (encode_rule (encode_block body_depth) x) (encode_rules (rs ++ (r ∷ []))) in
+rules_length : (form : Form) (rs : List Rule) (r : Rule)
+    → length (encode_rules_in form (rs ++ (r ∷ []))) ≡ length (encode_rules_in form rs) + length
+    (encode_rule (encode_block_in form body_depth) r)
+rules_length form [] r = let l = length-append (encode_rule (encode_block_in form body_depth) r) [] in omega arith
+rules_length form (x ∷ rs) r =
+    let i = rules_length form rs r in
+    let a = length-append (encode_rule (encode_block_in form body_depth) x) (encode_rules_in form rs) in
+    let b = length-append (encode_rule (encode_block_in form body_depth) x) (encode_rules_in form (rs ++ (r ∷ []))) in
     omega arith
 
 -- the arrays with one rule more
@@ -61,9 +63,10 @@ row_with : {before after : List ℕ} (xs ys : List ℕ) (n x : ℕ) → after �
     → ys ≡ xs ++ (x ∷ []) → after ≡ row ys
 row_with xs ys n x e f g h k = e ∙ ap (λ l. set l n x) f ∙ row_more xs x n g h ∙ sym (ap row k)
 
-pub rows_more : {rules more : Rules} {id name at : ℕ} (rs : List Rule) (r : Rule) → RowsOf rs rules → rules.n < rule_limit
-    → at ≡ length (encode_rules rs) → id ≡ r.id → name ≡ r.name → IsWith rules id name at more → RowsOf (rs ++ (r ∷ [])) more
-rows_more {rules} {more} {id} {name} {at} rs r o h p e f w =
+pub rows_more : (form : Form) {rules more : Rules} {id name at : ℕ} (rs : List Rule) (r : Rule) → RowsOfIn form rs rules
+    → rules.n < rule_limit
+    → at ≡ length (encode_rules_in form rs) → id ≡ r.id → name ≡ r.name → IsWith rules id name at more → RowsOfIn form (rs ++ (r ∷ [])) more
+rows_more form {rules} {more} {id} {name} {at} rs r o h p e f w =
     record {
       ids =
           row_with (rule_ids rs) _ rules.n id w.ids o.ids (o.count ∙ sym (length-map rs _)) h
@@ -72,21 +75,21 @@ rows_more {rules} {more} {id} {name} {at} rs r o h p e f w =
           row_with (rule_names rs) _ rules.n name w.names o.names (o.count ∙ sym (length-map rs _)) h
           (map-append (λ x. x.name) rs (r ∷ []) ∙ ap (λ i. rule_names rs ++ (i ∷ [])) (sym f));
       places =
-          row_with (places_from 0 rs) _ rules.n at w.places o.places (o.count ∙ sym (places_length 0 rs)) h
-          (places_more rs r 0 ∙ ap (λ i. places_from 0 rs ++ (i ∷ [])) (let z : 0 + length (encode_rules rs) ≡ at = omega arith in z));
+          row_with (places_from_in form 0 rs) _ rules.n at w.places o.places (o.count ∙ sym (places_length form 0 rs)) h
+          (places_more form rs r 0 ∙ ap (λ i. places_from_in form 0 rs ++ (i ∷ [])) (let z : 0 + length (encode_rules_in form rs) ≡ at = omega arith in z));
       count = omega (arith, w.count, o.count, length-append rs (r ∷ []));
     }
 
-pub none_so_far : (ws : List ℕ) (end : ℕ) {rules : Rules} → IsEmpty rules → SoFar ws end 0 rules
-unfolding row places_from
-none_so_far ws end e =
+pub none_so_far : (form : Form) (ws : List ℕ) (end : ℕ) {rules : Rules} → IsEmpty rules → SoFar form ws end 0 rules
+unfolding row places_from_in
+none_so_far form ws end e =
     record {
       read = [];
       rows = record { ids = e.ids; names = e.names; places = e.places; count = e.count };
       few = omega (arith, e.count);
       place = refl;
       within = omega arith;
-      rest = rw e.count (then_self (rules_at ws end rule_limit 0));
+      rest = rw e.count (then_self (rules_at_in form ws end rule_limit 0));
     }
 
 bad_got : {A : Type 0} (g : Got A) → step_of g ≡ None → g ≡ bad
@@ -102,86 +105,89 @@ then_then : {A : Type 0} (g : Got (List A)) (r : A) (rs : List A)
 then_then (got xs q) r rs = ap (λ l. got l q) (sym (append_assoc rs (r ∷ []) xs))
 then_then bad r rs = refl
 
-rule_words_lem : {ws : List ℕ} {end at p : ℕ} (r : Rule) → Stands ws end (encode_rule (encode_block body_depth) r) at p
+rule_words_lem : (form : Form) {ws : List ℕ} {end at p : ℕ} (r : Rule)
+    → Stands ws end (encode_rule (encode_block_in form body_depth) r) at p
     → (get_or ws at 0 ≡ r.id) × (get_or ws (at + 1) 0 ≡ r.name)
 unfolding encode_rule
-rule_words_lem r s = (stands_head s, s.run.1.0)
+rule_words_lem form r s = (stands_head s, s.run.1.0)
 
 -- one more rule, and the ways in which there is none
-module _ {ws : List ℕ} {end at : ℕ} {rules : Rules} (f : SoFar ws end at rules) where
-  all_bad : rules_at ws end (rule_limit - rules.n) at ≡ bad → rules_at ws end rule_limit 0 ≡ bad
+module _ {form : Form} {ws : List ℕ} {end at : ℕ} {rules : Rules} (f : SoFar form ws end at rules) where
+  all_bad : rules_at_in form ws end (rule_limit - rules.n) at ≡ bad → rules_at_in form ws end rule_limit 0 ≡ bad
   all_bad e = f.rest ∙ ap (λ g. g then λ rs q. got (f.read ++ rs) q) e
 
   module _ (no : at ≡ end → ⊥) where
-    step_open : (m : ℕ) → rules_at ws end (suc m) at
-        ≡ (rule_at ws end (block_at ws end body_depth) at then λ r p. rules_at ws end m p then λ rs q. got (r ∷ rs) q)
-    unfolding rules_at
-    step_open m = rw (ne_eqb at end no, rules_at)
+    step_open : (m : ℕ) → rules_at_in form ws end (suc m) at
+        ≡ (rule_at_in form ws end (block_at_in form ws end body_depth) at then λ r p. rules_at_in form ws end m p then λ rs q. got (r ∷ rs) q)
+    unfolding rules_at_in
+    step_open m = rw (ne_eqb at end no, rules_at_in)
 
-    pub full_bad : rules.n ≡ rule_limit → rules_at ws end rule_limit 0 ≡ bad
-    unfolding rules_at
-    full_bad e = all_bad (let z : rule_limit - rules.n ≡ 0 = omega arith in rw (z, ne_eqb at end no, rules_at))
+    pub full_bad : rules.n ≡ rule_limit → rules_at_in form ws end rule_limit 0 ≡ bad
+    unfolding rules_at_in
+    full_bad e = all_bad (let z : rule_limit - rules.n ≡ 0 = omega arith in rw (z, ne_eqb at end no, rules_at_in))
 
     module _ (h : rules.n ≡ rule_limit → ⊥) where
       left_over : rule_limit - rules.n ≡ suc (rule_limit - (rules.n + 1))
       left_over = let z = f.few in omega arith
 
-      pub rule_bad : {s : Option ℕ} → s ≡ step_of (rule_at ws end (block_at ws end body_depth) at) → s ≡ None
-          → rules_at ws end rule_limit 0 ≡ bad
+      pub rule_bad : {s : Option ℕ} → s ≡ step_of (rule_at_in form ws end (block_at_in form ws end body_depth) at) → s ≡ None
+          → rules_at_in form ws end rule_limit 0 ≡ bad
       rule_bad e t =
           let m = rule_limit - (rules.n + 1) in
           all_bad
           (rw left_over
           (step_open m
-          ∙ ap (λ g. g then λ r p. rules_at ws end m p then λ rs q. got (r ∷ rs) q)
-          (bad_got (rule_at ws end (block_at ws end body_depth) at) (sym e ∙ t))))
+          ∙ ap (λ g. g then λ r p. rules_at_in form ws end m p then λ rs q. got (r ∷ rs) q)
+          (bad_got (rule_at_in form ws end (block_at_in form ws end body_depth) at) (sym e ∙ t))))
 
-      pub more_so_far : {s : Option ℕ} {p w v : ℕ} {more : Rules} → s ≡ step_of (rule_at ws end (block_at ws end body_depth) at) → s ≡ Some p
-          → w ≡ get_or ws at 0 → v ≡ get_or ws (at + 1) 0 → IsWith rules w v at more → SoFar ws end p more
+      pub more_so_far : {s : Option ℕ} {p w v : ℕ} {more : Rules}
+          → s ≡ step_of (rule_at_in form ws end (block_at_in form ws end body_depth) at) → s ≡ Some p
+          → w ≡ get_or ws at 0 → v ≡ get_or ws (at + 1) 0 → IsWith rules w v at more → SoFar form ws end p more
       more_so_far {s} {p} {w} {v} {more} e t x y m =
-          let g = next_got (rule_at ws end (block_at ws end body_depth) at) p (sym e ∙ t) in
+          let g = next_got (rule_at_in form ws end (block_at_in form ws end body_depth) at) p (sym e ∙ t) in
           let r = g.0 in
-          let u = yields_got (rule_sound ws end _ _ _ (block_sound ws end body_depth) at f.within) g.1 in
+          let u = yields_got (rule_sound form ws end _ _ _ (block_sound form ws end body_depth) at f.within) g.1 in
           let l = stands_length u.stands in
-          let q = rule_words_lem r u.stands in
+          let q = rule_words_lem form r u.stands in
           let c = m.count in
           let m' = rule_limit - (rules.n + 1) in
           let k : rule_limit - more.n ≡ m' = omega arith in
           record {
             read = f.read ++ (r ∷ []);
-            rows = rows_more f.read r f.rows (let z = f.few in omega arith) f.place (x ∙ q.0) (y ∙ q.1) m;
+            rows = rows_more form f.read r f.rows (let z = f.few in omega arith) f.place (x ∙ q.0) (y ∙ q.1) m;
             few = let z = f.few in omega arith;
-            place = omega (arith, rules_length f.read r, f.place);
+            place = omega (arith, rules_length form f.read r, f.place);
             within = l.1;
             rest =
                 f.rest
                 ∙ rw (left_over, k)
                 (ap (λ h. h then λ rs q. got (f.read ++ rs) q)
-                (step_open m' ∙ ap (λ h. h then λ r p. rules_at ws end m' p then λ rs q. got (r ∷ rs) q) g.1)
-                ∙ then_then (rules_at ws end m' p) r f.read);
+                (step_open m' ∙ ap (λ h. h then λ r p. rules_at_in form ws end m' p then λ rs q. got (r ∷ rs) q) g.1)
+                ∙ then_then (rules_at_in form ws end m' p) r f.read);
           }
 
-  all_read : at ≡ end → rules_at ws end rule_limit 0 ≡ got f.read at
-  unfolding rules_at
+  all_read : at ≡ end → rules_at_in form ws end rule_limit 0 ≡ got f.read at
+  unfolding rules_at_in
   all_read e =
       f.rest
       ∙ rw e
       (ap (λ g. g then λ rs q. got (f.read ++ rs) q) (ended (rule_limit - rules.n)) ∙ ap (λ l. got l end) (append-nil f.read))
     where
-      ended : (m : ℕ) → rules_at ws end m end ≡ got [] end
-      ended zero = rw (eq-eqb end end refl, rules_at)
-      ended (suc m) = rw (eq-eqb end end refl, rules_at)
+      ended : (m : ℕ) → rules_at_in form ws end m end ≡ got [] end
+      ended zero = rw (eq-eqb end end refl, rules_at_in)
+      ended (suc m) = rw (eq-eqb end end refl, rules_at_in)
 
-  pub read_all : at ≡ end → RulesRead ws end (Some rules)
+  pub read_all : at ≡ end → RulesReadIn form ws end (Some rules)
   read_all e =
       let h = all_read e in
       record {
         good = sym (ap is_got h);
-        rows = λ o rs q w g. let z : f.read ≡ rs = cc in let y : rules ≡ o = cc in subst (λ x. RowsOf rs x) y (subst (λ x. RowsOf x rules) z f.rows);
+        rows = λ o rs q w g. let z : f.read ≡ rs = cc in let y : rules ≡ o = cc in subst (λ x. RowsOfIn form rs x) y
+            (subst (λ x. RowsOfIn form x rules) z f.rows);
       }
 
-pub read_none : (ws : List ℕ) (end : ℕ) → rules_at ws end rule_limit 0 ≡ bad → RulesRead ws end None
-read_none ws end e =
+pub read_none : (form : Form) (ws : List ℕ) (end : ℕ) → rules_at_in form ws end rule_limit 0 ≡ bad → RulesReadIn form ws end None
+read_none form ws end e =
     record {
       good = sym (ap is_got e);
       rows = λ o rs q w f. never cc;

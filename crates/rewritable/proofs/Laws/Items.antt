@@ -11,13 +11,12 @@ use borrow.Author.Tests.{eqb-true, lt-ltb, le-ltb}
 use Rattle.grammar.specs.Numbers.{once, call_kind, kind_end}
 use Rattle.grammar.specs.Tree.{ElementHead, Call, Leaf, epsilon, action, predicate, call, token, terminal, end_of_input, Element, leaf, block}
 use Rattle.grammar.specs.Tree.{Block}
-use Rattle.grammar.specs.Encode.{leaf_kind, encode_leaf}
+use Rattle.grammar.specs.Encode.{leaf_kind, encode_leaf, encode_leaf_in}
 use Rattle.grammar.specs.Valid.{ok_leaf}
 use Rattle.grammar.specs.Stands.{Spans}
 use Rattle.grammar.specs.Found.{ElementSpans, HeadAt}
 use Rattle.grammar.specs.Laws.Parse.{either}
-use Rattle.grammar.specs.Laws.Stands.{stands_head}
-use Rattle.grammar.specs.Laws.Opened.{HeadWords, Opened, opened_leaf, opened_block, opened}
+use Rattle.grammar.specs.Laws.Opened.{HeadWords, Opened, opened_leaf, opened_block, opened, call_stands}
 use Rattle.reference.specs.Walks.{sort_of, is_epsilon_only}
 use Rattle.reference.specs.Substitute.{plain}
 use Rattle.planned.specs.Layout.{made_if}
@@ -90,7 +89,7 @@ module _ (d m : ℕ) (made : Bool) where
 
   module _ {ws : List ℕ} {end at k p : ℕ} (head : HeadAt ws end at k p) where
     sorted_item : (e : Element (Block d)) (q : ℕ) → ElementSpans ws end d at e q → Sorted ws at p e
-    unfolding leaf_kind encode_leaf call_of plain sort_of
+    unfolding leaf_kind encode_leaf_in call_of plain sort_of
     sorted_item e q s = go (opened e s)
       where
         one : {q o : ℕ} (h : ElementHead) (l : Leaf) → HeadWords ws end at h (leaf_kind l) o → Spans ws end encode_leaf ok_leaf o l q
@@ -101,12 +100,13 @@ module _ (d m : ℕ) (made : Bool) where
         one {o = o} h (call c) w u =
             let x : o ≡ p = let y = w.place in let z = head.payload_is in omega arith in
             let u' = rw x at u in
+            let s = call_stands c u'.stands in
             is_call h c
             (record {
               kind = let y = w.packed in omega arith;
               quantifier = let y = w.packed in omega arith;
-              name = stands_head u'.stands;
-              arguments = u'.stands.run.1.0;
+              name = s.named;
+              arguments = s.arguments_are;
             })
             (made_call h c)
         one h (token a) w u = no_call (λ z. let y = w.packed in omega arith) (made_other (leaf h (token a)) refl refl)

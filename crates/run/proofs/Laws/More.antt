@@ -6,6 +6,7 @@ use mathlib.Core.List.{List, [], ◌∷◌, ◌++◌}
 use mathlib.Core.Bool.{Bool, true}
 use native.Mathlib.Omega.{arith}
 use lib.ListN.{length, get_or, length-append}
+use Rattle.grammar.specs.Form.{newest}
 use Rattle.grammar.specs.Numbers.{trailer_words, most_words, word_end}
 use Rattle.grammar.specs.Tree.{Sheet, inner_depth}
 use Rattle.grammar.specs.Lists.{each}
@@ -191,7 +192,7 @@ module _ {limits : R.Limits} {past : Bool} {result trail work : List ℕ} {calls
     plans_small =
         let r = next.room in
         let h = m.plans in
-        let l = leb-true (length s.rules) rule_limit (valid_parts s m.midway.is_valid).few in
+        let l = leb-true (length s.rules) rule_limit (valid_parts newest s m.midway.is_valid).few in
         omega arith
 
     module _ {n : ℕ} (e : n ≡ st.at.rules.n) {calls' corners' : List (List ℕ)} {r : Renewed}

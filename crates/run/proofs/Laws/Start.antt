@@ -11,7 +11,7 @@ use lib.Dec.{leb}
 use borrow.Author.Tests.{leb-true}
 use Rattle.grammar.specs.Numbers.{trailer_words, most_words}
 use Rattle.grammar.specs.Encode.{encode}
-use Rattle.grammar.specs.Valid.{fits}
+use Rattle.grammar.specs.Valid.{fits_in}
 use Rattle.grammar.specs.Lists.{rising, total}
 use Rattle.grammar.specs.Words.{words}
 use Rattle.grammar.specs.Laws.Stands.{stands_none}
@@ -39,7 +39,7 @@ use Rattle.run.specs.Turn.{ended_with, TurnedOf, RunOf, Onward}
 
 module _ {result : List ℕ} {end to : ℕ} {rules : Rules} {counters : Counters} (x : Begun result end to rules counters) where
   begun_short : to + trailer_words ≤ most_words
-  unfolding fits
+  unfolding fits_in
   begun_short =
       let e = held_long x.held in
       let l = leb-true (length (encode x.sheet)) most_words (first_so (leb (length (encode x.sheet)) most_words) _ x.is_fitting) in

@@ -8,6 +8,7 @@ use lib.ListN.{length, get_or, take, drop, length-drop}
 use lib.Seq.{length-take-le}
 use lib.Dec.{eqb}
 use borrow.Author.Tests.{leb-true, eqb-true}
+use Rattle.grammar.specs.Form.{newest}
 use Rattle.grammar.specs.Numbers.{least_bytes, trailer_words, rule_limit}
 use Rattle.grammar.specs.Numbers.{bad_record}
 use Rattle.grammar.specs.Parse.{Got, got, bad, ◌then◌, given}
@@ -19,8 +20,9 @@ use Rattle.grammar.specs.Lists.{rising}
 use Rattle.grammar.specs.Ids.{is_distinct, is_below}
 use Rattle.grammar.specs.Tree as tree
 use Rattle.grammar.specs.Reading as reading
-use Rattle.grammar.specs.Reading.{refused, sheet, trailer, unit_kind, first_distance, second_distance, rules_end, is_trailer}
-use Rattle.grammar.specs.Reading.{preserved_ids, counters_of, rules_of, sheet_of, judge, read_words}
+use Rattle.grammar.specs.Reading.{refused, sheet, trailer, unit_kind, first_distance, second_distance, rules_end, is_trailer, read_words_in}
+use Rattle.grammar.specs.Reading.{rules_of_in}
+use Rattle.grammar.specs.Reading.{preserved_ids, counters_of, sheet_of, judge, read_words}
 use Rattle.grammar.specs.Laws.Words.{length_words}
 use Rattle.grammar.specs.Laws.Stands.{stands_length}
 use Rattle.grammar.specs.Laws.Parse.{yields_got}
@@ -182,7 +184,7 @@ module _ {ws : List ℕ} {end : ℕ} {r : Option Rules} (f : RulesRead ws end r)
     rules_got : GotRules ws end rules
     rules_got =
         let g = got_of (rules_at ws end rule_limit 0) (sym f.good ∙ ap is_some e) in
-        let y = yields_got (rules_sound ws end rule_limit 0 (omega arith)) g.2 in
+        let y = yields_got (rules_sound newest ws end rule_limit 0 (omega arith)) g.2 in
         let o = f.rows rules g.0 g.1 e g.2 in
         let c = o.count in
         let w = y.few in
@@ -208,8 +210,8 @@ end_at p l s = record { place = p; least = l; split = s }
 -- the records in front of the trailer
 module _ (bs : List ℕ) {b : Bool} (e : b ≡ is_trailer (words bs)) where
   pub trailer_refused : b ≡ false → ReadAs (read_words (words bs)) (Err BadTrailer)
-  unfolding read_words
-  trailer_refused h = read_refused BadTrailer (rw (sym e ∙ h, read_words) refl) refl
+  unfolding read_words_in
+  trailer_refused h = read_refused BadTrailer (rw (sym e ∙ h, read_words_in) refl) refl
 
   module _ (h : b ≡ true) where
     trailer_true : is_trailer (words bs) ≡ true
@@ -232,8 +234,8 @@ module _ (bs : List ℕ) {b : Bool} (e : b ≡ is_trailer (words bs)) where
 
       opened : read_words (words bs)
           ≡ judge (words bs) (rules_at (words bs) end rule_limit 0 then λ rs q. given (rising (preserved_ids (words bs))) λ _. got rs q)
-      unfolding read_words rules_of
-      opened = rw (trailer_true, read_words) (rw end_is refl)
+      unfolding read_words_in rules_of_in
+      opened = rw (trailer_true, read_words_in) (rw end_is refl)
 
       ids_are : preserved_ids (words bs) ≡ take (t - end) (drop end (words bs))
       unfolding preserved_ids

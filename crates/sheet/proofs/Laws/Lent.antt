@@ -8,7 +8,7 @@ use lib.Dec.{leb}
 use borrow.Author.Tests.{le-leb, lt-leb, leb-true}
 use Rattle.grammar.specs.Numbers.{least_bytes, most_bytes, work_bytes}
 use Rattle.grammar.specs.Words.{words}
-use Rattle.grammar.specs.Reading.{read_words, read, is_length}
+use Rattle.grammar.specs.Reading.{read_words, is_length, read_in}
 use Rattle.std.specs.Prelude.{Result, Err}
 use Rattle.std.specs.Cmp.{first_so, second_so}
 use Rattle.words.specs.declared.numbers.Refusal.{Refusal}
@@ -55,8 +55,8 @@ module _ (bs work : List ℕ) {b : Bool} (e : b ≡ is_length (length bs)) where
     work_after_lem g = rw (length_true, lt-leb work_bytes (length work) g, work_after) refl
 
     pub examined : {r : Result Reading Refusal} → work_bytes ≤ length work → ReadAs (read_words (words bs)) r → ReadAs (read_lent bs work) r
-    unfolding read_lent read
-    examined g a = rw (length_true, le-leb work_bytes (length work) g, read_lent) (rw (length_true, read) a)
+    unfolding read_lent read_in
+    examined g a = rw (length_true, le-leb work_bytes (length work) g, read_lent) (rw (length_true, read_in) a)
 
     pub examined_after : (mid : List ℕ) {after : List ℕ} → work_bytes ≤ length work → length mid ≡ length work
         → after ≡ replicate (length mid) 0 → after ≡ work_after bs work

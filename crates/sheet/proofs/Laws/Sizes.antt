@@ -7,13 +7,14 @@ use native.Mathlib.Omega.{arith}
 use lib.ListN.{length, length-append}
 use lib.Dec.{leb}
 use borrow.Author.Tests.{leb-true}
+use Rattle.grammar.specs.Form.{newest}
 use Rattle.grammar.specs.Stands.{Stands}
 use Rattle.grammar.specs.Numbers.{least_bytes, trailer_words, work_bytes, rule_limit}
 use Rattle.grammar.specs.Tree as tree
 use Rattle.grammar.specs.Words.{words}
 use Rattle.grammar.specs.Encode.{encode_rules}
 use Rattle.grammar.specs.Reading as reading
-use Rattle.grammar.specs.Reading.{refused, sheet, is_length, read_words, read}
+use Rattle.grammar.specs.Reading.{refused, sheet, is_length, read_words, read, read_in}
 use Rattle.grammar.specs.Laws.Words.{length_words}
 use Rattle.grammar.specs.Laws.Stands.{stands_self, stands_split, stands_length, stands_within}
 use Rattle.grammar.specs.Laws.Whole as Whole
@@ -23,7 +24,7 @@ use Rattle.std.specs.Prelude.{Ok, Err}
 use Rattle.words.specs.declared.numbers.Refusal.{Refusal}
 use Rattle.words.specs.Refusal.{refusal_number}
 use Rattle.grammar.specs.Found.{FoundRules, RulesSpan}
-use Rattle.grammar.specs.Laws.Trailer.{trailing, encode_split}
+use Rattle.grammar.specs.Laws.Trailer.{trailing, encode_split, trailing_in}
 use Rattle.ids.specs.declared.survey.Survey.{Survey}
 use Rattle.ids.specs.Survey.{Surveyed}
 use Rattle.sheet.specs.declared.answer.Reading.{Reading}
@@ -53,16 +54,16 @@ abbrev behind : tree.Sheet → List ℕ
 behind s = s.preserved ++ trailing s
 
 behind_long : (s : tree.Sheet) → trailer_words ≤ length (behind s)
-unfolding trailing
+unfolding trailing_in
 behind_long s = let l = length-append s.preserved (trailing s) in omega arith
 
 good_words : (bs : List ℕ) (s : tree.Sheet) → least_bytes ≤ length bs → read_words (words bs) ≡ sheet s → Good bs s
 good_words bs s h e =
     let l = length_words bs in
-    let i = reads_sheet (words_sound (words bs) (omega arith)) e in
+    let i = reads_sheet (words_sound newest (words bs) (omega arith)) e in
     let n = length (words bs) in
     let st : Stands (words bs) n (encode_rules s.rules ++ behind s) 0 n =
-    subst (λ x. Stands (words bs) n x 0 n) (sym i.words ∙ encode_split s) (stands_self (words bs)) in
+    subst (λ x. Stands (words bs) n x 0 n) (sym i.words ∙ encode_split newest s) (stands_self (words bs)) in
     let t = stands_split (encode_rules s.rules) (behind s) st in
     let a = stands_length t.1 in
     let b = stands_length t.2 in
@@ -86,13 +87,13 @@ never_sheet : {A : Type 0} {n : ℕ} {s : tree.Sheet} → refused n ≡ sheet s 
 never_sheet e = absurd (let u : ◌≡◌ {A = ℕ} 0 1 = cc in omega arith)
 
 pub taken : (bs work : List ℕ) (s : tree.Sheet) → read_lent bs work ≡ sheet s → Taken bs work s
-unfolding read_lent read
+unfolding read_lent read_in
 taken bs work s e = go (is_length (length bs)) refl (leb work_bytes (length work)) refl
   where
     go : (b : Bool) → is_length (length bs) ≡ b → (d : Bool) → leb work_bytes (length work) ≡ d → Taken bs work s
     go false x d y = never_sheet (rw (x, read_lent) at e)
     go true x false y = never_sheet (rw (x, y, read_lent) at e)
-    go true x true y = record { long = x; enough = y; is = rw (x, read) at (rw (x, y, read_lent) at e) }
+    go true x true y = record { long = x; enough = y; is = rw (x, read_in) at (rw (x, y, read_lent) at e) }
 
 good : (bs work : List ℕ) (s : tree.Sheet) → read_lent bs work ≡ sheet s → Good bs s × Lent bs work
 good bs work s e =
@@ -156,7 +157,7 @@ module _ (bs work : List ℕ) {x : Reading} (a : ReadAs (read_lent bs work) (Ok 
       record {
         tree = was.tree;
         is = was.is;
-        good = parts_valid was.tree g.0.parts;
+        good = parts_valid newest was.tree g.0.parts;
         room = standing.room;
         rows = record { found = found_rules; ends = g.0.ends ∙ sym k; rows = rows_of; few = omega arith };
         trees = refl;

@@ -9,6 +9,7 @@ use Rattle.grammar.specs.Numbers.{alternative_sort, block_kind}
 use Rattle.grammar.specs.Tree.{ElementHead, Element, leaf, block}
 use Rattle.grammar.specs.Tree.{AlternativeOf, Block, Counters}
 use Rattle.grammar.specs.Encode.{encode_option, encode_head, leaf_kind, encode_leaf, encode_element, encode_alternative, encode_block}
+use Rattle.grammar.specs.Encode.{encode_alternative_in, encode_block_in, encode_element_in}
 use Rattle.grammar.specs.Lists.{each}
 use Rattle.grammar.specs.Fold.{element_fold}
 use Rattle.grammar.specs.Laws.Opened.{options_length}
@@ -36,7 +37,7 @@ keeps_each enc f h (a ∷ as') c =
 -- The words of an alternative.
 pub words_of : {B : Type 0} (enc : B → List ℕ) (a : AlternativeOf B)
     → length (encode_alternative enc a) ≡ 5 + 2 * length a.options + length (each (encode_element enc) a.elements)
-unfolding encode_alternative
+unfolding encode_alternative_in
 words_of enc a =
     let x = length-append (each encode_option a.options) (each (encode_element enc) a.elements) in
     let y = options_length a.options in
@@ -49,7 +50,7 @@ head_length h c k m = refl
 module _ {B : Type 0} (enc : B → List ℕ) (renumber : B → Counters → Fresh B)
     (inner : (b : B) (c : Counters) → length (enc (renumber b c).node) ≡ length (enc b)) where
   element_length : (e : Element B) (c : Counters) → length (encode_element enc (renumber_element renumber e c).node) ≡ length (encode_element enc e)
-  unfolding encode_element renumber_element
+  unfolding encode_element_in renumber_element
   element_length (leaf h l) c =
       let h' = renumber_head h c in
       let l' = renumber_leaf l h'.counters in
@@ -77,7 +78,7 @@ module _ {B : Type 0} (enc : B → List ℕ) (renumber : B → Counters → Fres
       omega arith
 
 block_length : (d : ℕ) (b : Block d) (c : Counters) → length (encode_block d (renumber_block d b c).node) ≡ length (encode_block d b)
-unfolding encode_block renumber_block
+unfolding encode_block_in renumber_block
 block_length zero b c = absurd b
 block_length (suc d) b c =
     ap suc (keeps_each (encode_alternative (encode_block d)) (renumber_alternative (renumber_block d))
@@ -97,7 +98,7 @@ module _ (d : ℕ) where
 -- An element that was made plain.
 pub made_length : {B : Type 0} (enc : B → List ℕ) (made : Bool) (e : Element B)
     → length (encode_element enc (made_if made e)) ≡ length (encode_element enc e)
-unfolding encode_element encode_head plain
+unfolding encode_element_in encode_head plain
 made_length enc true (leaf h l) = refl
 made_length enc true (block h b) = refl
 made_length enc false e = refl

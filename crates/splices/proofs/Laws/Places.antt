@@ -5,6 +5,7 @@ use mathlib.Core.List.{List, [], ◌∷◌}
 use mathlib.Core.Bool.{true≢false}
 use native.Mathlib.Omega.{arith}
 use lib.ListN.{length, get_or}
+use Rattle.grammar.specs.Form.{newest}
 use Rattle.grammar.specs.Numbers.{most_words}
 use Rattle.grammar.specs.Tree.{Element, Block}
 use Rattle.grammar.specs.Found.{FoundElement, FoundElements, FoundAlternative, ElementSpans, AlternativeAt}
@@ -115,7 +116,7 @@ module _ {ws : List ℕ} {end : ℕ} where
       placing_found = first_found g.found some
 
       pub placing_room : p + 6 ≤ end
-      placing_room = element_room d placing_found
+      placing_room = element_room newest d placing_found
 
       pub placing_more : {mid : List ℕ} {next : ℕ} → end ≤ most_words → HalfPut cur mid (to + i) p
           → ElementWalked skipping ws end d p tt next tt → Placing ws end d n at before to mid (i + 1) next

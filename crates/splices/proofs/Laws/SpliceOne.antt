@@ -6,6 +6,7 @@ use mathlib.Core.List.{List}
 use mathlib.Core.Option.{some}
 use native.Mathlib.Omega.{arith}
 use lib.ListN.{length}
+use Rattle.grammar.specs.Form.{newest}
 use Rattle.grammar.specs.Numbers.{most_words}
 use Rattle.grammar.specs.Tree.{OptionDecl, Block, AlternativeOf}
 use Rattle.grammar.specs.Found.{FoundAlternative, AlternativeSpans, AlternativeAt}
@@ -81,7 +82,7 @@ module _ {ws : List ℕ} {end d : ℕ} {h : Listed} {index : ℕ} {b₀ : List �
           fits = omega arith;
           past = o.past;
           few = fewer f;
-          room = alternative_room d f;
+          room = alternative_room newest d f;
           big = omega arith;
           long = o.long ∙ put.long;
         }
@@ -174,7 +175,7 @@ module _ {ws : List ℕ} {end d : ℕ} {h : Listed} {index : ℕ} {b₀ : List �
 
     one_listed : ListedIn ws end d b₃ new
     one_listed =
-        let r = alternative_room d f in
+        let r = alternative_room newest d f in
         let u = p.ne_is in
         let v = p.no_is in
         let m = put.many in

@@ -7,6 +7,7 @@ use mathlib.Core.Bool.{Bool, true, false}
 use native.Mathlib.Omega.{arith}
 use lib.ListN.{length, length-append}
 use lib.Dec.{eqb}
+use Rattle.grammar.specs.Form.{newest}
 use Rattle.grammar.specs.Numbers.{most_words}
 use Rattle.grammar.specs.Tree.{OptionDecl}
 use Rattle.grammar.specs.Lists.{first}
@@ -77,7 +78,7 @@ few_added {d = d} {os = os} {m = m} o e f small =
 module _ (d : ℕ) {ws : List ℕ} {end at count first : ℕ} (h : Listed) (f : FoundAlternative ws end d at)
     (head : AlternativeAt ws end at count first) (fits : HandFits h) (small : end ≤ most_words) where
   pub few_elements_lem : count ≤ most_words
-  few_elements_lem = let q = inner_found d head f in let v = elements_low d q.trees q.spans in let u = q.count in omega arith
+  few_elements_lem = let q = inner_found newest d head f in let v = elements_low d q.trees q.spans in let u = q.count in omega arith
 
   pub alternative_counted : {more : ℕ} {z t : Size} → more ≤ most_words → IsCounted z (h.ne - 1 + count) (h.no + more) t
       → AlternativeCounted ws end d at h more z t

@@ -12,14 +12,14 @@ use Rattle.grammar.specs.Numbers.{rule_limit, once, optional_greedy, one_or_more
 use Rattle.grammar.specs.Tree.{Label, unlabelled, labelled, OptionDecl, ElementHead, Call, Leaf, epsilon, action, predicate, call, token}
 use Rattle.grammar.specs.Tree.{terminal, end_of_input, Element, leaf, Block}
 use Rattle.grammar.specs.Stands.{Spans}
-use Rattle.grammar.specs.Encode.{encode_leaf, leaf_kind, label_name}
+use Rattle.grammar.specs.Encode.{encode_leaf, leaf_kind, label_name, encode_leaf_in}
 use Rattle.grammar.specs.Valid.{ok_leaf, ok_head, ok_label}
 use Rattle.grammar.specs.Lists.{member, is_empty}
 use Rattle.grammar.specs.Found.{FoundElement, HeadAt}
 use Rattle.grammar.specs.Laws.Stands.{stands_head}
 use Rattle.grammar.specs.Laws.Parse.{either}
 use Rattle.grammar.specs.Laws.Complete.{leaf_kind_lem}
-use Rattle.grammar.specs.Laws.Opened.{HeadWords, Opened, opened_leaf, opened_block, opened}
+use Rattle.grammar.specs.Laws.Opened.{HeadWords, Opened, opened_leaf, opened_block, opened, call_stands}
 use Rattle.reference.specs.Analysis.{Grammar, target}
 use Rattle.reference.specs.Walks.{sort_of, is_one, bare_reference}
 use Rattle.reference.specs.Substitute.{PlannedCorner, optional, satellite, blocked, settled, further, member_corner, planned_corner, plain}
@@ -165,8 +165,9 @@ module _ (d : ℕ) {ws : List ℕ} {end at : ℕ} (f : FoundElement ws end d at)
 module _ {ws : List ℕ} {end at p q kind : ℕ} {h : ElementHead} (w : HeadWords ws end at h kind p) (k : Call)
     (u : Spans ws end encode_leaf ok_leaf p (call k) q) where
   bare_is : bare_reference h k ≡ bare_at ws at p
-  unfolding bare_reference encode_leaf ok_head ok_label
-  bare_is = rw (w.named, u.stands.run.1.0, w.counted) (go h.label h.options (first_so (ok_label h.label) _ (second_so (leb h.quantifier 6) _ w.fine)))
+  unfolding bare_reference encode_leaf_in ok_head ok_label
+  bare_is = rw (w.named, (call_stands k u.stands).arguments_are, w.counted)
+      (go h.label h.options (first_so (ok_label h.label) _ (second_so (leb h.quantifier 6) _ w.fine)))
     where
       go : (l : Label) (os : List OptionDecl) → ok_label l ≡ true
           → elim l as (λ z. Bool) [ unlabelled ↦ eqb k.arguments 0 && is_empty os | labelled i n ↦ false ]
@@ -222,7 +223,7 @@ module _ {names : List ℕ} {c : Cycle} {ws : List ℕ} {end index at k p : ℕ}
 
   pub item_call : {n m : ℕ} {bare : Bool} {r : Corner} → k ≡ call_kind → n ≡ get_or ws p 0 → bare ≡ bare_at ws at p
       → m ≡ quantifier_at ws at made → CallMet names c index n bare m r → ItemMet names c ws end d index at made (P.Some r)
-  unfolding leaf_kind encode_leaf plain bare_reference
+  unfolding leaf_kind encode_leaf_in plain bare_reference
   item_call {n} {r = r} x e eb em v = record { is = λ g cycle ids b t q s es. go g cycle ids b es (opened t s); member = v.member }
     where
       named : (g : Grammar) (cycle ids : List ℕ) → CycleBy g cycle ids names c → (es : List (Element (Block d))) (h : ElementHead) (a : Call)

@@ -5,6 +5,7 @@ use mathlib.Core.List.{List, [], ◌∷◌, ◌++◌}
 use mathlib.Core.Bool.{Bool}
 use native.Mathlib.Omega.{arith}
 use lib.ListN.{length, take, drop, length-append, get_or}
+use Rattle.grammar.specs.Form.{newest}
 use Rattle.grammar.specs.Tree.{Block, AlternativeOf}
 use Rattle.grammar.specs.Numbers.{most_words}
 use Rattle.grammar.specs.Stands.{Spans}
@@ -174,7 +175,7 @@ module _ {ws : List ℕ} {end d : ℕ} {bs : List ℕ} {h : Listed} {quiet : Boo
     sizing_found = first_found g.found some
 
     pub sizing_room : p + 5 ≤ end
-    sizing_room = alternative_room d sizing_found
+    sizing_room = alternative_room newest d sizing_found
 
     pub sizing_declined : {k : Result ℕ Clause} {c : Clause} → OneAt ws end d p bs h quiet k → k ≡ Err c
         → ManySized ws end d at bs h quiet n (record { a = 0; e = 0; o = 0 }) (Err c)

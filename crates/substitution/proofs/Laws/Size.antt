@@ -4,6 +4,7 @@ use mathlib.Core.Path.{◌≡◌, sym, ◌∙◌}
 use mathlib.Core.List.{List, [], ◌∷◌, map}
 use native.Mathlib.Omega.{arith}
 use lib.ListN.{length, get_or}
+use Rattle.grammar.specs.Form.{newest}
 use Rattle.grammar.specs.Tree.{Element, Block, AlternativeOf, Rule, inner_depth, body_depth}
 use Rattle.grammar.specs.Numbers.{most_words}
 use Rattle.grammar.specs.Stands.{Spans}
@@ -118,7 +119,7 @@ module _ {ws : List ℕ} {end d n at i p : ℕ} {z : Size} (g : Counting ws end 
     counting_found = first_found g.found some
 
     pub counting_room : p + 5 ≤ end
-    counting_room = alternative_room d counting_found
+    counting_room = alternative_room newest d counting_found
 
     pub counting_more : {t : Size} {there e o : ℕ} → e ≡ get_or ws (p + 4) 0 → o ≡ get_or ws (p + 3) 0 → IsCounted z e o t
         → AlternativeWalked skipping ws end d p tt there tt

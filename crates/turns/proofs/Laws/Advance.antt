@@ -8,6 +8,7 @@ use native.Mathlib.Omega.{arith}
 use lib.ListN.{length, length-append, length-map}
 use lib.Dec.{leb}
 use borrow.Author.Tests.{leb-true}
+use Rattle.grammar.specs.Form.{newest}
 use Rattle.grammar.specs.Tree.{Rule, Alternative, inner_depth, body_depth}
 use Rattle.grammar.specs.Stands.{Spans}
 use Rattle.grammar.specs.Encode.{encode_alternative, encode_block}
@@ -54,8 +55,8 @@ same_trees {ws} {end} (a ∷ as') (b ∷ bs') {at} p q s t e =
     let f = first_spans s in
     let g = first_spans t in
     let complete =
-    alternative_complete ws end (block_at ws end inner_depth) (encode_block inner_depth) (ok_block inner_depth)
-    (block_complete ws end inner_depth) in
+    alternative_complete newest ws end (block_at ws end inner_depth) (encode_block inner_depth) (ok_block inner_depth)
+    (block_complete newest ws end inner_depth) in
     let x : got a f.0 ≡ got b g.0 = sym (complete at a f.0 f.1) ∙ complete at b g.0 g.1 in
     let y : a ≡ b = cc in
     let z : f.0 ≡ g.0 = cc in

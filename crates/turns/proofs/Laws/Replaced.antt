@@ -7,6 +7,7 @@ use mathlib.Core.Bool.{Bool, true, false, ◌&&◌}
 use native.Mathlib.Omega.{arith}
 use lib.ListN.{get_or}
 use lib.Dec.{eqb}
+use Rattle.grammar.specs.Form.{newest}
 use Rattle.grammar.specs.Numbers.{optional_greedy}
 use Rattle.grammar.specs.Tree.{ElementHead, Call, epsilon, action, predicate, call, token, terminal, end_of_input, Element, leaf, block}
 use Rattle.grammar.specs.Tree.{Block, RuleOf, inner_depth, body_depth}
@@ -157,8 +158,8 @@ call_in {ws} {end} {c} {bs} {x} h k =
 -- One tree stands at a place.
 one_tree : (ws : List ℕ) (end d : ℕ) {at p q : ℕ} {r t : RuleOf (Block d)} → RuleSpans ws end d at r p → RuleSpans ws end d at t q → r ≡ t
 one_tree ws end d {at} {p} {q} {r} {t} s u =
-    let e = rule_complete ws end (block_at ws end d) (encode_block d) (ok_block d) (block_complete ws end d) at r p s in
-    let f = rule_complete ws end (block_at ws end d) (encode_block d) (ok_block d) (block_complete ws end d) at t q u in
+    let e = rule_complete newest ws end (block_at ws end d) (encode_block d) (ok_block d) (block_complete newest ws end d) at r p s in
+    let f = rule_complete newest ws end (block_at ws end d) (encode_block d) (ok_block d) (block_complete newest ws end d) at t q u in
     let g : got r p ≡ got t q = sym e ∙ f in
     cc
 

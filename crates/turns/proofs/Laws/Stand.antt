@@ -5,6 +5,7 @@ use mathlib.Core.List.{List, [], ◌∷◌, Memᴰ}
 use mathlib.Core.Bool.{true}
 use native.Mathlib.Omega.{arith}
 use lib.ListN.{length, get_or}
+use Rattle.grammar.specs.Form.{newest}
 use Rattle.grammar.specs.Numbers.{rule_limit}
 use Rattle.grammar.specs.Tree.{Rule, inner_depth, body_depth}
 use Rattle.grammar.specs.Lists.{AllOf}
@@ -37,7 +38,8 @@ module _ (ws : List ℕ) (end at : ℕ) where
 
   parsed : FoundRule ws end at → answer ≡ bad → ⊥
   parsed f e =
-      let g : got f.tree f.next ≡ bad = sym (rule_complete ws end _ _ _ (block_complete ws end body_depth) at f.tree f.next f.spans) ∙ e in
+      let g : got f.tree f.next ≡ bad = sym
+      (rule_complete newest ws end _ _ _ (block_complete newest ws end body_depth) at f.tree f.next f.spans) ∙ e in
       never cc
 
   found : at ≤ end → (answer ≡ bad → ⊥) → FoundRule ws end at
@@ -45,7 +47,7 @@ module _ (ws : List ℕ) (end at : ℕ) where
     where
       go : (g : Got Rule) → answer ≡ g → FoundRule ws end at
       go (got t q) e =
-          record { tree = t; next = q; spans = yields_got (rule_sound ws end _ _ _ (block_sound ws end body_depth) at l) e }
+          record { tree = t; next = q; spans = yields_got (rule_sound newest ws end _ _ _ (block_sound newest ws end body_depth) at l) e }
       go bad e = absurd (f e)
 
 -- The array of places is as long as there may be rules.

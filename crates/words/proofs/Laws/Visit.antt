@@ -2,6 +2,7 @@
 use Prim.Native.Nat.{ℕ, ◌+◌, ◌-◌, ◌<◌, ◌≤◌}
 use Rattle.std.specs.Prelude.{◌≡◌, List, Bool, get_or}
 use Rattle.std.proofs.Common.{sym, arith}
+use Rattle.grammar.specs.Form.{newest}
 use Rattle.grammar.specs.Numbers.{block_kind}
 use Rattle.grammar.specs.Found.{HeadAt, AlternativeAt, LeafEnd}
 use Rattle.grammar.specs.Fold.{head_of, Steps, WalkedOne, WalkedMany, ElementWalked, ElementsWalked, AlternativeWalked, AlternativesWalked}
@@ -18,7 +19,7 @@ module _ {V State : Type 0} {steps : List ℕ → V → Steps State} {state : Li
     visited_leaf other {there} e v =
         let past = head.past in
         let on = e.past in
-        (v.0, laws.on ws end d (at + 6) there b (omega arith) v.1, fold_leaf (steps ws a) head d other e v.2.is)
+        (v.0, laws.on ws end d (at + 6) there b (omega arith) v.1, fold_leaf newest (steps ws a) head d other e v.2.is)
 
     pub visited_block : k ≡ block_kind → 1 ≤ d → Fits ws end d at a → {m : ℕ} → m ≡ get_or ws p 0
         → Kept ws end a b × Fits ws end (d - 1) (at + 6) b
@@ -32,7 +33,7 @@ module _ {V State : Type 0} {steps : List ℕ → V → Steps State} {state : Li
         let inner = rw (laws.same ws end a b v.0) at w.2 in (
           kept,
           laws.out ws end d at q a c kept fits w.1,
-          fold_block (steps ws a) head six d e v.2.is inner λ h y. sym (laws.past_block ws end d at a c h deep kept fits),
+          fold_block newest (steps ws a) head six d e v.2.is inner λ h y. sym (laws.past_block ws end d at a c h deep kept fits),
         )
 
   pub visited_alternative : {at count first : ℕ} → AlternativeAt ws end at count first → {a b c : V} {q : ℕ}
@@ -45,7 +46,7 @@ module _ {V State : Type 0} {steps : List ℕ → V → Steps State} {state : Li
       let inner = rw (laws.same ws end a b v.0) at w.2 in (
         kept,
         w.1,
-        fold_alternative (steps ws a) d head v.2.is inner λ x z y. sym (laws.past_alternative ws end d a c (head_of x) kept),
+        fold_alternative newest (steps ws a) d head v.2.is inner λ x z y. sym (laws.past_alternative ws end d a c (head_of x) kept),
       )
 
   -- A loop over trees, with k of n passed, whatever the trees.

@@ -5,6 +5,7 @@ use mathlib.Core.List.{List, [], ◌∷◌, ◌++◌}
 use mathlib.Core.Bool.{true, false}
 use native.Mathlib.Omega.{arith}
 use lib.ListN.{length, get_or, length-append}
+use Rattle.grammar.specs.Form.{newest}
 use Rattle.grammar.specs.Numbers.{alternative_sort}
 use Rattle.grammar.specs.Tree.{Element, Block, Counters}
 use Rattle.grammar.specs.Encode.{encode_element, encode_alternative, encode_block}
@@ -33,7 +34,7 @@ use Rattle.written.specs.Laws.Apply.{each_unchanged, apply_same, apply_new_lem, 
 -- The place of the origin.
 pub origin_room : {ws : List ℕ} {end : ℕ} (d : ℕ) {bs : List ℕ} {x : Listed} {at : ℕ} → Readable ws end d bs x → at ≡ x.origin
     → at + 5 ≤ end
-origin_room d r e = rw e (alternative_room d r.listed.head.origin_found)
+origin_room d r e = rw e (alternative_room newest d r.listed.head.origin_found)
 
 module _ (ws : List ℕ) (end d : ℕ) (bs : List ℕ) (x : Listed) where
   abbrev p : Planned d

@@ -4,7 +4,7 @@ use Rattle.std.proofs.Math.Path.{refl, ap}
 use Rattle.std.proofs.Common.{sym, subst, append-nil, arith}
 use Rattle.grammar.specs.Numbers.{alternative_sort}
 use Rattle.grammar.specs.Tree.{Element, Block, Counters}
-use Rattle.grammar.specs.Encode.{encode_element, encode_alternative, encode_block}
+use Rattle.grammar.specs.Encode.{encode_element, encode_alternative, encode_block, encode_alternative_in}
 use Rattle.grammar.specs.Lists.{each}
 use Rattle.grammar.specs.Laws.Parse.{either}
 use Rattle.reference.specs.Substitute.{Planned}
@@ -51,12 +51,12 @@ module _ (d : ℕ) where
 
     pub new_node : encode_alternative (encode_block d) (apply_new d p c).node
         ≡ head_words d p c.alternative ++ each (encode_element (encode_block d)) copies.node
-    unfolding renumber_elements encode_alternative
+    unfolding renumber_elements encode_alternative_in
     new_node = rw (each_count (renumber_element (renumber_block d)) p.elements (past alternative_sort c))
 
     pub same_node_lem : encode_alternative (encode_block d) (placed d p.origin p.elements p)
         ≡ head_words d p p.origin ++ each (encode_element (encode_block d)) p.elements
-    unfolding encode_alternative
+    unfolding encode_alternative_in
     same_node_lem = refl
 
     new_grown : Grown (past alternative_sort c) (apply_new d p c).counters

@@ -5,7 +5,7 @@ use Rattle.records.proofs.Laws.Trees.{element_more}
 
 pub element_at-returns : goal.element_at-returns
 element_at-returns t c =
-    element_more _ _ _ _ c.word.ensures _ c.try_from.ensures c.in_ok-kind.ensures.value c.in_ok-p.ensures c.payload_at.ensures
+    element_more _ _ _ _ _ c.word.ensures _ c.try_from.ensures c.in_ok-kind.ensures.value c.in_ok-p.ensures c.payload_at.ensures
 
 pub alternatives_at-loop-preserved : goal.alternatives_at-loop-preserved
 alternatives_at-loop-preserved t c = left_more _ c.loop.invariant (omega arith) c.in_ok-p.ensures

@@ -1,8 +1,8 @@
 use Prim.Native.Nat.{◌+◌, ◌*◌}
-use Rattle.records.specs.Lent.{text}
+use Rattle.records.specs.Lent.{form, text}
 use Rattle.records.specs.Step.{step_of}
 use Rattle.records.proofs.Laws.Steps.{Left}
-use Rattle.grammar.specs.Read.{element_at, alternative_at, block_at}
+use Rattle.grammar.specs.Read.{element_at_in, alternative_at_in, block_at_in}
 use Rattle.records.proofs.records.+tree.Given as goal
 
 abbrev pub decreases-alternative_at : goal.decreases-alternative_at
@@ -25,8 +25,10 @@ decreases-payload_at l = l.depth * 8 + 1
 
 abbrev pub invariant-alternatives_at-loop : goal.invariant-alternatives_at-loop
 invariant-alternatives_at-loop l =
-    Left (λ x. step_of (alternative_at (text l.s) l.s.end (block_at (text l.s) l.s.end l.depth) x)) l.n l.at l.counter l.p
+    Left (λ x. step_of (alternative_at_in (form l.s) (text l.s) l.s.end (block_at_in (form l.s) (text l.s) l.s.end l.depth) x)) l.n l.at
+    l.counter l.p
 
 abbrev pub invariant-elements_at-loop : goal.invariant-elements_at-loop
 invariant-elements_at-loop l =
-    Left (λ x. step_of (element_at (text l.s) l.s.end (block_at (text l.s) l.s.end l.depth) x)) l.n l.at l.counter l.p
+    Left (λ x. step_of (element_at_in (form l.s) (text l.s) l.s.end (block_at_in (form l.s) (text l.s) l.s.end l.depth) x)) l.n l.at
+    l.counter l.p

@@ -1,6 +1,7 @@
 use Rattle.words.specs.Sheet.{text}
 use Rattle.std.proofs.Common.{◌+◌, ◌-◌, rules, arith, ap}
 use Rattle.words.specs.Kinds.{kind_number}
+use Rattle.grammar.specs.Form.{newest}
 use Rattle.grammar.specs.Fold.{element_fold, alternative_fold, block_fold}
 use Rattle.grammar.specs.Laws.Found.{rooms, inner, block_depth}
 use Rattle.grammar.specs.Laws.Fold.{folding_found}
@@ -41,11 +42,11 @@ walk_element-element_head-head-requires-clause-bounds g t c = search (rules, roo
 pub walk_element-enter_block-requires-clause-bounds : goal.walk_element-enter_block-requires-clause-bounds
 walk_element-enter_block-requires-clause-bounds g t c =
     let six = ap kind_number c.in-Block.is in
-    let deep = block_depth c.element_head-head.ensures six c.args.depth c.requires.found_element in search rules
+    let deep = block_depth newest c.element_head-head.ensures six c.args.depth c.requires.found_element in search rules
 
 pub walk_element-overflow_sub-depth : goal.walk_element-overflow_sub-depth
 walk_element-overflow_sub-depth g t c =
-    block_depth c.element_head-head.ensures (ap kind_number c.in-Block.is) c.args.depth c.requires.found_element
+    block_depth newest c.element_head-head.ensures (ap kind_number c.in-Block.is) c.args.depth c.requires.found_element
 
 pub walk_element-walk_alternatives-requires : goal.walk_element-walk_alternatives-requires
 walk_element-walk_alternatives-requires g t c κs within =
@@ -59,7 +60,7 @@ walk_element-walk_alternatives-requires g t c κs within =
 pub walk_element-returns-in-Block : goal.walk_element-returns-in-Block
 walk_element-returns-in-Block g t c =
     let six = ap kind_number c.in-Block.is in
-    let deep = block_depth c.element_head-head.ensures six c.args.depth c.requires.found_element in
+    let deep = block_depth newest c.element_head-head.ensures six c.args.depth c.requires.found_element in
     visited_block g.met.V.Visitor.laws c.args.depth c.element_head-head.ensures six deep c.requires.bounds
     c.word-count.ensures c.enter_block.ensures c.walk_alternatives.ensures
 

@@ -1,4 +1,5 @@
 use Rattle.std.proofs.Common.{rules, arith}
+use Rattle.grammar.specs.Form.{newest}
 use Rattle.grammar.specs.Tree.{inner_depth, body_depth}
 use Rattle.grammar.specs.Fold.{rule_fold}
 use Rattle.grammar.specs.Laws.Fold.{folding_found, rules_room}
@@ -7,7 +8,7 @@ use Rattle.words.proofs.visit.walk_rules.Goals as goal
 
 pub walk_rule-p-requires-clause-bounds : goal.walk_rule-p-requires-clause-bounds
 walk_rule-p-requires-clause-bounds g c =
-    let room = rules_room _ c.loop.invariant.2 (λ e. absurd (omega arith)) in search rules
+    let room = rules_room newest _ c.loop.invariant.2 (λ e. absurd (omega arith)) in search rules
 
 pub walk_rule-p-requires-clause-found_rule : goal.walk_rule-p-requires-clause-found_rule
 walk_rule-p-requires-clause-found_rule g c = folding_found c.loop.invariant.2 (λ e. absurd (omega arith))

@@ -1,5 +1,5 @@
 use Rattle.std.proofs.Common.{rules}
-use Rattle.words.proofs.walk.leaf_end.Goals as goal
+use Rattle.words.proofs.walk.leaf_end_in.Goals as goal
 use Rattle.words.proofs.Laws.Heads.{kinds}
 
 -- src/walk.rt:56:1

@@ -1,5 +1,5 @@
 use Rattle.std.proofs.Common.{rules, arith}
-use Rattle.records.proofs.rules.read_rules.Goals as goal
+use Rattle.records.proofs.rules.read_rules_in.Goals as goal
 use Rattle.records.proofs.Laws.Trees.{rule_room}
 use Rattle.records.proofs.Laws.Rules.{reads}
 

@@ -1,5 +1,5 @@
 use Rattle.std.proofs.Common.{rules}
-use Rattle.words.proofs.walk.alternative_head.Goals as goal
+use Rattle.words.proofs.walk.alternative_head_in.Goals as goal
 use Rattle.grammar.specs.Laws.Found.{heads}
 
 -- src/walk.rt:43:1

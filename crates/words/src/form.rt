@@ -1,0 +1,25 @@
+// The forms that a sheet has had.
+ghost use Rattle.std.specs.Prelude.{◌≡◌, ◌≤◌};
+ghost use Rattle.grammar.specs.Form.{call_words};
+ghost use Rattle.words.specs.Form.{form_of};
+
+// What a form has a place for: a third word of each call, its precedence.
+#[derive(Clone, Copy, Debug, PartialEq, Eq)]
+pub struct Form {
+    pub precedences: bool,
+}
+
+impl Form {
+    pub const FIRST: Form = Form { precedences: false };
+
+    // The form of every sheet that is handed in or out today.
+    pub const NEWEST: Form = Form { precedences: false };
+}
+
+// How many words a call's payload has.
+pub fn call_words(form: Form) -> usize
+    ensures number { result ≡ call_words (form_of form) }
+    ensures few { (2 ≤ result) × (result ≤ 3) }
+{
+    if form.precedences { 3 } else { 2 }
+}
