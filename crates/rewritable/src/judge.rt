@@ -28,7 +28,12 @@ struct Verdict {
     calls: [u64; Row::WORDS],
 }
 
-fn judge_alternative(a: &Shown, v: &Known, members: [u64; Row::WORDS], hub: usize) -> Option<Verdict>
+fn judge_alternative(
+    a: &Shown,
+    v: &Known,
+    members: [u64; Row::WORDS],
+    hub: usize,
+) -> Option<Verdict>
     requires { hub < v.now.n }
     ensures { VerdictOf (view_of v.now) members hub inner_depth (meant a.now).elements result }
 {
