@@ -1,11 +1,13 @@
 // What the decisions rest on: what is found out about the rules of a sheet.
 ghost use Rattle.std.specs.Prelude.{◌≡◌, ◌≤◌, length};
 ghost use Rattle.grammar.specs.Numbers.{rule_limit, work_bytes};
+ghost use Rattle.analysis.specs.Corners.{corners_of};
 ghost use Rattle.analysis.specs.Names.{table_with};
 ghost use Rattle.analysis.specs.Facts.{FactsFound};
 ghost use Rattle.plan.specs.Ground.{KeptAt, KeptOf};
 ghost use Rattle.words.specs.Sheet.{text};
 
+use analysis::corners::Corners;
 use analysis::rounds::{Marks, Rows, find_rows};
 use analysis::ruled::Ruled;
 use hub::preserved::preserved_rows;
@@ -20,13 +22,14 @@ pub struct Ground {
 
 // What is found out about rules whose preserved ids stand from their end up to `to`; calls and left corners are put into the rows,
 // and the places of the names into the work area.
-pub fn find_out(g: &Ruled, to: usize, past: bool, rows: &mut Rows, work: &mut [u8]) -> Ground
+pub fn find_out(g: &Ruled, to: usize, reading: Corners, rows: &mut Rows, work: &mut [u8]) -> Ground
     requires bounds { (work_bytes ≤ length work.old) × KeptAt g.now.s.now.bytes.now g.now.s.now.end to }
-    ensures facts_found { FactsFound (text g.now.s.now) g.now.s.now.end g.now.rules.now past rows.new.calls rows.new.corners result.marks }
+    ensures facts_found { FactsFound (text g.now.s.now) g.now.s.now.end g.now.rules.now (corners_of reading)
+        rows.new.calls rows.new.corners result.marks }
     ensures kept_of { KeptOf (text g.now.s.now) g.now.s.now.end to g.now.rules.now result.kept }
     ensures work_after { work.new ≡ table_with g.now.rules.now.names g.now.rules.now.n work.old }
 {
-    let marks = find_rows(g, past, rows, work);
+    let marks = find_rows(g, reading, rows, work);
     let kept = preserved_rows(g.s.bytes, *g.rules, g.s.end, to);
     Ground { marks, kept }
 }

@@ -1,11 +1,13 @@
 // The first cycle with a plan, and how it is told in numbers.
 ghost use Rattle.std.specs.Prelude.{◌≡◌, ◌≤◌, length};
 ghost use Rattle.grammar.specs.Numbers.{most_words, work_bytes};
+ghost use Rattle.analysis.specs.Corners.{corners_of};
 ghost use Rattle.plan.specs.Ground.{KeptAt};
 ghost use Rattle.plans.specs.First.{FirstOf, search_numbers, search_cycle, search_row};
 ghost use Rattle.words.specs.Sheet.{text};
 
 use crate::nth::{Decision, capped};
+use analysis::corners::Corners;
 use analysis::rounds::Rows;
 use analysis::ruled::Ruled;
 use plan::facts::Facts;
@@ -25,18 +27,18 @@ pub struct FirstTold {
 }
 
 // The first plan for rules that stand in a sheet, with their preserved ids behind them up to `to`.
-pub fn decide_first(g: &Ruled, to: usize, past: bool, work: &mut [u8]) -> Found
+pub fn decide_first(g: &Ruled, to: usize, reading: Corners, work: &mut [u8]) -> Found
     requires bounds { (g.now.s.now.end ≤ most_words) × (work_bytes ≤ length work.old) × KeptAt g.now.s.now.bytes.now g.now.s.now.end to }
-    ensures { FirstOf (text g.now.s.now) g.now.s.now.end to g.now.rules.now past work.new result }
+    ensures { FirstOf (text g.now.s.now) g.now.s.now.end to g.now.rules.now (corners_of reading) work.new result }
 {
     let mut rows = Rows::empty();
-    let ground = find_out(g, to, past, &mut rows, work);
+    let ground = find_out(g, to, reading, &mut rows, work);
     let limits = Limits::standard();
     let facts = Facts {
         g,
-        past,
+        reading,
         rows: &rows,
-        found: ground,
+        ground,
     };
     find_plan(&facts, limits, work)
 }

@@ -13,6 +13,7 @@ ghost use Rattle.plans.specs.Told.{NthTold, FirstTold};
 use crate::first::{decide_first, tell_search};
 use crate::nth::{decide_nth, leave, tell_nth};
 use analysis::ruled::Ruled;
+use facts::reading_of;
 use sheet::read;
 use words::sheet::Sheet;
 
@@ -43,7 +44,7 @@ pub fn plan_nth(
                 s: &s,
                 rules: &r.rules,
             };
-            let t = tell_nth(decide_nth(&g, to, textbook != 0, nth, work));
+            let t = tell_nth(decide_nth(&g, to, reading_of(textbook), nth, work));
             let told = t.numbers;
             let row = t.row;
             leave(told, work);
@@ -84,7 +85,7 @@ pub fn first_plan(
                 s: &s,
                 rules: &r.rules,
             };
-            let found = decide_first(&g, to, textbook != 0, work);
+            let found = decide_first(&g, to, reading_of(textbook), work);
             let declines = found.clauses;
             let answer = found.answer;
             let t = tell_search(found.declined, answer);

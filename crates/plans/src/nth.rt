@@ -1,10 +1,12 @@
 // The decision for one of the cycles, and how it is told in numbers.
 ghost use Rattle.std.specs.Prelude.{◌≡◌, ◌≤◌, length};
 ghost use Rattle.grammar.specs.Numbers.{most_words, work_bytes};
+ghost use Rattle.analysis.specs.Corners.{corners_of};
 ghost use Rattle.plan.specs.Ground.{KeptAt};
 ghost use Rattle.plans.specs.Nth.{NthOf, nth_numbers, nth_row, capped, decision_numbers, decision_row, left_by};
 ghost use Rattle.words.specs.Sheet.{text};
 
+use analysis::corners::Corners;
 use analysis::rounds::Rows;
 use analysis::ruled::Ruled;
 use plan::facts::Facts;
@@ -63,13 +65,13 @@ impl From<Decision> for u32 {
 }
 
 // The decision for the nth cycle of rules that stand in a sheet, with their preserved ids behind them up to `to`.
-pub fn decide_nth(g: &Ruled, to: usize, past: bool, nth: u32, work: &mut [u8]) -> Nth
+pub fn decide_nth(g: &Ruled, to: usize, reading: Corners, nth: u32, work: &mut [u8]) -> Nth
     requires bounds { (g.now.s.now.end ≤ most_words) × (work_bytes ≤ length work.old) × KeptAt g.now.s.now.bytes.now g.now.s.now.end to }
-    ensures { NthOf (text g.now.s.now) g.now.s.now.end to g.now.rules.now past nth work.new result }
+    ensures { NthOf (text g.now.s.now) g.now.s.now.end to g.now.rules.now (corners_of reading) nth work.new result }
 {
     let mut rows = Rows::empty();
     let mut cycles = [[0u64; Row::WORDS]; Row::RULES];
-    let ground = find_out(g, to, past, &mut rows, work);
+    let ground = find_out(g, to, reading, &mut rows, work);
     let ids = g.rules.ids;
     let n = list_cycles(rows.corners, ids, g.rules.n as usize, &mut cycles);
     if n <= nth {
@@ -82,9 +84,9 @@ pub fn decide_nth(g: &Ruled, to: usize, past: bool, nth: u32, work: &mut [u8]) -
     let limits = Limits::standard();
     let facts = Facts {
         g,
-        past,
+        reading,
         rows: &rows,
-        found: ground,
+        ground,
     };
     let decision = plan_cycle(&facts, members, limits, work);
     Nth {

@@ -3,6 +3,7 @@
 ghost use Rattle.std.specs.Prelude.{◌≡◌, ◌<◌, ◌≤◌};
 ghost use Rattle.grammar.specs.Numbers.{rule_limit};
 ghost use Rattle.grammar.specs.Tree.{inner_depth};
+ghost use Rattle.analysis.specs.Corners.{corners_of};
 ghost use Rattle.analysis.specs.Names.{Tabled};
 ghost use Rattle.analysis.specs.Survey.{view_of};
 ghost use Rattle.planned.specs.Layout.{meaning, settled};
@@ -12,6 +13,7 @@ ghost use Rattle.words.specs.Sheet.{text};
 
 use crate::items::{may_be_rewritten, starts_with_call};
 use crate::walk::walk_alternative;
+use analysis::corners::Corners;
 use analysis::known::Known;
 use analysis::ruled::Ruled;
 use planned::list::{Listed, Sizes};
@@ -90,7 +92,7 @@ fn judge_list(
 pub fn judge(
     g: &Ruled,
     nullable: [u64; Row::WORDS],
-    past: bool,
+    reading: Corners,
     members: [u64; Row::WORDS],
     hub: usize,
     work: &[u8],
@@ -98,7 +100,7 @@ pub fn judge(
 ) -> Option<[u64; Row::WORDS]>
     requires inside { hub < g.now.rules.now.n }
     requires laid { Laid work.now l × AllIn (text g.now.s.now) g.now.s.now.end inner_depth work.now l }
-    ensures { JudgedFound (text g.now.s.now) g.now.s.now.end g.now.rules.now nullable past members hub work.now l result }
+    ensures { JudgedFound (text g.now.s.now) g.now.s.now.end g.now.rules.now nullable (corners_of reading) members hub work.now l result }
 {
     let names = g.rules.names;
     let v = Known {
@@ -106,7 +108,7 @@ pub fn judge(
         n: g.rules.n as usize,
         table: &g.s.bytes[..0],
         nullable,
-        past,
+        reading,
     };
     judge_list(g.s, &v, Block::DEPTH, members, hub, work, l)
 }

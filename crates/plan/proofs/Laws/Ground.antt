@@ -1,8 +1,8 @@
 -- What is found out about rules that stand in a sheet is what the decisions rest on.
 use Prim.Native.Nat.{ℕ, ◌≤◌}
 use mathlib.Core.List.{List}
-use mathlib.Core.Bool.{Bool}
 use Rattle.grammar.specs.Numbers.{most_words}
+use Rattle.grammar.specs.Corners.{Corners}
 use Rattle.records.specs.declared.rules.Rules.{Rules}
 use Rattle.analysis.specs.Facts.{Standing, FactsFound}
 use Rattle.analysis.specs.declared.rounds.Marks.{Marks}
@@ -10,9 +10,10 @@ use Rattle.hub.specs.Preserved.{between}
 use Rattle.plan.specs.Search.{RulesKnown}
 use Rattle.plan.specs.Ground.{KeptOf}
 
-unfoldable pub ground_known : {ws : List ℕ} {end to : ℕ} {rules : Rules} {past : Bool} {calls corners : List (List ℕ)} {marks : Marks} {kept : List ℕ}
-    → FactsFound ws end rules past calls corners marks → KeptOf ws end to rules kept → end ≤ most_words
-    → Standing ws end rules → RulesKnown ws end rules past calls corners marks kept
+unfoldable pub ground_known : {ws : List ℕ} {end to : ℕ} {rules : Rules} {reading : Corners} {calls corners : List (List ℕ)}
+    {marks : Marks} {kept : List ℕ}
+    → FactsFound ws end rules reading calls corners marks → KeptOf ws end to rules kept → end ≤ most_words
+    → Standing ws end rules → RulesKnown ws end rules reading calls corners marks kept
 ground_known {ws} {end} {to} f k small s =
     record {
       known = record { standing = s; small = small; facts = f.is s };

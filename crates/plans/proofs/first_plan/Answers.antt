@@ -21,4 +21,5 @@ invariant_of-g c = record { standing = rw c.rules_end-end.ensures (facts.read_ru
 pub returns-in-Ok-clause-first_told : goal.returns-in-Ok-clause-first_told
 returns-in-Ok-clause-first_told c =
     let t = c.tell_search-t.ensures in
-    first_sheet _ _ c.in-Ok.ensures.read_as c.preserved_end-to.ensures (rw c.rules_end-end.ensures at c.decide_first-found.ensures) t.0 t.1 t.2 refl c.leave.ensures
+    first_sheet _ _ c.in-Ok.ensures.read_as c.preserved_end-to.ensures
+    (rw (c.rules_end-end.ensures, c.reading_of.ensures) at c.decide_first-found.ensures) t.0 t.1 t.2 refl c.leave.ensures
