@@ -38,7 +38,8 @@ module _ (ws : List ℕ) (end : ℕ) (ids : List ℕ) (n : ℕ) (bs : List ℕ) 
     pub choice : ChoiceAs r.choice
 
 -- So it is for rules that stand in a sheet, and preserved ids.
-pub record NthOf (ws : List ℕ) (end : ℕ) (preserved : List ℕ) (rules : Rules) (reading : Corners) (nth : ℕ) (bs : List ℕ) (r : Nth) : Type 0 where
+pub record NthOf (ws : List ℕ) (end : ℕ) (preserved : List ℕ) (rules : Rules) (reading : Corners) (nth : ℕ) (bs : List ℕ) (r : Nth)
+    : Type 0 where
   pub is : (s : Standing ws end rules)
       → NthAs ws end rules.ids rules.n bs reading s.rows.found.trees preserved nth r
 

@@ -24,7 +24,8 @@ use words::numbers::Refusal;
 // what `find_out` states: it would be longer than the two statements that it spares each of its callers.
 pub fn decide_first(g: &Ruled, preserved: &Preserved, reading: Corners, work: &mut [u8]) -> Found
     requires bounds { (g.now.s.now.end ≤ most_words) × (work_bytes ≤ length work.old) }
-    ensures { FirstOf (text g.now.s.now) g.now.s.now.end (words preserved.now.ids.now) g.now.rules.now (corners_of reading) work.new result }
+    ensures { FirstOf (text g.now.s.now) g.now.s.now.end (words preserved.now.ids.now) g.now.rules.now
+        (corners_of reading) work.new result }
 {
     let mut rows = Rows::empty();
     let ground = find_out(g, preserved, reading, &mut rows, work);

@@ -34,7 +34,8 @@ pub fn decide_nth(
     work: &mut [u8],
 ) -> Nth
     requires bounds { (g.now.s.now.end ≤ most_words) × (work_bytes ≤ length work.old) }
-    ensures { NthOf (text g.now.s.now) g.now.s.now.end (words preserved.now.ids.now) g.now.rules.now (corners_of reading) nth work.new result }
+    ensures { NthOf (text g.now.s.now) g.now.s.now.end (words preserved.now.ids.now) g.now.rules.now
+        (corners_of reading) nth work.new result }
 {
     let mut rows = Rows::empty();
     let mut cycles = [[0u64; Row::WORDS]; Row::RULES];
