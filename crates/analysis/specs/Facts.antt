@@ -1,6 +1,6 @@
 -- The facts about a grammar as rows of bits: bit j of row i is about the i-th and the j-th rule of the sheet (SPECIFICATION
 -- 6, 7.5). Each bit is membership in what the definition lists.
-use Rattle.std.specs.Prelude.{ℕ, ◌≡◌, List, [], ◌∷◌, ◌++◌, Bool, true, false, ◌&&◌, not, length, get_or}
+use Rattle.std.specs.Prelude.{ℕ, ◌≡◌, List, [], ◌∷◌, ◌++◌, true, false, ◌&&◌, not, length, get_or}
 use Rattle.std.proofs.Math.Option.{none, some}
 use Rattle.grammar.specs.Tree.{Rule, body_depth, inner_depth}
 use Rattle.grammar.specs.Found.{RuleSpans}
@@ -14,7 +14,7 @@ use Rattle.records.specs.Rules.{FoundRows}
 use Rattle.records.specs.declared.rules.Rules.{Rules}
 use Rattle.reach.specs.Rows.{bit, RowOf, holds}
 use Rattle.analysis.specs.Names.{is_named, any_below}
-use Rattle.analysis.specs.Survey.{View, reading}
+use Rattle.analysis.specs.Survey.{View}
 use Rattle.analysis.specs.declared.survey.Survey.{Survey}
 use Rattle.analysis.specs.declared.rounds.Marks.{Marks}
 use Rattle.analysis.specs.declared.rounds.Round.{Round}
@@ -37,7 +37,7 @@ pub record SurveyOf (c : Corners) (g : Grammar) (ids : List ℕ) (n : ℕ) (t : 
 -- A survey of the rule that stands at a place, by any grammar that agrees with what is known.
 pub record Surveyed (v : View) (ws : List ℕ) (end at : ℕ) (r : Survey) : Type 0 where
   pub by : (g : Grammar) (ids : List ℕ) → Agrees g ids v → (t : Rule) (q : ℕ) → RuleSpans ws end body_depth at t q
-      → SurveyOf (reading v.past) g ids v.n t r
+      → SurveyOf v.reading g ids v.n t r
 
 -- Rules that stand in a sheet, told apart by ids and by names.
 pub record Standing (ws : List ℕ) (end : ℕ) (rules : Rules) : Type 0 where
@@ -83,5 +83,5 @@ module _ (c : Corners) (rs : List Rule) (ids : List ℕ) where
     pub nullable : RowOf ids (length rs) (nullable_rules body_depth rs) m.nullable
 
 -- The facts of the rules that stand in a sheet.
-pub record FactsFound (ws : List ℕ) (end : ℕ) (rules : Rules) (past : Bool) (calls corners : List (List ℕ)) (m : Marks) : Type 0 where
-  pub is : (s : Standing ws end rules) → FactsOf (reading past) s.rows.found.trees rules.ids calls corners m
+pub record FactsFound (ws : List ℕ) (end : ℕ) (rules : Rules) (reading : Corners) (calls corners : List (List ℕ)) (m : Marks) : Type 0 where
+  pub is : (s : Standing ws end rules) → FactsOf reading s.rows.found.trees rules.ids calls corners m

@@ -1,3 +1,4 @@
+pub mod Corners
 pub mod Names
 pub mod Survey
 pub mod Facts

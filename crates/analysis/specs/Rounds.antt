@@ -1,6 +1,8 @@
 -- One round: every rule surveyed, and what is kept of each.
 use Rattle.std.specs.Prelude.{ℕ, zero, suc, ◌+◌, ◌<◌, ◌≤◌, ◌≡◌, List, [], Bool, true, false, length, get_or, replicate}
 use Rattle.grammar.specs.Numbers.{rule_limit}
+use Rattle.grammar.specs.Corners.{Corners}
+use Rattle.records.specs.declared.rules.Rules.{Rules}
 use Rattle.reach.specs.Rows.{bit, AddIf}
 use Rattle.analysis.specs.Survey.{View}
 use Rattle.analysis.specs.Facts.{Surveyed}
@@ -47,3 +49,10 @@ pub record Recording (v : View) (ws : List ℕ) (end : ℕ) (places : List ℕ) 
   pub corners_behind : (k : ℕ) → i ≤ k → get_or ks k [] ≡ get_or ks₀ k []
   pub calls_long : length cs ≡ rule_limit
   pub corners_long : length ks ≡ rule_limit
+
+-- A round by the rules that are nullable as far as is known.
+abbrev pub RoundFound : (ws : List ℕ) (end : ℕ) (rules : Rules) (reading : Corners) (nullable : List ℕ) (cs₀ ks₀ cs ks : List (List ℕ))
+    (r : Round) → Type 0
+RoundFound ws end rules reading nullable cs₀ ks₀ cs ks r =
+    Recording (record { names = rules.names; n = rules.n; nullable = nullable; reading = reading }) ws end rules.places cs₀ ks₀
+    rules.n cs ks r

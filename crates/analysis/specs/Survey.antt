@@ -8,30 +8,27 @@ use Rattle.grammar.specs.Encode.{leaf_kind, encode_leaf, encode_alternative, enc
 use Rattle.grammar.specs.Valid.{ok_alternative, ok_block}
 use Rattle.grammar.specs.Lists.{is_empty}
 use Rattle.grammar.specs.Ids.{leaf_ids}
-use Rattle.grammar.specs.Corners.{Corners, rust, textbook}
+use Rattle.grammar.specs.Corners.{Corners}
 use Rattle.grammar.specs.Fold.{Steps, folded, alternative_fold, block_fold, WalkedOne, WalkedMany}
 use Rattle.grammar.specs.Found.{RuleSpans}
 use Rattle.reference.specs.Walks.{silent, consuming, calling, sort_of, is_end, is_optional}
 use Rattle.reach.specs.Rows.{bit}
+use Rattle.analysis.specs.Corners.{corners_of, passes_symbols}
 use Rattle.analysis.specs.Names.{is_named, any_below}
 use Rattle.analysis.specs.declared.known.Known.{Known}
 use Rattle.analysis.specs.declared.leaf.Seen.{Seen as Held}
 use Rattle.analysis.specs.declared.survey.Survey.{Survey}
 
 -- What is known of the rules: their names by place, how many places there are, which are nullable as far as is known, and
--- whether left corners are sought past symbols that can be empty.
+-- how left corners are read.
 pub record View : Type 0 where
   pub names : List ℕ
   pub n : ℕ
   pub nullable : List ℕ
-  pub past : Bool
+  pub reading : Corners
 
 abbrev pub view_of : Known → View
-view_of k = record { names = k.names.now; n = k.n; nullable = k.nullable; past = k.past }
-
-abbrev pub reading : Bool → Corners
-reading true = textbook
-reading false = rust
+view_of k = record { names = k.names.now; n = k.n; nullable = k.nullable; reading = corners_of k.reading }
 
 -- What the walk has seen. `seeks`: left corners are still sought. `null`: in an alternative, that all in front is nullable;
 -- in a block, that some alternative in front is.
@@ -71,7 +68,7 @@ module _ (v : View) where
 
   unfoldable pub leaf_ends : Leaf → Bool
   leaf_ends l =
-      not v.past
+      not (passes_symbols v.reading)
       && (not (is_end l)
       && elim (sort_of l) [
         | silent ↦ false
@@ -155,8 +152,8 @@ past_call s i empty =
     }
 
 -- Past a symbol.
-pub record SymbolSeen (past skips : Bool) (t r : Held) : Type 0 where
-  pub is : r ≡ turned (t.seeks && (past && skips)) (t.null && skips) t
+pub record SymbolSeen (reading : Corners) (skips : Bool) (t r : Held) : Type 0 where
+  pub is : r ≡ turned (t.seeks && (passes_symbols reading && skips)) (t.null && skips) t
 
 -- Past a call of a name.
 pub record NameSeen (v : View) (name : ℕ) (skips : Bool) (s r : Seen) : Type 0 where

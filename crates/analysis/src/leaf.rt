@@ -2,10 +2,12 @@
 ghost use Rattle.std.specs.Prelude.{◌≡◌, ◌+◌, ◌*◌, ◌<◌, ◌≤◌, length, get_or};
 ghost use Rattle.grammar.specs.Numbers.{rule_limit};
 ghost use Rattle.grammar.specs.Words.{words};
+ghost use Rattle.analysis.specs.Corners.{corners_of};
 ghost use Rattle.analysis.specs.Survey.{view_of, seen_of, into, unseen, skipping, past_call, SymbolSeen, NameSeen, LeafSeen};
 ghost use Rattle.words.specs.Kinds.{kind_number};
 ghost use Rattle.words.specs.Sheet.{text};
 
+use crate::corners::Corners;
 use crate::known::Known;
 use crate::names::look_up;
 use reach::rows::{Row, add_if, has, with};
@@ -56,10 +58,10 @@ fn see_call(i: usize, empty: bool, t: &mut Seen)
 }
 
 // A token, or a name that is no rule's.
-pub fn see_symbol(past: bool, skips: bool, t: &mut Seen)
-    ensures { SymbolSeen past skips t.old t.new }
+pub fn see_symbol(reading: Corners, skips: bool, t: &mut Seen)
+    ensures { SymbolSeen (corners_of reading) skips t.old t.new }
 {
-    t.seeks &= past & skips;
+    t.seeks &= reading.passes_symbols() & skips;
     t.null &= skips;
 }
 
@@ -68,7 +70,7 @@ fn see_name(v: &Known, name: u32, skips: bool, t: &mut Seen)
     ensures { NameSeen (view_of v.now) name skips (seen_of t.old) (seen_of t.new) }
 {
     match look_up(v.names, v.n, v.table, name) {
-        None => see_symbol(v.past, skips, t),
+        None => see_symbol(v.reading, skips, t),
         Some(i) => {
             let empty = skips | has(v.nullable, i);
             see_call(i, empty, t);
@@ -84,7 +86,7 @@ pub fn see_leaf(s: &Sheet, v: &Known, head: Head, skips: bool, t: &mut Seen)
 {
     match head.kind {
         Kind::Call => see_name(v, word(s.bytes, head.payload), skips, t),
-        Kind::Token | Kind::Terminal | Kind::Block => see_symbol(v.past, skips, t),
+        Kind::Token | Kind::Terminal | Kind::Block => see_symbol(v.reading, skips, t),
         Kind::Epsilon | Kind::EndOfInput => {}
         Kind::Action | Kind::Predicate => t.stops = true,
     }

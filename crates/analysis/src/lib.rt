@@ -5,6 +5,7 @@
 // ids (`cycles_listed`). What plans leave of them is `facts_stay`.
 #![tactic(auto)]
 
+pub mod corners;
 pub mod known;
 pub mod leaf;
 pub mod names;

@@ -2,13 +2,15 @@
 // stand (SPECIFICATION 6.4).
 ghost use Rattle.std.specs.Prelude.{◌≡◌, ◌<◌, ◌≤◌, length};
 ghost use Rattle.grammar.specs.Numbers.{rule_limit, work_bytes};
+ghost use Rattle.analysis.specs.Corners.{corners_of};
 ghost use Rattle.analysis.specs.Names.{Tabled, table_with};
 ghost use Rattle.analysis.specs.Survey.{view_of};
-ghost use Rattle.analysis.specs.Rounds.{no_rows, Marked, Recording};
+ghost use Rattle.analysis.specs.Rounds.{no_rows, Marked, Recording, RoundFound};
 ghost use Rattle.analysis.specs.Facts.{FactsFound};
 ghost use Rattle.reach.specs.Rows.{Behind};
 ghost use Rattle.words.specs.Sheet.{text};
 
+use crate::corners::Corners;
 use crate::known::Known;
 use crate::names::put_names;
 use crate::ruled::Ruled;
@@ -85,59 +87,62 @@ fn survey_all(g: &Ruled, v: &Known, rows: &mut Rows) -> Round
     r
 }
 
-// Rounds until the nullable rules stand, by a table of the names.
-fn rounds(g: &Ruled, past: bool, table: &[u8], rows: &mut Rows) -> Marks
+// A round by the rules that are nullable as far as is known, and a table of the names.
+fn round_by(
+    g: &Ruled,
+    reading: Corners,
+    table: &[u8],
+    nullable: [u64; Row::WORDS],
+    rows: &mut Rows,
+) -> Round
     requires bounds { Tabled g.now.rules.now.names g.now.rules.now.n table.now }
-    ensures facts_found { FactsFound (text g.now.s.now) g.now.s.now.end g.now.rules.now past rows.new.calls rows.new.corners result }
+    ensures { RoundFound (text g.now.s.now) g.now.s.now.end g.now.rules.now (corners_of reading) nullable
+        rows.old.calls rows.old.corners rows.new.calls rows.new.corners result }
+{
+    let names = g.rules.names;
+    let v = Known {
+        names: &names,
+        n: g.rules.n as usize,
+        table,
+        nullable,
+        reading,
+    };
+    survey_all(g, &v, rows)
+}
+
+// Rounds until the nullable rules stand, by a table of the names.
+fn rounds(g: &Ruled, reading: Corners, table: &[u8], rows: &mut Rows) -> Marks
+    requires bounds { Tabled g.now.rules.now.names g.now.rules.now.n table.now }
+    ensures facts_found { FactsFound (text g.now.s.now) g.now.s.now.end g.now.rules.now (corners_of reading)
+        rows.new.calls rows.new.corners result }
     ensures behind { Behind g.now.rules.now.n rows.old.calls rows.new.calls
         × Behind g.now.rules.now.n rows.old.corners rows.new.corners }
 {
-    let names = g.rules.names;
-    let n = g.rules.n as usize;
-    let mut found = [0u64; Row::WORDS];
+    let mut nullable = [0u64; Row::WORDS];
     let mut count: u32 = 0;
-    for _ in 0..n {
-        let v = Known {
-            names: &names,
-            n,
-            table,
-            nullable: found,
-            past,
-        };
-        let r = survey_all(g, &v, rows);
-        let marks = r.marks;
+    let mut r = round_by(g, reading, table, nullable, rows);
+    for _ in 0..g.rules.n {
         if r.count == count {
-            let stops = marks.stops;
-            return Marks {
-                nullable: found,
-                stops,
-            };
+            break;
         }
-        let more = marks.nullable;
-        found = more;
+        let marks = r.marks;
+        let found = marks.nullable;
+        nullable = found;
         count = r.count;
+        let next = round_by(g, reading, table, nullable, rows);
+        r = next;
     }
-    let v = Known {
-        names: &names,
-        n,
-        table,
-        nullable: found,
-        past,
-    };
-    let r = survey_all(g, &v, rows);
     let marks = r.marks;
     let stops = marks.stops;
-    Marks {
-        nullable: found,
-        stops,
-    }
+    Marks { nullable, stops }
 }
 
 // The rows of all rules. As many rounds as there are rules find all that is nullable; if one finds no more, it is the last.
 // The table of names is left in the work area.
-pub fn find_rows(g: &Ruled, past: bool, rows: &mut Rows, work: &mut [u8]) -> Marks
+pub fn find_rows(g: &Ruled, reading: Corners, rows: &mut Rows, work: &mut [u8]) -> Marks
     requires bounds { work_bytes ≤ length work.old }
-    ensures facts_found { FactsFound (text g.now.s.now) g.now.s.now.end g.now.rules.now past rows.new.calls rows.new.corners result }
+    ensures facts_found { FactsFound (text g.now.s.now) g.now.s.now.end g.now.rules.now (corners_of reading)
+        rows.new.calls rows.new.corners result }
     ensures behind { Behind g.now.rules.now.n rows.old.calls rows.new.calls
         × Behind g.now.rules.now.n rows.old.corners rows.new.corners }
     ensures work_after { work.new ≡ table_with g.now.rules.now.names g.now.rules.now.n work.old }
@@ -145,5 +150,5 @@ pub fn find_rows(g: &Ruled, past: bool, rows: &mut Rows, work: &mut [u8]) -> Mar
     let names = g.rules.names;
     let n = g.rules.n as usize;
     put_names(&names, n, work);
-    rounds(g, past, work, rows)
+    rounds(g, reading, work, rows)
 }

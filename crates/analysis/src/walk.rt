@@ -23,7 +23,7 @@ pub fn element(s: &Sheet, v: &Known, depth: u32, at: usize, t: &mut Seen) -> usi
     let head = element_head(s, depth, at);
     match head.kind {
         Kind::Token => {
-            see_symbol(v.past, skips_at(s.bytes, at), t);
+            see_symbol(v.reading, skips_at(s.bytes, at), t);
             leaf_end(s, depth, at, head)
         }
         _ => other_element(s, v, depth, at, t),

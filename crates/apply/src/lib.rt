@@ -3,4 +3,4 @@
 
 pub mod apply;
 pub mod judge;
-pub mod left;
+mod left;

@@ -1,13 +1,12 @@
 -- What callers in other languages are told of a sheet: its facts and cycles as numbers and rows (SPECIFICATION 3.10).
-use Rattle.std.specs.Prelude.{ℕ, ◌≡◌, List, [], ◌∷◌, not, length, get_or, replicate, eqb}
+use Rattle.std.specs.Prelude.{ℕ, zero, suc, ◌≡◌, List, [], ◌∷◌, length, get_or, replicate}
 use Rattle.grammar.specs.Tree.{Rule, Sheet, body_depth}
 use Rattle.grammar.specs.Ids.{rule_ids}
 use Rattle.grammar.specs.Reading.{Reading, refused, sheet}
-use Rattle.grammar.specs.Corners.{Corners}
+use Rattle.grammar.specs.Corners.{Corners, rust, textbook}
 use Rattle.reference.specs.Analysis.{grammar_of, left_corner_cycles}
 use Rattle.records.specs.Rules.{row}
 use Rattle.records.specs.declared.rules.Rules.{Rules}
-use Rattle.analysis.specs.Survey.{reading}
 use Rattle.analysis.specs.Facts.{FactsOf, Standing}
 use Rattle.reach.specs.Rows.{Behind}
 use Rattle.reach.specs.Listed.{CycleRows}
@@ -16,7 +15,8 @@ use Rattle.analysis.specs.declared.rounds.Marks.{Marks}
 
 -- The reading of left corners: the original's for 0.
 abbrev pub reading_of : ℕ → Corners
-reading_of textbook = reading (not (eqb textbook 0))
+reading_of zero = rust
+reading_of (suc k) = textbook
 
 -- Four words as two rows.
 abbrev pub marks_of : List ℕ → Marks

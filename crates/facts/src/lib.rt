@@ -5,11 +5,12 @@
 ghost use Rattle.std.specs.Prelude.{◌≡◌, ◌≤◌, length, replicate};
 ghost use Rattle.grammar.specs.Numbers.{work_bytes};
 ghost use Rattle.sheet.specs.Answer.{read_lent, work_after};
-ghost use Rattle.analysis.specs.Survey.{reading};
+ghost use Rattle.analysis.specs.Corners.{corners_of};
 ghost use Rattle.analysis.specs.Rounds.{no_rows};
 ghost use Rattle.facts.specs.Told.{reading_of, RulesTold, Tells};
 ghost use Rattle.words.specs.Sheet.{text};
 
+use analysis::corners::Corners;
 use analysis::rounds::{Marks, Rows, find_rows};
 use analysis::ruled::Ruled;
 use reach::cycles::list_cycles;
@@ -17,6 +18,17 @@ use reach::rows::Row;
 use sheet::{read, refusal_numbers};
 use words::sheet::Sheet;
 use words::words::clear;
+
+// The reading that a caller in another language asks for: the original's by 0.
+#[tactic(auto, using(crate::proofs::Laws::Told::readings))]
+pub fn reading_of(textbook: u32) -> Corners
+    ensures { corners_of result ≡ reading_of textbook }
+{
+    match textbook {
+        0 => Corners::Rust,
+        _ => Corners::Textbook,
+    }
+}
 
 // The marks of all rules, and the number of cycles.
 #[derive(Clone, Copy, Debug, PartialEq, Eq)]
@@ -28,18 +40,18 @@ struct Told {
 // The facts and cycles of rules that stand in a sheet; the rows that are lent are zeros. The work area ends so too.
 fn tell(
     g: &Ruled,
-    past: bool,
+    reading: Corners,
     rows: &mut Rows,
     cycles: &mut [[u64; Row::WORDS]; Row::RULES],
     work: &mut [u8],
 ) -> Told
     requires bounds { work_bytes ≤ length work.old }
     requires none { (rows.old.calls ≡ no_rows) × (rows.old.corners ≡ no_rows) × (cycles.old ≡ no_rows) }
-    ensures rules_told { RulesTold (text g.now.s.now) g.now.s.now.end g.now.rules.now (reading past) result.marks result.cycles
+    ensures rules_told { RulesTold (text g.now.s.now) g.now.s.now.end g.now.rules.now (corners_of reading) result.marks result.cycles
         rows.new.calls rows.new.corners cycles.new }
     ensures work_after { work.new ≡ replicate (length work.old) 0 }
 {
-    let marks = find_rows(g, past, rows, work);
+    let marks = find_rows(g, reading, rows, work);
     let ids = g.rules.ids;
     let cycles = list_cycles(rows.corners, ids, g.rules.n as usize, cycles);
     clear(work);
@@ -79,7 +91,7 @@ pub fn find_facts(
                 rules: &rules,
             };
             let mut rows = Rows::empty();
-            let t = tell(&g, textbook != 0, &mut rows, cycles, work);
+            let t = tell(&g, reading_of(textbook), &mut rows, cycles, work);
             let nullable = t.marks.nullable;
             let stops = t.marks.stops;
             *numbers = [0, rules.n, t.cycles];

@@ -5,6 +5,7 @@ pub mod Parse
 pub mod Label
 pub mod Sound
 pub mod Complete
+pub mod One
 pub mod Opened
 pub mod Found
 pub mod Fold

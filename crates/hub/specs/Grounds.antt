@@ -1,22 +1,22 @@
 -- What the decision for a cycle is made on: rules that stand in a sheet, their facts, the preserved rules, the cycle.
-use Rattle.std.specs.Prelude.{ℕ, ◌≤◌, ◌≡◌, List, [], Bool, true}
+use Rattle.std.specs.Prelude.{ℕ, ◌≤◌, ◌≡◌, List, [], true}
 use Rattle.grammar.specs.Numbers.{most_words}
 use Rattle.grammar.specs.Tree.{Rule, body_depth}
 use Rattle.grammar.specs.Lists.{member}
+use Rattle.grammar.specs.Corners.{Corners}
 use Rattle.graph.specs.Order.{Rising}
 use Rattle.reference.specs.Analysis.{Grammar, grammar_of, ids_of}
 use Rattle.records.specs.declared.rules.Rules.{Rules}
 use Rattle.reach.specs.Rows.{RowOf}
-use Rattle.analysis.specs.Survey.{reading}
 use Rattle.analysis.specs.Facts.{Standing, Among, FactsOf}
 use Rattle.analysis.specs.declared.rounds.Marks.{Marks}
 
 module _ (ws : List ℕ) (end : ℕ) (rules : Rules) where
   -- Rules that stand in a sheet no longer than one may be, with their facts by a reading of left corners.
-  pub record Known (past : Bool) (calls corners : List (List ℕ)) (m : Marks) : Type 0 where
+  pub record Known (reading : Corners) (calls corners : List (List ℕ)) (m : Marks) : Type 0 where
     pub standing : Standing ws end rules
     pub small : end ≤ most_words
-    pub facts : FactsOf (reading past) standing.rows.found.trees rules.ids calls corners m
+    pub facts : FactsOf reading standing.rows.found.trees rules.ids calls corners m
 
   module _ (s : Standing ws end rules) where
     abbrev pub rules_of : List Rule

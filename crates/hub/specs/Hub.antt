@@ -1,8 +1,9 @@
 -- The hub of a cycle against the definition's (SPECIFICATION 7.2, 7.3).
-use Rattle.std.specs.Prelude.{ℕ, ◌<◌, ◌≡◌, List, Bool, true, get_or, Option, Some, None}
+use Rattle.std.specs.Prelude.{ℕ, ◌<◌, ◌≡◌, List, true, get_or, Option, Some, None}
 use Rattle.std.proofs.Math.Option as Math
 use Rattle.std.proofs.Math.Option.{none, some}
 use Rattle.grammar.specs.Tree.{inner_depth}
+use Rattle.grammar.specs.Corners.{Corners}
 use Rattle.reference.specs.Plan.{choose_hub}
 use Rattle.records.specs.declared.rules.Rules.{Rules}
 use Rattle.reach.specs.Rows.{bit, RowOf}
@@ -17,7 +18,8 @@ HubIs ids n members (Some i) o = (i < n) × (bit members i ≡ true) × (o ≡ s
 -- The hub that is chosen is the definition's, for any cycle and any preserved rules that the rows have.
 pub record Chosen (ws : List ℕ) (end : ℕ) (rules : Rules) (nullable : List ℕ) (calls : List (List ℕ)) (members kept : List ℕ) (r : Option ℕ)
     : Type 0 where
-  pub is : (past : Bool) (corners : List (List ℕ)) (m : Marks) (k : Known ws end rules past calls corners m) → m.nullable ≡ nullable
+  pub is : (reading : Corners) (corners : List (List ℕ)) (m : Marks) (k : Known ws end rules reading calls corners m)
+      → m.nullable ≡ nullable
       → (cycle preserved : List ℕ) → IsCycle ws end rules k.standing cycle members → RowOf rules.ids rules.n preserved kept
       → HubIs rules.ids rules.n members r
       (choose_hub (grammar_at ws end rules k.standing) cycle inner_depth (rules_of ws end rules k.standing) preserved)

@@ -2,6 +2,7 @@
 use Rattle.std.specs.Prelude.{ℕ, ◌<◌, ◌≡◌, List, Bool, get_or}
 use Rattle.grammar.specs.Tree.{inner_depth}
 use Rattle.grammar.specs.Lists.{all}
+use Rattle.grammar.specs.Corners.{Corners}
 use Rattle.reference.specs.Plan.{satellite_is_inlinable, satellites}
 use Rattle.records.specs.declared.rules.Rules.{Rules}
 use Rattle.analysis.specs.declared.rounds.Marks.{Marks}
@@ -9,8 +10,8 @@ use Rattle.hub.specs.Grounds.{Known, rules_of, IsCycle}
 
 -- All but the hub can, for any cycle that the rows have.
 pub record AllInlinable (stops members : List ℕ) (hub : ℕ) (r : Bool) : Type 0 where
-  pub is : (ws : List ℕ) (end : ℕ) (rules : Rules) (past : Bool) (calls corners : List (List ℕ)) (m : Marks)
-      (k : Known ws end rules past calls corners m) → m.stops ≡ stops
+  pub is : (ws : List ℕ) (end : ℕ) (rules : Rules) (reading : Corners) (calls corners : List (List ℕ)) (m : Marks)
+      (k : Known ws end rules reading calls corners m) → m.stops ≡ stops
       → (cycle : List ℕ) → IsCycle ws end rules k.standing cycle members → hub < rules.n
       → r
       ≡ all (satellite_is_inlinable inner_depth)

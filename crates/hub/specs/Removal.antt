@@ -1,8 +1,9 @@
 -- The satellites that may go when a plan is applied, against the definition (SPECIFICATION 9.6).
-use Rattle.std.specs.Prelude.{ℕ, ◌<◌, ◌≡◌, Bool, true, length, get_or}
+use Rattle.std.specs.Prelude.{ℕ, ◌<◌, ◌≡◌, true, length, get_or}
 use mathlib.Core.List.{List, Memᴰ}
 use Rattle.grammar.specs.Tree.{Rule, inner_depth}
 use Rattle.grammar.specs.Lists.{each, member, rounds}
+use Rattle.grammar.specs.Corners.{Corners}
 use Rattle.reference.specs.Analysis.{Grammar, ids_of, collect_calls_in_elements}
 use Rattle.reference.specs.Substitute.{Planned}
 use Rattle.reference.specs.Plan.{removable_round, removable_satellites}
@@ -20,10 +21,10 @@ pub record Planning (calls : List (List ℕ)) (n : ℕ) (planned : List ℕ) (hu
   pub ws : List ℕ
   pub end : ℕ
   pub rules : Rules
-  pub past : Bool
+  pub reading : Corners
   pub corners : List (List ℕ)
   pub marks : Marks
-  pub known : Known ws end rules past calls corners marks
+  pub known : Known ws end rules reading calls corners marks
   pub count : n ≡ rules.n
   pub low : hub < rules.n
   pub plan : List (Planned inner_depth)

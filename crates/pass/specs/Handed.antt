@@ -9,7 +9,6 @@ use Rattle.grammar.specs.Reading.{is_length, read_words}
 use Rattle.sheet.specs.Answer.{ReadAs}
 use Rattle.sheet.specs.declared.answer.Reading.{Reading}
 use Rattle.laws.specs.Demands.Kept.{EveryCall}
-use Rattle.analysis.specs.Survey.{reading}
 use Rattle.run.specs.Ended.{AnswerIs, Short}
 use Rattle.run.specs.declared.state.Ended.{Ended}
 use Rattle.apply.specs.Applied.{Buffers}
@@ -50,8 +49,8 @@ pub record HandedOver (c : Corners) (bs result trail work told result' trail' wo
   pub handed : Handed c bs result trail work answer result' trail' work'
 
 -- What an answer is made from, before the buffers are cleared behind it: the definition's answer to the bytes.
-pub record Answered (past : Bool) (bs result trail : List ℕ) (r : Result Ended Refusal) : Type 0 where
-  pub is : AnswerIs result trail r (answer_to standard (reading past) bs)
+pub record Answered (reading : Corners) (bs result trail : List ℕ) (r : Result Ended Refusal) : Type 0 where
+  pub is : AnswerIs result trail r (answer_to standard reading bs)
   pub short : IfOk r Short
 
 -- A sheet of good length, and buffers that are long enough.

@@ -1,8 +1,10 @@
 // The answer to a sheet of good length with buffers that are long enough, before the buffers are cleared.
 ghost use Rattle.std.specs.Prelude.{◌≡◌, length};
 ghost use Rattle.grammar.specs.Laws.Words.{AreBytes};
+ghost use Rattle.analysis.specs.Corners.{corners_of};
 ghost use Rattle.pass.specs.Handed.{Lent, Answered, WasSheet};
 
+use analysis::corners::Corners;
 use apply::apply::Applied;
 use run::state::{Ended, Trail};
 use run::unit::run_unit;
@@ -19,11 +21,11 @@ fn deliver_sheet(
     res: &mut [u8],
     trail: &mut [u8],
     work: &mut [u8],
-    past: bool,
+    reading: Corners,
     read: Reading,
 ) -> Result<Ended, Refusal>
     requires { Lent sheet.now res.old trail.old work.old × AreBytes sheet.now × WasSheet sheet.now read }
-    ensures answered { Answered past sheet.now res.new trail.new result }
+    ensures answered { Answered (corners_of reading) sheet.now res.new trail.new result }
     ensures lengths_stay { (length res.new ≡ length res.old)
         × (length trail.new ≡ length trail.old) × (length work.new ≡ length work.old) }
 {
@@ -57,7 +59,7 @@ fn deliver_sheet(
         work,
         before,
         limits,
-        past,
+        reading,
         Sheet::MOST_BYTES / 4,
     )
 }
@@ -68,14 +70,14 @@ pub fn deliver(
     res: &mut [u8],
     trail: &mut [u8],
     work: &mut [u8],
-    past: bool,
+    reading: Corners,
 ) -> Result<Ended, Refusal>
     requires { Lent sheet.now res.old trail.old work.old × AreBytes sheet.now }
-    ensures answered { Answered past sheet.now res.new trail.new result }
+    ensures answered { Answered (corners_of reading) sheet.now res.new trail.new result }
     ensures are_bytes { AreBytes res.new × AreBytes trail.new }
     ensures lengths_stay { (length res.new ≡ length res.old)
         × (length trail.new ≡ length trail.old) × (length work.new ≡ length work.old) }
 {
     let read = examine(sheet, work)?;
-    deliver_sheet(sheet, res, trail, work, past, read)
+    deliver_sheet(sheet, res, trail, work, reading, read)
 }

@@ -2,13 +2,14 @@
 ghost use Rattle.std.specs.Prelude.{◌≤◌, length};
 ghost use Rattle.grammar.specs.Corners.{rust, textbook};
 ghost use Rattle.grammar.specs.Laws.Words.{AreBytes};
-ghost use Rattle.analysis.specs.Survey.{reading};
+ghost use Rattle.analysis.specs.Corners.{corners_of};
 ghost use Rattle.pass.specs.Handed.{ClearedFrom, Handed, Lent};
 
 use crate::answer::Totals;
 use crate::clearing::clear_from;
 use crate::deliver::deliver;
 use crate::lent::are_lent;
+use analysis::corners::Corners;
 use sheet::answer::is_length;
 use words::numbers::Refusal;
 
@@ -41,13 +42,13 @@ fn hand(
     res: &mut [u8],
     trail: &mut [u8],
     work: &mut [u8],
-    past: bool,
+    reading: Corners,
 ) -> Result<Totals, Refusal>
     requires { Lent sheet.now res.old trail.old work.old × AreBytes sheet.now }
-    ensures { Handed (reading past) sheet.now res.old trail.old work.old result
+    ensures { Handed (corners_of reading) sheet.now res.old trail.old work.old result
         res.new trail.new work.new }
 {
-    match deliver(sheet, res, trail, work, past) {
+    match deliver(sheet, res, trail, work, reading) {
         Err(refusal) => {
             wipe(res, trail, work, 0, 0);
             Err(refusal)
@@ -72,9 +73,9 @@ fn call(
     res: &mut [u8],
     trail: &mut [u8],
     work: &mut [u8],
-    past: bool,
+    reading: Corners,
 ) -> Result<Totals, Refusal>
-    ensures { Handed (reading past) sheet.now res.old trail.old work.old result
+    ensures { Handed (corners_of reading) sheet.now res.old trail.old work.old result
         res.new trail.new work.new }
 {
     if !is_length(sheet.len()) {
@@ -83,11 +84,11 @@ fn call(
     if !are_lent(res.len(), trail.len(), work.len()) {
         return Err(Refusal::ShortBuffer);
     }
-    hand(sheet, res, trail, work, past)
+    hand(sheet, res, trail, work, reading)
 }
 
 // The pass by the original's reading of left corners.
-// Stays: there is an entry for each reading, as in the C interface. They differ in the flag alone, and `call` stands under both.
+// Stays: there is an entry for each reading, as in the C interface. They differ in the reading alone, and `call` stands under both.
 pub fn pass(
     sheet: &[u8],
     res: &mut [u8],
@@ -97,7 +98,7 @@ pub fn pass(
     ensures { Handed rust sheet.now res.old trail.old work.old result
         res.new trail.new work.new }
 {
-    call(sheet, res, trail, work, false)
+    call(sheet, res, trail, work, Corners::Rust)
 }
 
 // The pass by the textbook's reading.
@@ -110,5 +111,5 @@ pub fn pass_textbook(
     ensures { Handed textbook sheet.now res.old trail.old work.old result
         res.new trail.new work.new }
 {
-    call(sheet, res, trail, work, true)
+    call(sheet, res, trail, work, Corners::Textbook)
 }

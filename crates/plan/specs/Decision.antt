@@ -2,11 +2,11 @@
 use Rattle.std.specs.Prelude.{ℕ, ◌%◌, ◌<◌, ◌≡◌, List, Bool, not, get_or, eqb, Result, Ok, Err}
 use Rattle.grammar.specs.Tree.{Rule, body_depth, inner_depth}
 use Rattle.grammar.specs.Found.{RuleSpans}
+use Rattle.grammar.specs.Corners.{Corners}
 use Rattle.reference.specs.Substitute.{Decided, decided}
 use Rattle.reference.specs.Plan.{CyclePlan, plan_cycle, with_rule, substituting, last_tests}
 use Rattle.records.specs.declared.rules.Rules.{Rules}
 use Rattle.reach.specs.Rows.{RowOf}
-use Rattle.analysis.specs.Survey.{reading}
 use Rattle.analysis.specs.Facts.{Among}
 use Rattle.analysis.specs.declared.rounds.Marks.{Marks}
 use Rattle.planned.specs.Layout.{settled}
@@ -43,30 +43,30 @@ module _ (ws : List ℕ) (end : ℕ) (ids : List ℕ) (n : ℕ) (bs : List ℕ) 
 pub record TakesArguments (ws : List ℕ) (end at : ℕ) (r : Bool) : Type 0 where
   pub is : (t : Rule) (q : ℕ) → RuleSpans ws end body_depth at t q → eqb (t.flags % 2) 0 ≡ not r
 
-module _ (ws : List ℕ) (end : ℕ) (rules : Rules) (past : Bool) (calls : List (List ℕ)) (marks : Marks) (kept members : List ℕ) where
+module _ (ws : List ℕ) (end : ℕ) (rules : Rules) (reading : Corners) (calls : List (List ℕ)) (marks : Marks) (kept members : List ℕ) where
   -- The decision is the definition's, for all that is known.
   pub record PlanOf (limits : Limits) (bs : List ℕ) (r : Result Plan Unplanned) : Type 0 where
-    pub is : (x : CycleKnown ws end rules past calls marks kept members)
+    pub is : (x : CycleKnown ws end rules reading calls marks kept members)
         → DecidedAs ws end rules.ids rules.n bs
-        (plan_cycle (limits_of limits) (reading past) (known_grammar x) inner_depth (known_rules x) x.preserved x.cycle) r
+        (plan_cycle (limits_of limits) reading (known_grammar x) inner_depth (known_rules x) x.preserved x.cycle) r
 
   -- From the hub on.
   pub record PlanWith (limits : Limits) (hub : ℕ) (bs : List ℕ) (r : Result Plan Unplanned) : Type 0 where
-    pub is : (x : CycleKnown ws end rules past calls marks kept members) (a : Among (known_rules x) hub)
+    pub is : (x : CycleKnown ws end rules reading calls marks kept members) (a : Among (known_rules x) hub)
         → DecidedAs ws end rules.ids rules.n bs
-        (with_rule (limits_of limits) (reading past) (known_grammar x) inner_depth (known_rules x) x.preserved x.cycle
+        (with_rule (limits_of limits) reading (known_grammar x) inner_depth (known_rules x) x.preserved x.cycle
         (get_or rules.ids hub 0) a.rule) r
 
   -- From the substitution on.
   pub record PlanMade (limits : Limits) (hub : ℕ) (bs : List ℕ) (r : Result Plan Unplanned) : Type 0 where
-    pub is : (h : HubKnown ws end rules past calls marks kept members hub) (a : Among (known_rules h.known) hub)
+    pub is : (h : HubKnown ws end rules reading calls marks kept members hub) (a : Among (known_rules h.known) hub)
         → DecidedAs ws end rules.ids rules.n bs
-        (substituting (limits_of limits) (reading past) (known_grammar h.known) inner_depth (known_rules h.known) h.known.preserved
+        (substituting (limits_of limits) reading (known_grammar h.known) inner_depth (known_rules h.known) h.known.preserved
         h.known.cycle (get_or rules.ids hub 0) a.rule) r
 
   -- Behind the substitution, whatever the limits were.
   pub record PlanLast (hub : ℕ) (done : Done) (bs : List ℕ) (r : Result Plan Unplanned) : Type 0 where
-    pub is : (limits : Limits) (x : CycleKnown ws end rules past calls marks kept members)
+    pub is : (limits : Limits) (x : CycleKnown ws end rules reading calls marks kept members)
         → DecidedAs ws end rules.ids rules.n bs
-        (last_tests (limits_of limits) (reading past) (known_grammar x) inner_depth (known_rules x) x.preserved x.cycle
+        (last_tests (limits_of limits) reading (known_grammar x) inner_depth (known_rules x) x.preserved x.cycle
         (get_or rules.ids hub 0) (record { alternatives = settled ws end inner_depth bs done.l; steps = done.steps })) r

@@ -1,8 +1,8 @@
 -- The search for the first cycle with a plan, against the definition (SPECIFICATION 5).
-use Rattle.std.specs.Prelude.{ℕ, ◌<◌, ◌≤◌, ◌≡◌, List, [], Bool, length, get_or, replicate}
+use Rattle.std.specs.Prelude.{ℕ, ◌<◌, ◌≤◌, ◌≡◌, List, [], length, get_or}
 use Rattle.std.specs.Prelude.{Option, Some, None, Result, Ok, Err}
-use Rattle.grammar.specs.Numbers.{rule_limit}
 use Rattle.grammar.specs.Tree.{body_depth, inner_depth}
+use Rattle.grammar.specs.Corners.{Corners}
 use Rattle.reference.specs.Analysis.{left_corner_cycles}
 use Rattle.reference.specs.Substitute.{Decided, overfull}
 use Rattle.reference.specs.Plan.{CyclePlan, plan_cycle}
@@ -11,7 +11,6 @@ use Rattle.reference.specs.Run as R
 use Rattle.records.specs.declared.rules.Rules.{Rules}
 use Rattle.reach.specs.Rows.{RowOf}
 use Rattle.reach.specs.Listed.{AllLeft}
-use Rattle.analysis.specs.Survey.{reading}
 use Rattle.analysis.specs.declared.rounds.Marks.{Marks}
 use Rattle.hub.specs.Grounds.{Known, rules_of, grammar_at, IsCycle}
 use Rattle.turns.specs.Midway.{limits_of}
@@ -23,12 +22,6 @@ use Rattle.words.specs.declared.numbers.Refusal.TheVariants.{PlanTooLarge}
 use Rattle.plan.specs.declared.search.Found.{Found}
 use Rattle.plan.specs.Decision.{PlanAs}
 
--- Nothing is found, and nothing was tried.
-pub record IsNone (r : Found) : Type 0 where
-  pub answer : r.answer ≡ Ok None
-  pub declined : r.declined ≡ 0
-  pub clauses : r.clauses ≡ replicate rule_limit 0
-
 -- The search ends with an answer.
 pub record Ended (answer : Result (Option FoundPlan) Refusal) (declined : ℕ) (clauses : List ℕ) (r : Found) : Type 0 where
   pub is : r.answer ≡ answer
@@ -36,33 +29,33 @@ pub record Ended (answer : Result (Option FoundPlan) Refusal) (declined : ℕ) (
   pub list : r.clauses ≡ clauses
 
 -- Rules that stand in a sheet, of which all is known by a reading of left corners, and the preserved ones as a row.
-pub record RulesKnown (ws : List ℕ) (end : ℕ) (rules : Rules) (past : Bool) (calls corners : List (List ℕ)) (marks : Marks) (kept : List ℕ)
-    : Type 0 where
-  pub known : Known ws end rules past calls corners marks
+pub record RulesKnown (ws : List ℕ) (end : ℕ) (rules : Rules) (reading : Corners) (calls corners : List (List ℕ)) (marks : Marks)
+    (kept : List ℕ) : Type 0 where
+  pub known : Known ws end rules reading calls corners marks
   pub preserved : List ℕ
   pub keeps : RowOf rules.ids rules.n preserved kept
 
-module _ {ws : List ℕ} {end : ℕ} {rules : Rules} {past : Bool} {calls corners : List (List ℕ)} {marks : Marks} {kept : List ℕ}
-    (x : RulesKnown ws end rules past calls corners marks kept) where
+module _ {ws : List ℕ} {end : ℕ} {rules : Rules} {reading : Corners} {calls corners : List (List ℕ)} {marks : Marks} {kept : List ℕ}
+    (x : RulesKnown ws end rules reading calls corners marks kept) where
   -- The definition's cycles.
   abbrev pub cycles_of : List (List ℕ)
   cycles_of =
-      left_corner_cycles (reading past) (grammar_at ws end rules x.known.standing) body_depth (rules_of ws end rules x.known.standing)
+      left_corner_cycles reading (grammar_at ws end rules x.known.standing) body_depth (rules_of ws end rules x.known.standing)
 
   module _ (limits : Limits) where
     -- The definition's decision for a cycle, the search through several, and the whole of it.
     abbrev pub decision_on : List ℕ → Decided (CyclePlan inner_depth)
     decision_on =
-        plan_cycle (limits_of limits) (reading past) (grammar_at ws end rules x.known.standing) inner_depth
+        plan_cycle (limits_of limits) reading (grammar_at ws end rules x.known.standing) inner_depth
         (rules_of ws end rules x.known.standing) x.preserved
 
     abbrev pub search_through : List (List ℕ) → R.Search
     search_through =
-        search_cycles (limits_of limits) (reading past) x.preserved (grammar_at ws end rules x.known.standing)
+        search_cycles (limits_of limits) reading x.preserved (grammar_at ws end rules x.known.standing)
         (rules_of ws end rules x.known.standing)
 
     abbrev pub whole_search : R.Search
-    whole_search = find_plan (limits_of limits) (reading past) x.preserved (rules_of ws end rules x.known.standing)
+    whole_search = find_plan (limits_of limits) reading x.preserved (rules_of ws end rules x.known.standing)
 
     -- No cycle is left, and none has a plan.
     pub record NothingLeft (place : ℕ) : Type 0 where
@@ -98,15 +91,15 @@ module _ {ws : List ℕ} {end : ℕ} {rules : Rules} {past : Bool} {calls corner
         pub few : r.declined ≤ rules.n
 
 -- So it is for all that is known.
-pub record FoundOf (ws : List ℕ) (end : ℕ) (rules : Rules) (past : Bool) (calls corners : List (List ℕ)) (marks : Marks) (kept : List ℕ)
-    (limits : Limits) (bs : List ℕ) (r : Found) : Type 0 where
-  pub is : (x : RulesKnown ws end rules past calls corners marks kept) → FoundAs x limits bs r
+pub record FoundOf (ws : List ℕ) (end : ℕ) (rules : Rules) (reading : Corners) (calls corners : List (List ℕ)) (marks : Marks)
+    (kept : List ℕ) (limits : Limits) (bs : List ℕ) (r : Found) : Type 0 where
+  pub is : (x : RulesKnown ws end rules reading calls corners marks kept) → FoundAs x limits bs r
 
-module _ (ws : List ℕ) (end : ℕ) (rules : Rules) (past : Bool) (calls : List (List ℕ)) (marks : Marks) (kept : List ℕ) where
+module _ (ws : List ℕ) (end : ℕ) (rules : Rules) (reading : Corners) (calls : List (List ℕ)) (marks : Marks) (kept : List ℕ) where
   -- With rows by which the rules that are on a cycle reach each other.
   pub record JoinedKnown (closed : List (List ℕ)) : Type 0 where
     pub corners : List (List ℕ)
-    pub known : RulesKnown ws end rules past calls corners marks kept
+    pub known : RulesKnown ws end rules reading calls corners marks kept
     pub joined : AllLeft corners rules.n closed
 
   pub record TriedOf (closed : List (List ℕ)) (limits : Limits) (bs : List ℕ) (r : Found) : Type 0 where

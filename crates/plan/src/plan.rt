@@ -4,6 +4,7 @@ ghost use Rattle.std.specs.Prelude.{◌+◌, ◌<◌, ◌≤◌, length};
 ghost use Rattle.grammar.specs.Numbers.{work_bytes};
 ghost use Rattle.grammar.specs.Tree.{inner_depth};
 ghost use Rattle.grammar.specs.Found.{FoundRule};
+ghost use Rattle.analysis.specs.Corners.{corners_of};
 ghost use Rattle.planned.specs.List.{Laid, AllIn};
 ghost use Rattle.plan.specs.Known.{CycleKnown, HubKnown};
 ghost use Rattle.plan.specs.Decision.{TakesArguments, PlanOf, PlanWith, PlanMade, PlanLast};
@@ -45,18 +46,18 @@ fn finish(
 ) -> Result<Plan, Unplanned>
     requires inside { hub < f.now.g.now.rules.now.n }
     requires laid { Laid work.now done.l × AllIn (text f.now.g.now.s.now) f.now.g.now.s.now.end inner_depth work.now done.l }
-    ensures { PlanLast (text f.now.g.now.s.now) f.now.g.now.s.now.end f.now.g.now.rules.now f.now.past f.now.rows.now.calls
-        f.now.found.marks f.now.found.kept members hub done work.now result }
+    ensures { PlanLast (text f.now.g.now.s.now) f.now.g.now.s.now.end f.now.g.now.rules.now (corners_of f.now.reading) f.now.rows.now.calls
+        f.now.ground.marks f.now.ground.kept members hub done work.now result }
 {
     if done.steps == 0 {
         return Err(Unplanned::Declined(Clause::NoSteps));
     }
     let n = f.g.rules.n as usize;
     let l = done.l;
-    let ground = f.found;
+    let ground = f.ground;
     let nullable = ground.marks.nullable;
-    let past = f.past;
-    let Some(planned) = judge(f.g, nullable, past, members, hub, work, l) else {
+    let reading = f.reading;
+    let Some(planned) = judge(f.g, nullable, reading, members, hub, work, l) else {
         return Err(Unplanned::Declined(Clause::NotDirectlyRewritable));
     };
     let kept = ground.kept;
@@ -78,10 +79,10 @@ fn make(
     work: &mut [u8],
 ) -> Result<Plan, Unplanned>
     requires bounds { work_bytes ≤ length work.old }
-    requires hub_known { HubKnown (text f.now.g.now.s.now) f.now.g.now.s.now.end f.now.g.now.rules.now f.now.past f.now.rows.now.calls
-        f.now.found.marks f.now.found.kept members hub }
-    ensures { PlanMade (text f.now.g.now.s.now) f.now.g.now.s.now.end f.now.g.now.rules.now f.now.past f.now.rows.now.calls
-        f.now.found.marks f.now.found.kept members limits hub work.new result }
+    requires hub_known { HubKnown (text f.now.g.now.s.now) f.now.g.now.s.now.end f.now.g.now.rules.now (corners_of f.now.reading)
+        f.now.rows.now.calls f.now.ground.marks f.now.ground.kept members hub }
+    ensures { PlanMade (text f.now.g.now.s.now) f.now.g.now.s.now.end f.now.g.now.rules.now (corners_of f.now.reading) f.now.rows.now.calls
+        f.now.ground.marks f.now.ground.kept members limits hub work.new result }
 {
     let g = f.g;
     let n = g.rules.n as usize;
@@ -120,16 +121,16 @@ fn with_hub(
 ) -> Result<Plan, Unplanned>
     requires bounds { work_bytes ≤ length work.old }
     requires inside { hub < f.now.g.now.rules.now.n }
-    requires cycle_known { CycleKnown (text f.now.g.now.s.now) f.now.g.now.s.now.end f.now.g.now.rules.now f.now.past f.now.rows.now.calls
-        f.now.found.marks f.now.found.kept members }
-    ensures { PlanWith (text f.now.g.now.s.now) f.now.g.now.s.now.end f.now.g.now.rules.now f.now.past f.now.rows.now.calls
-        f.now.found.marks f.now.found.kept members limits hub work.new result }
+    requires cycle_known { CycleKnown (text f.now.g.now.s.now) f.now.g.now.s.now.end f.now.g.now.rules.now (corners_of f.now.reading)
+        f.now.rows.now.calls f.now.ground.marks f.now.ground.kept members }
+    ensures { PlanWith (text f.now.g.now.s.now) f.now.g.now.s.now.end f.now.g.now.rules.now (corners_of f.now.reading) f.now.rows.now.calls
+        f.now.ground.marks f.now.ground.kept members limits hub work.new result }
 {
     let places = f.g.rules.places;
     if takes_arguments(f.g.s, places[hub] as usize) {
         return Err(Unplanned::Declined(Clause::HubWithArguments));
     }
-    let stops = f.found.marks.stops;
+    let stops = f.ground.marks.stops;
     if !all_inlinable(stops, members, hub) {
         return Err(Unplanned::Declined(Clause::SatelliteNotInlinable));
     }
@@ -144,12 +145,12 @@ pub fn plan_cycle(
     work: &mut [u8],
 ) -> Result<Plan, Unplanned>
     requires bounds { work_bytes ≤ length work.old }
-    requires cycle_known { CycleKnown (text f.now.g.now.s.now) f.now.g.now.s.now.end f.now.g.now.rules.now f.now.past f.now.rows.now.calls
-        f.now.found.marks f.now.found.kept members }
-    ensures { PlanOf (text f.now.g.now.s.now) f.now.g.now.s.now.end f.now.g.now.rules.now f.now.past f.now.rows.now.calls
-        f.now.found.marks f.now.found.kept members limits work.new result }
+    requires cycle_known { CycleKnown (text f.now.g.now.s.now) f.now.g.now.s.now.end f.now.g.now.rules.now (corners_of f.now.reading)
+        f.now.rows.now.calls f.now.ground.marks f.now.ground.kept members }
+    ensures { PlanOf (text f.now.g.now.s.now) f.now.g.now.s.now.end f.now.g.now.rules.now (corners_of f.now.reading) f.now.rows.now.calls
+        f.now.ground.marks f.now.ground.kept members limits work.new result }
 {
-    let ground = f.found;
+    let ground = f.ground;
     let nullable = ground.marks.nullable;
     let kept = ground.kept;
     let Some(hub) = choose_hub(f.g, nullable, &f.rows.calls, members, kept) else {

@@ -2,7 +2,8 @@
 // No cycle is looked for before those in front of it are declined.
 ghost use Rattle.std.specs.Prelude.{◌≡◌, ◌≤◌, length};
 ghost use Rattle.grammar.specs.Numbers.{rule_limit, work_bytes};
-ghost use Rattle.plan.specs.Search.{IsNone, Ended, RulesKnown, FoundOf, JoinedKnown, TriedOf};
+ghost use Rattle.analysis.specs.Corners.{corners_of};
+ghost use Rattle.plan.specs.Search.{Ended, RulesKnown, FoundOf, JoinedKnown, TriedOf};
 ghost use Rattle.words.specs.Sheet.{text};
 
 use crate::facts::Facts;
@@ -31,18 +32,6 @@ pub struct Found {
     pub clauses: [u32; Row::RULES],
 }
 
-impl Found {
-    pub fn none() -> Found
-        ensures { IsNone result }
-    {
-        Found {
-            answer: Ok(None),
-            declined: 0,
-            clauses: [0; Row::RULES],
-        }
-    }
-}
-
 fn ended(
     answer: Result<Option<FoundPlan>, Refusal>,
     declined: usize,
@@ -67,15 +56,14 @@ fn try_cycles(
 ) -> Found
     requires bounds { work_bytes ≤ length work.old }
     requires closed_len { (length closed.now ≡ rule_limit) × (f.now.g.now.rules.now.n ≤ rule_limit) }
-    requires joined_known { JoinedKnown (text f.now.g.now.s.now) f.now.g.now.s.now.end f.now.g.now.rules.now f.now.past f.now.rows.now.calls
-        f.now.found.marks f.now.found.kept closed.now }
-    ensures { TriedOf (text f.now.g.now.s.now) f.now.g.now.s.now.end f.now.g.now.rules.now f.now.past f.now.rows.now.calls
-        f.now.found.marks f.now.found.kept closed.now limits work.new result }
+    requires joined_known { JoinedKnown (text f.now.g.now.s.now) f.now.g.now.s.now.end f.now.g.now.rules.now (corners_of f.now.reading)
+        f.now.rows.now.calls f.now.ground.marks f.now.ground.kept closed.now }
+    ensures { TriedOf (text f.now.g.now.s.now) f.now.g.now.s.now.end f.now.g.now.rules.now (corners_of f.now.reading) f.now.rows.now.calls
+        f.now.ground.marks f.now.ground.kept closed.now limits work.new result }
 {
     let n = f.g.rules.n as usize;
     let ids = f.g.rules.ids;
-    let none = Found::none();
-    let mut clauses = none.clauses;
+    let mut clauses = [0u32; Row::RULES];
     let mut left = loops(closed, n);
     for k in 0..n {
         let Some(ahead) = next_cycle(closed, &ids, n, left) else {
@@ -101,10 +89,10 @@ fn try_cycles(
 #[tactic(auto, using(crate::proofs::Laws::Cycles::found_of))]
 pub fn find_plan(f: &Facts, limits: Limits, work: &mut [u8]) -> Found
     requires bounds { work_bytes ≤ length work.old }
-    requires rules_known { RulesKnown (text f.now.g.now.s.now) f.now.g.now.s.now.end f.now.g.now.rules.now f.now.past f.now.rows.now.calls
-        f.now.rows.now.corners f.now.found.marks f.now.found.kept }
-    ensures { FoundOf (text f.now.g.now.s.now) f.now.g.now.s.now.end f.now.g.now.rules.now f.now.past f.now.rows.now.calls
-        f.now.rows.now.corners f.now.found.marks f.now.found.kept limits work.new result }
+    requires rules_known { RulesKnown (text f.now.g.now.s.now) f.now.g.now.s.now.end f.now.g.now.rules.now (corners_of f.now.reading)
+        f.now.rows.now.calls f.now.rows.now.corners f.now.ground.marks f.now.ground.kept }
+    ensures { FoundOf (text f.now.g.now.s.now) f.now.g.now.s.now.end f.now.g.now.rules.now (corners_of f.now.reading) f.now.rows.now.calls
+        f.now.rows.now.corners f.now.ground.marks f.now.ground.kept limits work.new result }
 {
     let closed = joined(f.rows.corners, f.g.rules.n as usize);
     try_cycles(f, &closed, limits, work)

@@ -15,8 +15,7 @@ pub struct Shown<'a, 'b, 'c> {
     pub work: &'c [u8],
     pub x: Listed,
     ghost located: { Located work.now x },
-    ghost listed: { ListedIn (text s.now) s.now.end inner_depth work.now x }
-        by { listed_prop (text s.now) s.now.end inner_depth work.now x },
+    ghost listed: { ListedIn (text s.now) s.now.end inner_depth work.now x } by { listed_prop },
 }
 
 impl Shown<'_, '_, '_> {

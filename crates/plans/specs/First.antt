@@ -1,5 +1,5 @@
 -- The search for the first plan of rules against the definition (SPECIFICATION 5), and its numbers.
-use Rattle.std.specs.Prelude.{ℕ, ◌<◌, ◌≤◌, ◌≡◌, List, [], ◌∷◌, Bool, length, get_or}
+use Rattle.std.specs.Prelude.{ℕ, ◌<◌, ◌≤◌, ◌≡◌, List, [], ◌∷◌, length, get_or}
 use Rattle.std.specs.Prelude.{Option, Some, None, Result, Ok, Err}
 use Rattle.grammar.specs.Tree.{Rule, body_depth, inner_depth}
 use Rattle.grammar.specs.Corners.{Corners}
@@ -10,7 +10,6 @@ use Rattle.reference.specs.Run as R
 use Rattle.reference.specs.Run.{find_plan, no_plan, planned, too_large}
 use Rattle.records.specs.declared.rules.Rules.{Rules}
 use Rattle.reach.specs.Rows.{RowOf}
-use Rattle.analysis.specs.Survey.{reading}
 use Rattle.analysis.specs.Facts.{Standing}
 use Rattle.steps.specs.Decide.{DeclinedByNumber}
 use Rattle.turns.specs.declared.turn.Unplanned.{Unplanned}
@@ -64,9 +63,9 @@ module _ (limits : Limits) (ws : List ℕ) (end : ℕ) (ids : List ℕ) (n : ℕ
     pub behind : (k : ℕ) → r.declined ≤ k → get_or r.clauses k 0 ≡ 0
 
 -- So it is for rules that stand in a sheet, and preserved ids.
-pub record FirstOf (ws : List ℕ) (end : ℕ) (preserved : List ℕ) (rules : Rules) (past : Bool) (bs : List ℕ) (r : Found) : Type 0 where
+pub record FirstOf (ws : List ℕ) (end : ℕ) (preserved : List ℕ) (rules : Rules) (reading : Corners) (bs : List ℕ) (r : Found) : Type 0 where
   pub is : (s : Standing ws end rules)
-      → FirstAs standard ws end rules.ids rules.n bs (reading past) s.rows.found.trees preserved r
+      → FirstAs standard ws end rules.ids rules.n bs reading s.rows.found.trees preserved r
 
 -- What a search comes to, as a choice among the cycles: the decision for the last one that was tried; none where each was declined.
 abbrev pub choice_in : Result (Option FoundPlan) Refusal → Option (Result Plan Unplanned)

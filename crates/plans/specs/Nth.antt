@@ -1,5 +1,5 @@
 -- The decision for the nth cycle against the definition (SPECIFICATION 5 to 10), and its numbers.
-use Rattle.std.specs.Prelude.{ℕ, ◌<◌, ◌≤◌, ◌-◌, min, ◌≡◌, List, [], ◌∷◌, Bool, length, get_or, replicate}
+use Rattle.std.specs.Prelude.{ℕ, ◌<◌, ◌≤◌, ◌-◌, min, ◌≡◌, List, [], ◌∷◌, length, get_or, replicate}
 use Rattle.std.specs.Prelude.{Option, Some, None, Result, Ok, Err}
 use Rattle.grammar.specs.Numbers.{word_end}
 use Rattle.grammar.specs.Tree.{Rule, body_depth, inner_depth}
@@ -8,7 +8,6 @@ use Rattle.reference.specs.Analysis.{grammar_of, left_corner_cycles}
 use Rattle.reference.specs.Substitute.{standard, clause_number}
 use Rattle.reference.specs.Plan.{plan_cycle}
 use Rattle.records.specs.declared.rules.Rules.{Rules}
-use Rattle.analysis.specs.Survey.{reading}
 use Rattle.analysis.specs.Facts.{Standing}
 use Rattle.steps.specs.Decide.{clause_of}
 use Rattle.turns.specs.declared.turn.Unplanned.{Unplanned}
@@ -39,9 +38,10 @@ module _ (ws : List ℕ) (end : ℕ) (ids : List ℕ) (n : ℕ) (bs : List ℕ) 
     pub choice : ChoiceAs r.choice
 
 -- So it is for rules that stand in a sheet, and preserved ids.
-pub record NthOf (ws : List ℕ) (end : ℕ) (preserved : List ℕ) (rules : Rules) (past : Bool) (nth : ℕ) (bs : List ℕ) (r : Nth) : Type 0 where
+pub record NthOf (ws : List ℕ) (end : ℕ) (preserved : List ℕ) (rules : Rules) (reading : Corners) (nth : ℕ) (bs : List ℕ) (r : Nth)
+    : Type 0 where
   pub is : (s : Standing ws end rules)
-      → NthAs ws end rules.ids rules.n bs (reading past) s.rows.found.trees preserved nth r
+      → NthAs ws end rules.ids rules.n bs reading s.rows.found.trees preserved nth r
 
 -- A number as one of 32 bits; a larger one is told as the largest.
 abbrev pub capped : ℕ → ℕ

@@ -2,9 +2,11 @@
 ghost use Rattle.std.specs.Prelude.{◌≡◌, ◌≤◌, length};
 ghost use Rattle.grammar.specs.Numbers.{most_words, work_bytes};
 ghost use Rattle.grammar.specs.Words.{words};
+ghost use Rattle.analysis.specs.Corners.{corners_of};
 ghost use Rattle.plans.specs.First.{FirstOf, choice_in, search_cycle};
 ghost use Rattle.words.specs.Sheet.{text};
 
+use analysis::corners::Corners;
 use analysis::rounds::Rows;
 use analysis::ruled::Ruled;
 use hub::preserved::Preserved;
@@ -20,18 +22,19 @@ use words::numbers::Refusal;
 // The first plan for rules that stand in a sheet, and preserved ids.
 // Stays: it opens as `decide_nth` does. A function for that would hand back a `Facts` that borrows the rows, and state in its clauses
 // what `find_out` states: it would be longer than the two statements that it spares each of its callers.
-pub fn decide_first(g: &Ruled, preserved: &Preserved, past: bool, work: &mut [u8]) -> Found
+pub fn decide_first(g: &Ruled, preserved: &Preserved, reading: Corners, work: &mut [u8]) -> Found
     requires bounds { (g.now.s.now.end ≤ most_words) × (work_bytes ≤ length work.old) }
-    ensures { FirstOf (text g.now.s.now) g.now.s.now.end (words preserved.now.ids.now) g.now.rules.now past work.new result }
+    ensures { FirstOf (text g.now.s.now) g.now.s.now.end (words preserved.now.ids.now) g.now.rules.now
+        (corners_of reading) work.new result }
 {
     let mut rows = Rows::empty();
-    let ground = find_out(g, preserved, past, &mut rows, work);
+    let ground = find_out(g, preserved, reading, &mut rows, work);
     let limits = Limits::standard();
     let facts = Facts {
         g,
-        past,
+        reading,
         rows: &rows,
-        found: ground,
+        ground,
     };
     find_plan(&facts, limits, work)
 }

@@ -15,6 +15,7 @@ use crate::first::{choice_in, decide_first, members_in};
 use crate::nth::decide_nth;
 use crate::told::{leave, tell};
 use analysis::ruled::Ruled;
+use facts::reading_of;
 use hub::preserved::Preserved;
 use sheet::{read, refusal_numbers};
 use words::sheet::Sheet;
@@ -49,7 +50,7 @@ pub fn plan_nth(
             let preserved = Preserved {
                 ids: &sheet[4 * end..4 * to],
             };
-            let decided = decide_nth(&g, &preserved, textbook != 0, nth, work);
+            let decided = decide_nth(&g, &preserved, reading_of(textbook), nth, work);
             let choice = decided.choice;
             let t = tell(decided.cycles, choice);
             let told = t.numbers;
@@ -97,7 +98,7 @@ pub fn first_plan(
             let preserved = Preserved {
                 ids: &sheet[4 * end..4 * to],
             };
-            let found = decide_first(&g, &preserved, textbook != 0, work);
+            let found = decide_first(&g, &preserved, reading_of(textbook), work);
             let declines = found.clauses;
             let answer = found.answer;
             let choice = choice_in(answer);

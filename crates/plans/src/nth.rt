@@ -2,9 +2,11 @@
 ghost use Rattle.std.specs.Prelude.{◌≡◌, ◌≤◌, length};
 ghost use Rattle.grammar.specs.Numbers.{most_words, work_bytes};
 ghost use Rattle.grammar.specs.Words.{words};
+ghost use Rattle.analysis.specs.Corners.{corners_of};
 ghost use Rattle.plans.specs.Nth.{NthOf};
 ghost use Rattle.words.specs.Sheet.{text};
 
+use analysis::corners::Corners;
 use analysis::rounds::Rows;
 use analysis::ruled::Ruled;
 use hub::preserved::Preserved;
@@ -27,16 +29,17 @@ pub struct Nth {
 pub fn decide_nth(
     g: &Ruled,
     preserved: &Preserved,
-    past: bool,
+    reading: Corners,
     nth: u32,
     work: &mut [u8],
 ) -> Nth
     requires bounds { (g.now.s.now.end ≤ most_words) × (work_bytes ≤ length work.old) }
-    ensures { NthOf (text g.now.s.now) g.now.s.now.end (words preserved.now.ids.now) g.now.rules.now past nth work.new result }
+    ensures { NthOf (text g.now.s.now) g.now.s.now.end (words preserved.now.ids.now) g.now.rules.now
+        (corners_of reading) nth work.new result }
 {
     let mut rows = Rows::empty();
     let mut cycles = [[0u64; Row::WORDS]; Row::RULES];
-    let ground = find_out(g, preserved, past, &mut rows, work);
+    let ground = find_out(g, preserved, reading, &mut rows, work);
     let ids = g.rules.ids;
     let n = list_cycles(rows.corners, ids, g.rules.n as usize, &mut cycles);
     if n <= nth {
@@ -49,9 +52,9 @@ pub fn decide_nth(
     let limits = Limits::standard();
     let facts = Facts {
         g,
-        past,
+        reading,
         rows: &rows,
-        found: ground,
+        ground,
     };
     let decision = plan_cycle(&facts, members, limits, work);
     Nth {

@@ -32,9 +32,9 @@ module _ (cs ks : List (List ℕ)) (m : Renewed) (cs' ks' : List (List ℕ)) (m'
   pub record PlaceLess (n k : ℕ) : Type 0 where
     pub calls : RowsLess n k cs cs'
     pub corners : RowsLess n k ks ks'
-    pub nullable : Less m.found.marks.nullable k m'.found.marks.nullable
-    pub stops : Less m.found.marks.stops k m'.found.marks.stops
-    pub kept : Less m.found.kept k m'.found.kept
+    pub nullable : Less m.ground.marks.nullable k m'.ground.marks.nullable
+    pub stops : Less m.ground.marks.stops k m'.ground.marks.stops
+    pub kept : Less m.ground.kept k m'.ground.kept
     pub hub : m'.hub ≡ after k m.hub
 
   -- Nothing is changed.
@@ -54,9 +54,9 @@ module _ (cs ks : List (List ℕ)) (m : Renewed) (cs' ks' : List (List ℕ)) (m'
   pub record Fewer (rs qs : List Rule) (gone : List ℕ) : Type 0 where
     pub calls : (give : Rule → List ℕ) → HasRows rs give cs → HasRows qs give cs'
     pub corners : (give : Rule → List ℕ) → HasRows rs give ks → HasRows qs give ks'
-    pub nullable : (xs : List ℕ) → HasRow rs xs m.found.marks.nullable → HasRow qs xs m'.found.marks.nullable
-    pub stops : (xs : List ℕ) → HasRow rs xs m.found.marks.stops → HasRow qs xs m'.found.marks.stops
-    pub kept : (xs : List ℕ) → HasRow rs xs m.found.kept → HasRow qs xs m'.found.kept
+    pub nullable : (xs : List ℕ) → HasRow rs xs m.ground.marks.nullable → HasRow qs xs m'.ground.marks.nullable
+    pub stops : (xs : List ℕ) → HasRow rs xs m.ground.marks.stops → HasRow qs xs m'.ground.marks.stops
+    pub kept : (xs : List ℕ) → HasRow rs xs m.ground.kept → HasRow qs xs m'.ground.kept
     pub hub : (h : ℕ) → member h gone ≡ false → IsAt rs m.hub h → IsAt qs m'.hub h
 
   -- So it is for all rules of which a row tells those that are gone.

@@ -23,10 +23,10 @@ pub record BitPut (row : List ℕ) (j : ℕ) (on : Bool) (r : List ℕ) : Type 0
   pub other : (k : ℕ) → (k ≡ j → ⊥) → bit r k ≡ bit row k
 
 -- The rule at a place surveyed anew, and what is kept of it.
-pub record HubSurveyed (ws : List ℕ) (end : ℕ) (rules : Rules) (hub : ℕ) (past : Bool) (nullable : List ℕ) (cs ks : List (List ℕ))
+pub record HubSurveyed (ws : List ℕ) (end : ℕ) (rules : Rules) (hub : ℕ) (reading : Corners) (nullable : List ℕ) (cs ks : List (List ℕ))
     (st : List ℕ) (cs' ks' : List (List ℕ)) (st' : List ℕ) : Type 0 where
   pub survey : Survey
-  pub surveyed : Surveyed (record { names = rules.names; n = rules.n; nullable = nullable; past = past }) ws end
+  pub surveyed : Surveyed (record { names = rules.names; n = rules.n; nullable = nullable; reading = reading }) ws end
       (get_or rules.places hub 0) survey
   pub calls : cs' ≡ set cs hub survey.calls
   pub corners : ks' ≡ set ks hub survey.corners
@@ -44,14 +44,15 @@ pub record Stays (rs : List Rule) (hub : ℕ) (gone : List ℕ) (ks : List Rule)
   pub corners : (c : Corners) (r : Rule) → Memᴰ r ks
       → block_corners c (grammar_of body_depth ks) body_depth r.body ≡ block_corners c (grammar_of body_depth rs) body_depth r.body
 
-module _ (ws : List ℕ) (end : ℕ) (rules : Rules) (n hub : ℕ) (row : List ℕ) (past : Bool) (calls corners : List (List ℕ)) (marks : Marks)
+module _ (ws : List ℕ) (end : ℕ) (rules : Rules) (n hub : ℕ) (row : List ℕ) (reading : Corners)
+    (calls corners : List (List ℕ)) (marks : Marks)
     (kept : List ℕ) where
   -- Rules that stand in a sheet after a plan, and what was known before it: n rules, the hub's place, and the row of those that are gone.
   pub record Renewable : Type 0 where
     pub words₀ : List ℕ
     pub end₀ : ℕ
     pub rules₀ : Rules
-    pub known : RulesKnown words₀ end₀ rules₀ past calls corners marks kept
+    pub known : RulesKnown words₀ end₀ rules₀ reading calls corners marks kept
     pub gone : List ℕ
     pub gone_row : RowOf rules₀.ids rules₀.n gone row
     pub count : n ≡ rules₀.n
@@ -62,7 +63,7 @@ module _ (ws : List ℕ) (end : ℕ) (rules : Rules) (n hub : ℕ) (row : List �
 
   -- It is known of the rules that stay, with the same preserved ones; and the hub's place among them.
   pub record RenewedAs (x : Renewable) (calls' corners' : List (List ℕ)) (r : Renewed) : Type 0 where
-    pub known : RulesKnown ws end rules past calls' corners' r.found.marks r.found.kept
+    pub known : RulesKnown ws end rules reading calls' corners' r.ground.marks r.ground.kept
     pub standing : known.known.standing ≡ x.standing
     pub preserved : known.preserved ≡ x.known.preserved
     pub inside : r.hub < rules.n

@@ -52,14 +52,14 @@ fn place_less(m: Renewed, n: usize, k: usize, rows: &mut Rows) -> Renewed
 {
     rows_less(&mut rows.calls, n, k);
     rows_less(&mut rows.corners, n, k);
-    let known = m.found;
+    let ground = m.ground;
     let marks = Marks {
-        nullable: without_place(known.marks.nullable, k),
-        stops: without_place(known.marks.stops, k),
+        nullable: without_place(ground.marks.nullable, k),
+        stops: without_place(ground.marks.stops, k),
     };
-    let kept = without_place(known.kept, k);
+    let kept = without_place(ground.kept, k);
     Renewed {
-        found: Ground { marks, kept },
+        ground: Ground { marks, kept },
         hub: place_after(k, m.hub),
     }
 }

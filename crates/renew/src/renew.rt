@@ -1,11 +1,13 @@
 // After a plan was applied: the rows of the rules that stay, and the hub surveyed anew.
 ghost use Rattle.std.specs.Prelude.{◌≡◌, ◌<◌, ◌≤◌, length};
 ghost use Rattle.grammar.specs.Numbers.{rule_limit, work_bytes};
+ghost use Rattle.analysis.specs.Corners.{corners_of};
 ghost use Rattle.analysis.specs.Names.{table_with};
 ghost use Rattle.renew.specs.Renewed.{BitPut, HubSurveyed, Renewable, RenewedOf};
 ghost use Rattle.words.specs.Sheet.{text};
 
 use crate::places::rules_less;
+use analysis::corners::Corners;
 use analysis::known::Known;
 use analysis::names::put_names;
 use analysis::rounds::{Marks, Rows};
@@ -17,7 +19,7 @@ use reach::rows::{Row, add_if, without};
 // What is known of rules, and the hub's place among them.
 #[derive(Clone, Copy, Debug, PartialEq, Eq)]
 pub struct Renewed {
-    pub found: Ground,
+    pub ground: Ground,
     pub hub: usize,
 }
 
@@ -34,13 +36,13 @@ fn put_bit(row: [u64; Row::WORDS], j: usize, on: bool) -> [u64; Row::WORDS]
 fn survey_hub(
     g: &Ruled,
     hub: usize,
-    past: bool,
+    reading: Corners,
     marks: Marks,
     rows: &mut Rows,
     work: &mut [u8],
 ) -> Marks
     requires bounds { (work_bytes ≤ length work.old) × (hub < g.now.rules.now.n) }
-    ensures hub_surveyed { HubSurveyed (text g.now.s.now) g.now.s.now.end g.now.rules.now hub past marks.nullable
+    ensures hub_surveyed { HubSurveyed (text g.now.s.now) g.now.s.now.end g.now.rules.now hub (corners_of reading) marks.nullable
         rows.old.calls rows.old.corners marks.stops rows.new.calls rows.new.corners result.stops }
     ensures same_nullable { result.nullable ≡ marks.nullable }
     ensures work_after { work.new ≡ table_with g.now.rules.now.names g.now.rules.now.n work.old }
@@ -55,7 +57,7 @@ fn survey_hub(
         n,
         table: work,
         nullable,
-        past,
+        reading,
     };
     let v = survey_rule(g.s, &known, places[hub] as usize);
     let c = v.calls;
@@ -72,23 +74,23 @@ pub fn renew(
     n: usize,
     before: Renewed,
     gone: [u64; Row::WORDS],
-    past: bool,
+    reading: Corners,
     rows: &mut Rows,
     work: &mut [u8],
 ) -> Renewed
     requires bounds { work_bytes ≤ length work.old }
-    requires renewable { Renewable (text g.now.s.now) g.now.s.now.end g.now.rules.now n before.hub gone past rows.old.calls rows.old.corners
-        before.found.marks before.found.kept }
-    ensures renewed_of { RenewedOf (text g.now.s.now) g.now.s.now.end g.now.rules.now n before.hub gone past
-        rows.old.calls rows.old.corners before.found.marks before.found.kept rows.new.calls rows.new.corners result }
+    requires renewable { Renewable (text g.now.s.now) g.now.s.now.end g.now.rules.now n before.hub gone (corners_of reading)
+        rows.old.calls rows.old.corners before.ground.marks before.ground.kept }
+    ensures renewed_of { RenewedOf (text g.now.s.now) g.now.s.now.end g.now.rules.now n before.hub gone (corners_of reading)
+        rows.old.calls rows.old.corners before.ground.marks before.ground.kept rows.new.calls rows.new.corners result }
     ensures work_after { work.new ≡ table_with g.now.rules.now.names g.now.rules.now.n work.old }
 {
     let rest = rules_less(gone, before, n, rows);
-    let known = rest.found;
-    let marks = survey_hub(g, rest.hub, past, known.marks, rows, work);
-    let kept = known.kept;
+    let ground = rest.ground;
+    let marks = survey_hub(g, rest.hub, reading, ground.marks, rows, work);
+    let kept = ground.kept;
     Renewed {
-        found: Ground { marks, kept },
+        ground: Ground { marks, kept },
         hub: rest.hub,
     }
 }

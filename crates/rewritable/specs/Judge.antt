@@ -1,5 +1,5 @@
 -- What is told of the planned list: whether it is directly left-recursive as the definition has it, and the rules that it calls.
-use Rattle.std.specs.Prelude.{ℕ, ◌≡◌, List, Bool, true, false, not, get_or, Some, None}
+use Rattle.std.specs.Prelude.{ℕ, ◌≡◌, List, true, false, not, get_or, Some, None}
 use Rattle.std.specs.declared.option.Option.{Option}
 use Rattle.grammar.specs.Tree.{Element, Block, inner_depth}
 use Rattle.grammar.specs.Lists.{each}
@@ -9,7 +9,7 @@ use Rattle.reference.specs.Substitute.{Planned}
 use Rattle.reference.specs.Plan.{is_primary, is_recursive, is_fit, planned_hub_is_directly_rewritable}
 use Rattle.records.specs.declared.rules.Rules.{Rules}
 use Rattle.reach.specs.Rows.{RowOf}
-use Rattle.analysis.specs.Survey.{View, reading}
+use Rattle.analysis.specs.Survey.{View}
 use Rattle.analysis.specs.Facts.{Standing}
 use Rattle.planned.specs.Layout.{settled}
 use Rattle.planned.specs.declared.list.Sizes.{Sizes}
@@ -39,16 +39,16 @@ module _ (c : Corners) (g : Grammar) (ids : List ℕ) (n : ℕ) (cycle : List �
 module _ (v : View) (members : List ℕ) (hub d : ℕ) where
   pub record VerdictOf (es : List (Element (Block d))) (r : Option Verdict) : Type 0 where
     pub by : (w : Agreeing v) (cycle : List ℕ) → RowOf w.ids v.n cycle members
-        → IsJudged (reading v.past) w.grammar w.ids v.n cycle (get_or w.ids hub 0) d es r
+        → IsJudged v.reading w.grammar w.ids v.n cycle (get_or w.ids hub 0) d es r
 
   pub record JudgedOf (ps : List (Planned d)) (r : Option (List ℕ)) : Type 0 where
     pub by : (w : Agreeing v) (cycle : List ℕ) → RowOf w.ids v.n cycle members
-        → AreJudged (reading v.past) w.grammar w.ids v.n cycle (get_or w.ids hub 0) d ps r
+        → AreJudged v.reading w.grammar w.ids v.n cycle (get_or w.ids hub 0) d ps r
 
 -- By the grammar of the rules that stand in a sheet, whose nullable rules are those known.
-pub record JudgedFound (ws : List ℕ) (end : ℕ) (rules : Rules) (nullable : List ℕ) (past : Bool) (members : List ℕ)
+pub record JudgedFound (ws : List ℕ) (end : ℕ) (rules : Rules) (nullable : List ℕ) (reading : Corners) (members : List ℕ)
     (hub : ℕ) (bs : List ℕ) (l : Sizes) (r : Option (List ℕ)) : Type 0 where
   pub is : (s : Standing ws end rules) (g : Grammar) (cycle : List ℕ) → g.names ≡ names_of s.rows.found.trees
       → RowOf rules.ids rules.n g.nullable nullable → RowOf rules.ids rules.n cycle members
-      → AreJudged (reading past) g rules.ids rules.n cycle (get_or rules.ids hub 0) inner_depth
+      → AreJudged reading g rules.ids rules.n cycle (get_or rules.ids hub 0) inner_depth
       (settled ws end inner_depth bs l) r

@@ -7,7 +7,7 @@ use Rattle.grammar.specs.Found.{FoundElement, ElementSpans}
 use Rattle.grammar.specs.Fold.{folded, element_fold, block_fold}
 use Rattle.reference.specs.Analysis.{Grammar, collect_calls_in_elements, left_corners, element_nullable, block_is_nullable}
 use Rattle.reach.specs.Rows.{RowOf}
-use Rattle.analysis.specs.Survey.{View, Seen, reading, surveying}
+use Rattle.analysis.specs.Survey.{View, Seen, surveying}
 use Rattle.analysis.specs.Facts.{Agrees}
 use Rattle.planned.specs.Layout.{made_if}
 use Rattle.analysis.specs.declared.leaf.Seen.{Seen as Held}
@@ -39,5 +39,5 @@ pub record Agreeing (v : View) : Type 0 where
 module _ (v : View) (d : ℕ) (es : List (Element (Block d))) where
   pub record WalkOf (r : Held) : Type 0 where
     pub calls : (w : Agreeing v) → RowOf w.ids v.n (collect_calls_in_elements w.grammar d es) r.calls
-    pub corners : (w : Agreeing v) → RowOf w.ids v.n (left_corners (reading v.past) w.grammar d es) r.corners
+    pub corners : (w : Agreeing v) → RowOf w.ids v.n (left_corners v.reading w.grammar d es) r.corners
     pub tail : (w : Agreeing v) → r.null ≡ all (element_nullable w.grammar (block_is_nullable w.grammar d)) (drop 1 es)

@@ -3,6 +3,7 @@
 ghost use Rattle.std.specs.Prelude.{◌≡◌, ◌<◌, ◌≤◌};
 ghost use Rattle.grammar.specs.Numbers.{rule_limit};
 ghost use Rattle.grammar.specs.Tree.{inner_depth};
+ghost use Rattle.analysis.specs.Corners.{corners_of};
 ghost use Rattle.analysis.specs.Names.{Tabled};
 ghost use Rattle.analysis.specs.Survey.{view_of};
 ghost use Rattle.planned.specs.Layout.{settled};
@@ -13,6 +14,7 @@ ghost use Rattle.words.specs.Sheet.{text};
 
 use crate::items::{may_be_rewritten, starts_with_call};
 use crate::walk::walk_alternative;
+use analysis::corners::Corners;
 use analysis::known::Known;
 use analysis::ruled::Ruled;
 use planned::list::{Cursor, Sizes};
@@ -28,7 +30,12 @@ struct Verdict {
     calls: [u64; Row::WORDS],
 }
 
-fn judge_alternative(a: &Shown, v: &Known, members: [u64; Row::WORDS], hub: usize) -> Option<Verdict>
+fn judge_alternative(
+    a: &Shown,
+    v: &Known,
+    members: [u64; Row::WORDS],
+    hub: usize,
+) -> Option<Verdict>
     requires { hub < v.now.n }
     ensures { VerdictOf (view_of v.now) members hub inner_depth (meant a.now).elements result }
 {
@@ -80,7 +87,7 @@ fn judge_list(
 pub fn judge(
     g: &Ruled,
     nullable: [u64; Row::WORDS],
-    past: bool,
+    reading: Corners,
     members: [u64; Row::WORDS],
     hub: usize,
     work: &[u8],
@@ -88,7 +95,7 @@ pub fn judge(
 ) -> Option<[u64; Row::WORDS]>
     requires inside { hub < g.now.rules.now.n }
     requires laid { Laid work.now l × AllIn (text g.now.s.now) g.now.s.now.end inner_depth work.now l }
-    ensures { JudgedFound (text g.now.s.now) g.now.s.now.end g.now.rules.now nullable past members hub work.now l result }
+    ensures { JudgedFound (text g.now.s.now) g.now.s.now.end g.now.rules.now nullable (corners_of reading) members hub work.now l result }
 {
     let names = g.rules.names;
     let v = Known {
@@ -96,7 +103,7 @@ pub fn judge(
         n: g.rules.n as usize,
         table: &g.s.bytes[..0],
         nullable,
-        past,
+        reading,
     };
     judge_list(g.s, &v, members, hub, work, l)
 }

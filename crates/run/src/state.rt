@@ -24,19 +24,19 @@ impl Trail {
 #[derive(Clone, Copy, Debug, PartialEq, Eq)]
 pub struct State {
     pub at: Applied,
-    pub found: Ground,
+    pub ground: Ground,
     pub plans: u32,
     pub steps: u32,
 }
 
 impl State {
     // Before the first plan, with what was found out about the rules.
-    pub fn begin(at: Applied, found: Ground) -> State
-        ensures { result ≡ at_start at found }
+    pub fn begin(at: Applied, ground: Ground) -> State
+        ensures { result ≡ at_start at ground }
     {
         State {
             at,
-            found,
+            ground,
             plans: 0,
             steps: 0,
         }

@@ -3,6 +3,7 @@ ghost use Rattle.std.specs.Prelude.{◌≡◌, ◌+◌, ◌≤◌, ◌<◌, leng
 ghost use Rattle.grammar.specs.Numbers.{rule_limit, most_words, work_bytes, word_end};
 ghost use Rattle.grammar.specs.Words.{words};
 ghost use Rattle.words.specs.Room.{Room};
+ghost use Rattle.analysis.specs.Corners.{corners_of};
 ghost use Rattle.renew.specs.Renewed.{Renewable};
 ghost use Rattle.turns.specs.Midway.{limits_of};
 ghost use Rattle.apply.specs.Applied.{Buffers};
@@ -10,6 +11,7 @@ ghost use Rattle.run.specs.Midst.{Going};
 ghost use Rattle.run.specs.Turn.{Small, UpToDate, Advancing, AdvancedOf, TurnedOf};
 
 use crate::state::State;
+use analysis::corners::Corners;
 use analysis::rounds::Rows;
 use analysis::ruled::Ruled;
 use apply::apply::{Applied, apply};
@@ -26,16 +28,16 @@ fn bring_up(
     res: &[u8],
     work: &mut [u8],
     rows: &mut Rows,
-    past: bool,
+    reading: Corners,
     st: State,
     a: Applied,
     p: Plan,
 ) -> State
     requires bounds { Room res.now a.end × (work_bytes ≤ length work.old) × (st.at.rules.n ≤ rule_limit) }
     requires plans_bound { (st.plans + 1 < word_end) × (st.steps + p.steps < word_end) }
-    requires renewable { Renewable (words res.now) a.end a.rules st.at.rules.n p.hub p.removable past rows.old.calls
-        rows.old.corners st.found.marks st.found.kept }
-    ensures up_to_date { UpToDate (words res.now) past rows.old.calls rows.old.corners st a p
+    requires renewable { Renewable (words res.now) a.end a.rules st.at.rules.n p.hub p.removable (corners_of reading) rows.old.calls
+        rows.old.corners st.ground.marks st.ground.kept }
+    ensures up_to_date { UpToDate (words res.now) (corners_of reading) rows.old.calls rows.old.corners st a p
         rows.new.calls rows.new.corners result }
 {
     let at = st.at;
@@ -43,7 +45,7 @@ fn bring_up(
     let n = old.n as usize;
     let plans = st.plans + 1;
     let steps = st.steps + p.steps as u32;
-    let found = st.found;
+    let ground = st.ground;
     let gone = p.removable;
     let s = Sheet {
         bytes: res,
@@ -53,11 +55,11 @@ fn bring_up(
         s: &s,
         rules: &a.rules,
     };
-    let before = Renewed { found, hub: p.hub };
-    let r = renew(&g, n, before, gone, past, rows, work);
+    let before = Renewed { ground, hub: p.hub };
+    let r = renew(&g, n, before, gone, reading, rows, work);
     State {
         at: a,
-        found: r.found,
+        ground: r.ground,
         plans,
         steps,
     }
@@ -70,21 +72,21 @@ fn advance(
     work: &mut [u8],
     rows: &mut Rows,
     limits: Limits,
-    past: bool,
+    reading: Corners,
     room: usize,
     st: State,
     p: Plan,
 ) -> Result<State, Refusal>
     requires buffers { Buffers res.old trail.old work.old × Small limits × (room ≡ most_words) }
-    requires advancing { Advancing (limits_of limits) past res.old trail.old work.old rows.old.calls rows.old.corners st p }
-    ensures advanced_of { AdvancedOf (limits_of limits) past res.old trail.old work.old rows.old.calls
+    requires advancing { Advancing (limits_of limits) (corners_of reading) res.old trail.old work.old rows.old.calls rows.old.corners st p }
+    ensures advanced_of { AdvancedOf (limits_of limits) (corners_of reading) res.old trail.old work.old rows.old.calls
         rows.old.corners st p res.new trail.new rows.new.calls rows.new.corners result }
     ensures lengths_stay { (length res.new ≡ length res.old)
         × (length trail.new ≡ length trail.old) × (length work.new ≡ length work.old) }
 {
     let at = st.at;
     let a = apply(res, trail, work, at, room, p)?;
-    Ok(bring_up(res, work, rows, past, st, a, p))
+    Ok(bring_up(res, work, rows, reading, st, a, p))
 }
 
 // The first cycle with a plan, and the plan applied; none where no cycle has one.
@@ -95,19 +97,19 @@ pub fn take_turn(
     work: &mut [u8],
     rows: &mut Rows,
     limits: Limits,
-    past: bool,
+    reading: Corners,
     room: usize,
     st: State,
 ) -> Result<Option<State>, Refusal>
     requires buffers { Buffers res.old trail.old work.old × Small limits × (room ≡ most_words) }
-    requires going { Going (limits_of limits) past res.old trail.old rows.old.calls rows.old.corners st }
-    ensures turned_of { TurnedOf (limits_of limits) past res.old trail.old rows.old.calls
+    requires going { Going (limits_of limits) (corners_of reading) res.old trail.old rows.old.calls rows.old.corners st }
+    ensures turned_of { TurnedOf (limits_of limits) (corners_of reading) res.old trail.old rows.old.calls
         rows.old.corners st res.new trail.new rows.new.calls rows.new.corners result }
     ensures lengths_stay { (length res.new ≡ length res.old)
         × (length trail.new ≡ length trail.old) × (length work.new ≡ length work.old) }
 {
     let at = st.at;
-    let ground = st.found;
+    let ground = st.ground;
     let s = Sheet {
         bytes: res,
         end: at.end,
@@ -118,15 +120,15 @@ pub fn take_turn(
     };
     let facts = Facts {
         g: &g,
-        past,
+        reading,
         rows,
-        found: ground,
+        ground,
     };
     let found = find_plan(&facts, limits, work);
     let Some(f) = found.answer? else {
         return Ok(None);
     };
     let p = f.plan;
-    let next = advance(res, trail, work, rows, limits, past, room, st, p)?;
+    let next = advance(res, trail, work, rows, limits, reading, room, st, p)?;
     Ok(Some(next))
 }

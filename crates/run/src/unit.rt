@@ -1,6 +1,7 @@
 // The run of one unit: plans until no cycle has one (SPECIFICATION 5.2, 5.4).
 ghost use Rattle.std.specs.Prelude.{◌≡◌, length};
 ghost use Rattle.grammar.specs.Numbers.{most_words};
+ghost use Rattle.analysis.specs.Corners.{corners_of};
 ghost use Rattle.turns.specs.Midway.{limits_of};
 ghost use Rattle.apply.specs.Applied.{Buffers};
 ghost use Rattle.run.specs.Midst.{Begun};
@@ -8,6 +9,7 @@ ghost use Rattle.run.specs.Turn.{Small, RunOf};
 
 use crate::state::{Ended, State};
 use crate::turn::take_turn;
+use analysis::corners::Corners;
 use analysis::rounds::Rows;
 use analysis::ruled::Ruled;
 use apply::apply::Applied;
@@ -25,13 +27,13 @@ pub fn run_unit(
     work: &mut [u8],
     before: Applied,
     limits: Limits,
-    past: bool,
+    reading: Corners,
     room: usize,
 ) -> Result<Ended, Refusal>
     requires buffers { Buffers res.old trail.old work.old × Small limits × (room ≡ most_words)
         × (before.entries ≡ 0) }
     requires begun { Begun res.old before.end before.to before.rules before.counters }
-    ensures run_of { RunOf (limits_of limits) past res.old before.end before.to before.rules before.counters
+    ensures run_of { RunOf (limits_of limits) (corners_of reading) res.old before.end before.to before.rules before.counters
         res.new trail.new result }
     ensures lengths_stay { (length res.new ≡ length res.old)
         × (length trail.new ≡ length trail.old) × (length work.new ≡ length work.old) }
@@ -48,10 +50,10 @@ pub fn run_unit(
     let preserved = Preserved {
         ids: &res[4 * before.end..4 * before.to],
     };
-    let ground = find_out(&g, &preserved, past, &mut rows, work);
+    let ground = find_out(&g, &preserved, reading, &mut rows, work);
     let mut st = State::begin(before, ground);
     // Stays: how many turns there are is known only when one finds no plan. A turn says whether there is another.
-    while let Some(next) = take_turn(res, trail, work, &mut rows, limits, past, room, st)? {
+    while let Some(next) = take_turn(res, trail, work, &mut rows, limits, reading, room, st)? {
         st = next;
     }
     let at = st.at;

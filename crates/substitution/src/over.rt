@@ -47,7 +47,8 @@ fn look_hand(task: &Task, work: &mut [u8], h: Listed) -> Result<(), Unplanned>
     ensures { HandLooked (text task.now.s.now) task.now.s.now.end task.now.c.names.now task.now.places.now task.now.c task.now.budget
         work.old work.new h result }
 {
-    match find_corner(&Shown { s: task.s, work, x: h }, &task.c) {
+    let s = task.s;
+    match find_corner(&Shown { s, work, x: h }, &task.c) {
         Corner::Settled => Ok(()),
         Corner::Blocked => Err(Unplanned::Declined(stuck(task.budget))),
         Corner::Optional(p) => Err(look_step(task, work, h, p, Step::Split)),

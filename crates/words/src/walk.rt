@@ -14,7 +14,8 @@ use crate::words::word;
 
 // That a record is found at a place, and what its head is, are clauses, here and in all that walks.
 // Stays: these are no ghost fields. A walk goes from place to place, so each call would make a value of sheet, place and
-// depth or head, and show of it what it shows for the clause.
+// depth or head, and show of it what it shows for the clause. The prover takes a found record as a ghost field only with a proof that
+// there is one tree at a place at most, or in ∥ ∥₁; both were tried.
 
 // Where an element's payload begins, and its kind.
 #[derive(Clone, Copy, Debug, PartialEq, Eq)]

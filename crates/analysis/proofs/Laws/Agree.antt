@@ -3,7 +3,7 @@ use Prim.Native.Nat.{ℕ, suc, ◌<◌}
 use mathlib.Core.Path.{◌≡◌, refl, sym, ap, ◌∙◌}
 use mathlib.Core.List.{List, [], ◌∷◌, ◌++◌}
 use mathlib.Core.Option.{none, some}
-use mathlib.Core.Bool.{Bool, true, false, ◌&&◌, and-true, and-false, or-false}
+use mathlib.Core.Bool.{true, false, ◌&&◌, and-true, and-false, or-false}
 use native.Mathlib.Omega.{arith}
 use lib.ListN.{length, get_or}
 use lib.Dec.{eqb, ltb}
@@ -11,6 +11,7 @@ use borrow.Author.Tests.{eqb-true, eqb-false, ltb-true, lt-ltb, eq-eqb, ne_eqb}
 use Rattle.grammar.specs.Tree.{Rule}
 use Rattle.grammar.specs.Lists.{member, first}
 use Rattle.grammar.specs.Laws.Parse.{either}
+use Rattle.grammar.specs.Corners.{Corners}
 use Rattle.reference.specs.Analysis.{Grammar, name_of, names_of, target}
 use Rattle.records.specs.declared.rules.Rules.{Rules}
 use Rattle.reach.specs.Rows.{bit, holds, RowOf}
@@ -93,12 +94,12 @@ module _ {rs : List Rule} {n : ℕ} (all : n ≡ length rs) (key : Rule → ℕ)
           rw (f, at j b, ne_eqb (key b.rule) m (h j b)) refl
 
 module _ {ws : List ℕ} {end : ℕ} {rules : Rules} (s : Standing ws end rules) {xs row : List ℕ} (r : RowOf rules.ids rules.n xs row)
-    (past : Bool) where
+    (reading : Corners) where
   abbrev rs : List Rule
   rs = s.rows.found.trees
 
   abbrev view : View
-  view = record { names = rules.names; n = rules.n; nullable = row; past = past }
+  view = record { names = rules.names; n = rules.n; nullable = row; reading = reading }
 
   abbrev grammar : Grammar
   grammar = record { names = names_of rs; nullable = xs }

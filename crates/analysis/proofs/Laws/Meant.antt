@@ -11,7 +11,7 @@ use Rattle.grammar.specs.Tree.{Label, unlabelled, labelled, ElementHead, Leaf, e
 use Rattle.grammar.specs.Tree.{end_of_input, Element, leaf, block, AlternativeOf, Block, Rule, body_depth, inner_depth}
 use Rattle.grammar.specs.Lists.{is_empty, nothing, each, all, any, member}
 use Rattle.grammar.specs.Ids.{label_ids, head_ids, leaf_ids, element_ids, alternative_ids, block_ids}
-use Rattle.grammar.specs.Corners.{rust}
+use Rattle.grammar.specs.Corners.{Corners, rust, textbook}
 use Rattle.grammar.specs.Fold.{folded, element_fold, alternative_fold, block_fold}
 use Rattle.grammar.specs.Found.{RuleSpans}
 use Rattle.grammar.specs.Laws.Lists.{member_append}
@@ -19,8 +19,9 @@ use Rattle.reference.specs.Walks.{sort_of, is_end, is_optional, element_gives, b
 use Rattle.reference.specs.Analysis.{Grammar, target, calls, collect_calls_into, leaf_nullable, element_nullable, block_is_nullable, is_stop}
 use Rattle.reference.specs.Analysis.{collect_left_corner_calls, block_corners}
 use Rattle.reference.specs.Plan.{satellite_has_embedded_semantics, satellite_is_inlinable}
-use Rattle.analysis.specs.Survey.{View, Seen, reading, is_semantic, calls_to, leaf_null, leaf_ends, past_leaf, into, past_block}
+use Rattle.analysis.specs.Survey.{View, Seen, is_semantic, calls_to, leaf_null, leaf_ends, past_leaf, into, past_block}
 use Rattle.analysis.specs.Survey.{past_alternative, surveying, past_outermost, unseen, BodySeen}
+use Rattle.analysis.specs.Corners.{passes_symbols}
 use Rattle.analysis.specs.Facts.{Agrees, SurveyOf, Surveyed}
 use Rattle.reach.specs.Rows.{holds}
 use Rattle.analysis.specs.declared.survey.Survey.{Survey}
@@ -103,15 +104,16 @@ module _ (ids : List ℕ) (n : ℕ) where
 record LeafMeant (g : Grammar) (ids : List ℕ) (v : View) (l : Leaf) : Type 0 where
   called : (j : ℕ) → calls_to v l j ≡ holds ids v.n (calls g l) j
   null : leaf_null v l ≡ leaf_nullable g l
-  ends : leaf_ends v l ≡ is_stop (reading v.past) g l
+  ends : leaf_ends v l ≡ is_stop v.reading g l
 
 none_called : (ids : List ℕ) (n j : ℕ) → false ≡ holds ids n [] j
 none_called ids n j = sym (holds_none ids n j)
 
-ends_by : (g : Grammar) (l : Leaf) (past : Bool) {b : Bool} → b ≡ is_stop rust g l → (not past && b) ≡ is_stop (reading past) g l
+ends_by : (g : Grammar) (l : Leaf) (reading : Corners) {b : Bool} → b ≡ is_stop rust g l
+    → (not (passes_symbols reading) && b) ≡ is_stop reading g l
 unfolding is_stop
-ends_by g l true e = refl
-ends_by g l false e = e
+ends_by g l textbook e = refl
+ends_by g l rust e = e
 
 -- The ids in an element's head are of no action and of no predicate.
 past_head : (h : ElementHead) (as' bs xs ys : List ℕ)
@@ -144,35 +146,35 @@ stops_body d b = not (all (λ a. eqb a.flag 0) b && not (satellite_has_embedded_
 module _ {g : Grammar} {ids : List ℕ} {v : View} (w : Agrees g ids v) where
   leaf_meant : (l : Leaf) → LeafMeant g ids v l
   unfolding calls_to leaf_null leaf_ends sort_of is_end calls leaf_nullable is_stop
-  leaf_meant epsilon = record { called = none_called ids v.n; null = refl; ends = ends_by g epsilon v.past refl }
-  leaf_meant (action a) = record { called = none_called ids v.n; null = refl; ends = ends_by g (action a) v.past refl }
-  leaf_meant (predicate p) = record { called = none_called ids v.n; null = refl; ends = ends_by g (predicate p) v.past refl }
+  leaf_meant epsilon = record { called = none_called ids v.n; null = refl; ends = ends_by g epsilon v.reading refl }
+  leaf_meant (action a) = record { called = none_called ids v.n; null = refl; ends = ends_by g (action a) v.reading refl }
+  leaf_meant (predicate p) = record { called = none_called ids v.n; null = refl; ends = ends_by g (predicate p) v.reading refl }
   leaf_meant (call c) =
       record {
         called = w.calls c.name;
         null = w.empty c.name;
-        ends = ends_by g (call c) v.past (ap not (w.known c.name) ∙ unknown (target g c.name));
+        ends = ends_by g (call c) v.reading (ap not (w.known c.name) ∙ unknown (target g c.name));
       }
     where
       unknown : (t : Option ℕ) → not (elim t [ none ↦ false | some t ↦ true ]) ≡ elim t [ none ↦ true | some t ↦ false ]
       unknown none = refl
       unknown (some t) = refl
-  leaf_meant (token n) = record { called = none_called ids v.n; null = refl; ends = ends_by g (token n) v.past refl }
-  leaf_meant terminal = record { called = none_called ids v.n; null = refl; ends = ends_by g terminal v.past refl }
-  leaf_meant end_of_input = record { called = none_called ids v.n; null = refl; ends = ends_by g end_of_input v.past refl }
+  leaf_meant (token n) = record { called = none_called ids v.n; null = refl; ends = ends_by g (token n) v.reading refl }
+  leaf_meant terminal = record { called = none_called ids v.n; null = refl; ends = ends_by g terminal v.reading refl }
+  leaf_meant end_of_input = record { called = none_called ids v.n; null = refl; ends = ends_by g end_of_input v.reading refl }
 
   -- Elements and an alternative, by what is seen of their blocks.
   module _ {B : Type 0} {f : Seen → B → Seen} {cs ks : B → List ℕ} {nu : B → Bool} (xs ys : B → List ℕ)
       (m : Means ids v.n f cs ks (λ b. some_in (xs b) (ys b)) nu) where
     pub elements_add : (s : Seen) (es : List (Element B))
         → Adds ids v.n s (folded (element_fold (surveying v) f) s es) (each (element_gives nothing (calls g) cs) es)
-        (collect_left_corner_calls (reading v.past) g ks nu es)
+        (collect_left_corner_calls v.reading g ks nu es)
         (some_in (each (element_ids action_sort xs) es) (each (element_ids predicate_sort ys) es))
     unfolding element_fold surveying past_leaf past_block is_semantic element_gives collect_left_corner_calls element_nullable element_ids
     elements_add s [] = adds_none ids v.n s
     elements_add s (leaf h l ∷ es) =
         let x = leaf_meant l in
-        adds_then ids v.n (not (is_stop (reading v.past) g l) && element_nullable g nu (leaf h l))
+        adds_then ids v.n (not (is_stop v.reading g l) && element_nullable g nu (leaf h l))
         (ap₂ (λ a b. s.seeks && (not a && (is_optional h || b))) x.ends x.null)
         (past_head h (leaf_ids action_sort l) (each (element_ids action_sort xs) es) (leaf_ids predicate_sort l)
         (each (element_ids predicate_sort ys) es))
@@ -206,7 +208,7 @@ module _ {g : Grammar} {ids : List ℕ} {v : View} (w : Agrees g ids v) where
 
     alternative_means : Means ids v.n (alternative_fold (surveying v) f)
         (λ a. each (element_gives nothing (calls g) cs) a.elements)
-        (λ a. collect_left_corner_calls (reading v.past) g ks nu a.elements)
+        (λ a. collect_left_corner_calls v.reading g ks nu a.elements)
         (λ a. some_in (alternative_ids action_sort xs a) (alternative_ids predicate_sort ys a))
         (λ a. all (element_nullable g nu) a.elements)
     unfolding alternative_fold surveying past_alternative alternative_ids
@@ -220,7 +222,7 @@ module _ {g : Grammar} {ids : List ℕ} {v : View} (w : Agrees g ids v) where
         }
 
   pub block_means : (d : ℕ)
-      → Means ids v.n (block_fold (surveying v) d) (collect_calls_into g d) (block_corners (reading v.past) g d)
+      → Means ids v.n (block_fold (surveying v) d) (collect_calls_into g d) (block_corners v.reading g d)
       (satellite_has_embedded_semantics d) (block_is_nullable g d)
   unfolding block_fold collect_calls_into block_gives block_corners block_is_nullable satellite_has_embedded_semantics block_ids
   block_means zero = record { adds = λ s b. absurd b; seeks = λ s b. absurd b; null = λ s b. absurd b }
@@ -248,7 +250,7 @@ module _ {g : Grammar} {ids : List ℕ} {v : View} (w : Agrees g ids v) where
 
   -- A body.
   body_means : (d : ℕ)
-      → Means ids v.n (folded (past_outermost v d)) (collect_calls_into g (suc d)) (block_corners (reading v.past) g (suc d))
+      → Means ids v.n (folded (past_outermost v d)) (collect_calls_into g (suc d)) (block_corners v.reading g (suc d))
       (stops_body d) (block_is_nullable g (suc d))
   unfolding collect_calls_into block_gives block_corners block_is_nullable satellite_has_embedded_semantics block_ids stops_body all
   body_means d =
@@ -265,7 +267,7 @@ module _ {g : Grammar} {ids : List ℕ} {v : View} (w : Agrees g ids v) where
       stopped false q false y = refl
 
 survey_meant : {g : Grammar} {ids : List ℕ} {v : View} → Agrees g ids v → {ws : List ℕ} {end at : ℕ} {r : Survey}
-    → BodySeen v ws end at r → (t : Rule) (q : ℕ) → RuleSpans ws end body_depth at t q → SurveyOf (reading v.past) g ids v.n t r
+    → BodySeen v ws end at r → (t : Rule) (q : ℕ) → RuleSpans ws end body_depth at t q → SurveyOf v.reading g ids v.n t r
 unfolding satellite_is_inlinable stops_body
 survey_meant w y t q u =
     let e = y.is t q u in

@@ -10,17 +10,17 @@ use lib.Dec.{ltb}
 use borrow.Author.Tests.{ltb-true, ltb-false, eq-eqb, ne_eqb}
 use Rattle.std.specs.Cmp.{both_ways}
 use Rattle.grammar.specs.Tree.{Rule, body_depth, inner_depth}
-use Rattle.grammar.specs.Numbers.{rule_limit}
 use Rattle.grammar.specs.Lists.{member, keep, push, distinct, rounds}
 use Rattle.grammar.specs.Laws.Parse.{either}
 use Rattle.grammar.specs.Laws.Lists.{in_member, member_in, in_map}
+use Rattle.grammar.specs.Corners.{Corners}
 use Rattle.graph.specs.Members.{in_keep, keep_in, one_with}
 use Rattle.reference.specs.Analysis.{Grammar, names_of, ids_of, block_is_nullable, nullable_round, nullable_rules}
 use Rattle.reference.specs.Plan.{satellite_is_inlinable}
 use Rattle.records.specs.declared.rules.Rules.{Rules}
 use Rattle.reach.specs.Rows.{bit, holds, RowOf, Behind}
-use Rattle.analysis.specs.Survey.{View, reading}
-use Rattle.analysis.specs.Rounds.{one_if, count_below, Recorded, Recording}
+use Rattle.analysis.specs.Survey.{View}
+use Rattle.analysis.specs.Rounds.{one_if, count_below, Recorded, Recording, RoundFound}
 use Rattle.analysis.specs.Facts.{SurveyOf, Among, Standing, stopping, RoundBy, FactsOf, FactsFound}
 use Rattle.analysis.specs.declared.rounds.Round.{Round}
 use Rattle.reach.proofs.Laws.Rows.{no_bits}
@@ -84,21 +84,22 @@ module _ {ws : List ℕ} {end : ℕ} {rules : Rules} (s : Standing ws end rules)
           → bit row j ≡ (ltb j (length rs) && member (get_or rules.ids j 0) (ids_of (keep test rs)))
       outside j e = g j (let l = ltb-false j (length rs) e in let c = all_rules s.rows in omega arith) ∙ sym (rw e refl)
 
-  module _ {xs row : List ℕ} (o : RowOf rules.ids rules.n xs row) {past : Bool} {cs₀ ks₀ cs ks : List (List ℕ)} {m : Round}
-      (r : Recording (record { names = rules.names; n = rules.n; nullable = row; past = past }) ws end rules.places cs₀ ks₀ rules.n cs ks m) where
+  module _ {xs row : List ℕ} (o : RowOf rules.ids rules.n xs row) {reading : Corners} {cs₀ ks₀ cs ks : List (List ℕ)} {m : Round}
+      (r : RoundFound ws end rules reading row cs₀ ks₀ cs ks m) where
     abbrev grammar : Grammar
     grammar = record { names = names_of rs; nullable = xs }
 
-    abbrev kept : {i : ℕ} (a : Among rs i) → Recorded (record { names = rules.names; n = rules.n; nullable = row; past = past }) ws end (get_or rules.places i 0) i cs ks m.marks.nullable m.marks.stops
+    abbrev kept : {i : ℕ} (a : Among rs i) → Recorded (record { names = rules.names; n = rules.n; nullable = row; reading = reading }) ws end
+        (get_or rules.places i 0) i cs ks m.marks.nullable m.marks.stops
     kept {i} a = r.each i (let l = few a in let c = all_rules s.rows in omega arith)
 
-    meant : {i : ℕ} (a : Among rs i) → SurveyOf (reading past) grammar rules.ids (length rs) a.rule (kept a).survey
+    meant : {i : ℕ} (a : Among rs i) → SurveyOf reading grammar rules.ids (length rs) a.rule (kept a).survey
     meant {i} a =
         let z = rule_spans s.rows a in
-        subst (λ n. SurveyOf (reading past) grammar rules.ids n a.rule (kept a).survey) (all_rules s.rows)
-        ((kept a).surveyed.by grammar rules.ids (agrees s o past) a.rule z.0 z.1)
+        subst (λ n. SurveyOf reading grammar rules.ids n a.rule (kept a).survey) (all_rules s.rows)
+        ((kept a).surveyed.by grammar rules.ids (agrees s o reading) a.rule z.0 z.1)
 
-    pub round_by : RoundBy (reading past) rs rules.ids xs cs ks m
+    pub round_by : RoundBy reading rs rules.ids xs cs ks m
     unfolding stopping nullable_round
     round_by =
         record {
@@ -142,16 +143,13 @@ find_none {rules = rules} {n} e =
     }
 
 module _ {ws : List ℕ} {end : ℕ} {rules : Rules} {left : ℕ} {found : List ℕ} {count : ℕ} (f : Finding ws end rules left found count)
-    {n : ℕ} (e : n ≡ rules.n) {past : Bool} {cs₀ ks₀ cs ks : List (List ℕ)} {m : Round}
-    (r : Recording (record { names = rules.names; n = n; nullable = found; past = past }) ws end rules.places cs₀ ks₀ rules.n cs ks m) where
-  by : (s : Standing ws end rules) → RoundBy (reading past) s.rows.found.trees rules.ids (f.so s).list cs ks m
-  by s =
-      round_by s (f.so s).row
-      (subst (λ k. Recording (record { names = rules.names; n = k; nullable = found; past = past }) ws end rules.places cs₀ ks₀ rules.n cs ks m) e r)
+    {reading : Corners} {cs₀ ks₀ cs ks : List (List ℕ)} {m : Round} (r : RoundFound ws end rules reading found cs₀ ks₀ cs ks m) where
+  by : (s : Standing ws end rules) → RoundBy reading s.rows.found.trees rules.ids (f.so s).list cs ks m
+  by s = round_by s (f.so s).row r
 
   -- What was found is all that is nullable.
   facts : (s : Standing ws end rules) → nullable_rules body_depth s.rows.found.trees ≡ (f.so s).list
-      → FactsOf (reading past) s.rows.found.trees rules.ids cs ks (record { nullable = found; stops = m.marks.stops })
+      → FactsOf reading s.rows.found.trees rules.ids cs ks (record { nullable = found; stops = m.marks.stops })
   facts s a =
       record {
         rows = rw a (by s).rows;
@@ -159,7 +157,7 @@ module _ {ws : List ℕ} {end : ℕ} {rules : Rules} {left : ℕ} {found : List 
         nullable = rw a (subst (λ k. RowOf rules.ids k (f.so s).list found) (all_rules s.rows) (f.so s).row);
       }
 
-  pub find_last : left ≡ 0 → FactsFound ws end rules past cs ks (record { nullable = found; stops = m.marks.stops })
+  pub find_last : left ≡ 0 → FactsFound ws end rules reading cs ks (record { nullable = found; stops = m.marks.stops })
   unfolding rounds
   find_last z = record { is = λ s. facts s ((f.so s).same ∙ rw z refl) }
 
@@ -169,7 +167,8 @@ module _ {ws : List ℕ} {end : ℕ} {rules : Rules} {left : ℕ} {found : List 
       (f.so s).same
       ∙ rw (z, rounds, eq-eqb (length (nullable_round body_depth s.rows.found.trees (f.so s).list)) (length (f.so s).list) (sym (by s).count ∙ c ∙ (f.so s).counted)) refl
 
-  pub find_stands : (left ≡ 0 → ⊥) → m.count ≡ count → FactsFound ws end rules past cs ks (record { nullable = found; stops = m.marks.stops })
+  pub find_stands : (left ≡ 0 → ⊥) → m.count ≡ count
+      → FactsFound ws end rules reading cs ks (record { nullable = found; stops = m.marks.stops })
   find_stands z c = record { is = λ s. facts s (stands s (left - 1) (omega arith) c) }
 
   moves : (s : Standing ws end rules) (k : ℕ) → left ≡ suc k → (m.count ≡ count → ⊥)
@@ -192,16 +191,24 @@ module _ {ws : List ℕ} {end : ℕ} {rules : Rules} {left : ℕ} {found : List 
             };
       }
 
--- Rows behind the last rule.
-pub behind_none : {n : ℕ} {rows : List (List ℕ)} → length rows ≡ rule_limit → Behind n rows rows
-behind_none e = record { same = λ i l. refl; long = e }
-
 module _ {v : View} {ws : List ℕ} {end : ℕ} {places : List ℕ} {cs₀ ks₀ : List (List ℕ)} {n : ℕ} {cs ks : List (List ℕ)} {m : Round}
     (r : Recording v ws end places cs₀ ks₀ n cs ks m) where
-  pub behind_calls : {rows : List (List ℕ)} → Behind n rows cs₀ → Behind n rows cs
-  behind_calls b = record { same = λ i l. r.calls_behind i l ∙ b.same i l; long = r.calls_long }
+  -- Rows behind the last rule.
+  pub behind_all : Behind n cs₀ cs × Behind n ks₀ ks
+  behind_all = (record { same = r.calls_behind; long = r.calls_long }, record { same = r.corners_behind; long = r.corners_long })
 
-  pub behind_corners : {rows : List (List ℕ)} → Behind n rows ks₀ → Behind n rows ks
-  behind_corners b = record { same = λ i l. r.corners_behind i l ∙ b.same i l; long = r.corners_long }
-
-pub ruleset finding = (find_none, find_last, find_stands, find_more, behind_none, behind_calls, behind_corners)
+  -- A round behind another one leaves these as they were in front of both.
+  pub round_more : {u : View} {cs' ks' : List (List ℕ)} {m' : Round} → Recording u ws end places cs ks n cs' ks' m'
+      → Recording u ws end places cs₀ ks₀ n cs' ks' m'
+  round_more o =
+      record {
+        each = o.each;
+        nullable_none = o.nullable_none;
+        stops_none = o.stops_none;
+        counted = o.counted;
+        low = o.low;
+        calls_behind = λ k l. o.calls_behind k l ∙ r.calls_behind k l;
+        corners_behind = λ k l. o.corners_behind k l ∙ r.corners_behind k l;
+        calls_long = o.calls_long;
+        corners_long = o.corners_long;
+      }

@@ -24,6 +24,7 @@ use Rattle.words.specs.declared.numbers.Kind.TheVariants as kind
 use Rattle.words.specs.Kinds.{kind_number}
 use Rattle.analysis.specs.declared.leaf.Seen.{Seen as Held}
 use Rattle.reach.proofs.Laws.Rows.{no_bits}
+use Rattle.analysis.specs.Corners.{passes_symbols}
 use Rattle.analysis.specs.Survey.{View, Seen, seen_of, into, unseen, is_semantic, calls_to, leaf_null, leaf_ends, past_leaf, past_call}
 use Rattle.analysis.specs.Survey.{SymbolSeen, NameSeen, LeafSeen}
 
@@ -76,7 +77,7 @@ module _ (v : View) (s : Seen) (skips : Bool) where
   unfolding past_call past_leaf calls_to leaf_null leaf_ends sort_of is_end is_semantic leaf_ids
   calls_rule c i a =
       same_seen (λ j. ap (λ x. s.calls j || x) (sym (a.only j))) (λ j. ap (λ x. s.corners j || (s.seeks && x)) (sym (a.only j)))
-      (sym (or-false s.stops)) (rw (empty, known, and-false (not v.past)) refl) (rw empty refl)
+      (sym (or-false s.stops)) (rw (empty, known, and-false (not (passes_symbols v.reading))) refl) (rw empty refl)
     where
       same_bit : (j : ℕ) → (eqb j i && bit v.nullable j) ≡ (eqb j i && bit v.nullable i)
       same_bit j = either (eqb j i) (λ e. ap (λ x. eqb j i && bit v.nullable x) (eqb-true j i e)) (λ e. rw e refl)
@@ -95,33 +96,34 @@ module _ (v : View) (s : Seen) (skips : Bool) where
         calls = s.calls;
         corners = s.corners;
         stops = s.stops;
-        seeks = s.seeks && (v.past && skips);
+        seeks = s.seeks && (passes_symbols v.reading && skips);
         null = s.null && skips;
       }
 
-  past_symbol : (l : Leaf) → ((j : ℕ) → calls_to v l j ≡ false) → is_semantic l ≡ false → leaf_ends v l ≡ not v.past → leaf_null v l ≡ false
+  past_symbol : (l : Leaf) → ((j : ℕ) → calls_to v l j ≡ false) → is_semantic l ≡ false
+      → leaf_ends v l ≡ not (passes_symbols v.reading) → leaf_null v l ≡ false
       → symbol ≡ past_leaf v s skips l
   unfolding past_leaf symbol
   past_symbol l a b e n =
       same_seen (λ j. sym (ap (λ x. s.calls j || x) (a j) ∙ or-false (s.calls j)))
       (λ j. sym (ap (λ x. s.corners j || (s.seeks && x)) (a j) ∙ ap (λ x. s.corners j || x) (and-false s.seeks) ∙ or-false (s.corners j)))
       (sym (ap (λ x. s.stops || x) b ∙ or-false s.stops))
-      (rw (e, n, not-not v.past, or-false skips) refl) (rw (n, or-false skips) refl)
+      (rw (e, n, not-not (passes_symbols v.reading), or-false skips) refl) (rw (n, or-false skips) refl)
 
   calls_nothing : (c : Call) → Nowhere v.names v.n c.name → symbol ≡ past_leaf v s skips (call c)
   unfolding calls_to leaf_null leaf_ends sort_of is_end is_semantic leaf_ids
   calls_nothing c a =
       past_symbol (call c) a.none refl
-      (rw (any_none (is_named v.names v.n c.name) a.none v.n) (and-true (not v.past)))
+      (rw (any_none (is_named v.names v.n c.name) a.none v.n) (and-true (not (passes_symbols v.reading))))
       (any_none (λ j. is_named v.names v.n c.name j && bit v.nullable j) (λ j. rw (a.none j) refl) v.n)
 
   past_token : (n : ℕ) → symbol ≡ past_leaf v s skips (token n)
   unfolding calls_to leaf_null leaf_ends sort_of is_end is_semantic leaf_ids
-  past_token n = past_symbol (token n) (λ j. refl) refl (and-true (not v.past)) refl
+  past_token n = past_symbol (token n) (λ j. refl) refl (and-true (not (passes_symbols v.reading))) refl
 
   past_terminal : symbol ≡ past_leaf v s skips terminal
   unfolding calls_to leaf_null leaf_ends sort_of is_end is_semantic leaf_ids
-  past_terminal = past_symbol terminal (λ j. refl) refl (and-true (not v.past)) refl
+  past_terminal = past_symbol terminal (λ j. refl) refl (and-true (not (passes_symbols v.reading))) refl
 
   -- what takes no input
   past_silent : (l : Leaf) → ((j : ℕ) → calls_to v l j ≡ false) → leaf_ends v l ≡ false → leaf_null v l ≡ true
@@ -138,7 +140,7 @@ pub target_low : {names : List ℕ} {n m i : ℕ} {r : Option ℕ} → IsTarget 
 target_low {i = i} a e l = let b = (a.rule i e).below in omega arith
 
 module _ (v : View) {m : ℕ} {skips : Bool} (t : Held) where
-  pub name_unknown : {o : Option ℕ} {r : Held} → IsTarget v.names v.n m o → o ≡ None → SymbolSeen v.past skips t r
+  pub name_unknown : {o : Option ℕ} {r : Held} → IsTarget v.names v.n m o → o ≡ None → SymbolSeen v.reading skips t r
       → NameSeen v m skips (seen_of t) (seen_of r)
   unfolding seen_of symbol
   name_unknown a e r =
@@ -177,7 +179,7 @@ module _ (v : View) {ws : List ℕ} {end k p : ℕ} {skips : Bool} where
       go terminal q h u = absurd (omega arith)
       go end_of_input q h u = absurd (omega arith)
 
-  pub leaf_symbol : {t r : Held} → call_kind < k → (k ≡ end_kind → ⊥) → SymbolSeen v.past skips t r
+  pub leaf_symbol : {t r : Held} → call_kind < k → (k ≡ end_kind → ⊥) → SymbolSeen v.reading skips t r
       → LeafSeen v ws end k p skips (seen_of t) (seen_of r)
   unfolding leaf_kind seen_of symbol
   leaf_symbol {t} {r} e z y = record { is = λ l q h u. ap seen_of y.is ∙ go l q h u }
@@ -197,7 +199,7 @@ module _ (v : View) {ws : List ℕ} {end k p : ℕ} {skips : Bool} where
   leaf_epsilon t e = record { is = go }
     where
       go : (l : Leaf) (q : ℕ) → k ≡ leaf_kind l → Stands ws end (encode_leaf l) p q → seen_of t ≡ past_leaf v (seen_of t) skips l
-      go epsilon q h u = leaf_nothing v t skips epsilon refl (λ j. refl) (and-false (not v.past)) refl
+      go epsilon q h u = leaf_nothing v t skips epsilon refl (λ j. refl) (and-false (not (passes_symbols v.reading))) refl
       go (action a) q h u = absurd (omega arith)
       go (predicate a) q h u = absurd (omega arith)
       go (call c) q h u = absurd (omega arith)
@@ -216,7 +218,7 @@ module _ (v : View) {ws : List ℕ} {end k p : ℕ} {skips : Bool} where
       go (call c) q h u = absurd (omega arith)
       go (token a) q h u = absurd (omega arith)
       go terminal q h u = absurd (omega arith)
-      go end_of_input q h u = leaf_nothing v t skips end_of_input refl (λ j. refl) (and-false (not v.past)) refl
+      go end_of_input q h u = leaf_nothing v t skips end_of_input refl (λ j. refl) (and-false (not (passes_symbols v.reading))) refl
 
   leaf_semantic : (t : Held) → (k ≡ call_kind → ⊥) → k ≤ call_kind → (k ≡ epsilon_kind → ⊥)
       → LeafSeen v ws end k p skips (seen_of t) (seen_of (stopped t))
@@ -232,8 +234,8 @@ module _ (v : View) {ws : List ℕ} {end k p : ℕ} {skips : Bool} where
       go : (l : Leaf) (q : ℕ) → k ≡ leaf_kind l → Stands ws end (encode_leaf l) p q
           → seen_of (stopped t) ≡ past_leaf v (seen_of t) skips l
       go epsilon q h u = absurd (c (omega arith))
-      go (action x) q h u = there (action x) refl (λ j. refl) (and-false (not v.past)) refl
-      go (predicate x) q h u = there (predicate x) refl (λ j. refl) (and-false (not v.past)) refl
+      go (action x) q h u = there (action x) refl (λ j. refl) (and-false (not (passes_symbols v.reading))) refl
+      go (predicate x) q h u = there (predicate x) refl (λ j. refl) (and-false (not (passes_symbols v.reading))) refl
       go (call x) q h u = absurd (a (omega arith))
       go (token x) q h u = absurd (omega arith)
       go terminal q h u = absurd (omega arith)
@@ -243,7 +245,7 @@ module _ (v : View) {ws : List ℕ} {end p : ℕ} {skips : Bool} {k : Kind} wher
   pub at_call : {w : ℕ} {s r : Seen} → k ≡ kind.Call → w ≡ get_or ws p 0 → NameSeen v w skips s r → LeafSeen v ws end (kind_number k) p skips s r
   at_call e = leaf_call v (ap kind_number e)
 
-  pub at_symbol : {t r : Held} → k ≡ kind.Token ⊎ (k ≡ kind.Terminal ⊎ k ≡ kind.Block) → SymbolSeen v.past skips t r
+  pub at_symbol : {t r : Held} → k ≡ kind.Token ⊎ (k ≡ kind.Terminal ⊎ k ≡ kind.Block) → SymbolSeen v.reading skips t r
       → LeafSeen v ws end (kind_number k) p skips (seen_of t) (seen_of r)
   at_symbol (inl e) = let i = ap kind_number e in leaf_symbol v (omega arith) (λ z. omega arith)
   at_symbol (inr (inl e)) = let i = ap kind_number e in leaf_symbol v (omega arith) (λ z. omega arith)

@@ -51,7 +51,7 @@ module _ (v : View) {ws : List ℕ} {end at k p : ℕ} (head : HeadAt ws end at 
       f.is l q (let x = w.packed in let y = head.kind_is in omega arith) u.stands
       ∙ ap (λ b. past_leaf v s b l) (optional (omega arith) w)
 
-  pub survey_token : (d : ℕ) → k ≡ token_kind → {there : ℕ} {t r : Held} → LeafEnd ws end d at p there → SymbolSeen v.past skips t r
+  pub survey_token : (d : ℕ) → k ≡ token_kind → {there : ℕ} {t r : Held} → LeafEnd ws end d at p there → SymbolSeen v.reading skips t r
       → ElementWalked (surveying v) ws end d at (seen_of t) there (seen_of r)
   survey_token d four e f = survey_leaf d (λ z. omega arith) e (leaf_symbol v (omega arith) (λ z. omega arith) f)
 

@@ -1,8 +1,7 @@
 -- What is told of a sheet: the facts found and the cycles listed are those of the rules that were read.
-use Prim.Native.Nat.{ℕ, ◌≤◌}
+use Prim.Native.Nat.{ℕ, zero, suc, ◌≤◌}
 use mathlib.Core.Path.{◌≡◌, refl, sym, ap, ◌∙◌, subst}
 use mathlib.Core.List.{List, [], ◌∷◌}
-use mathlib.Core.Bool.{Bool}
 use native.Mathlib.Omega.{arith}
 use lib.ListN.{length, get_or, replicate, length-replicate}
 use Rattle.grammar.specs.Form.{newest}
@@ -11,7 +10,7 @@ use Rattle.grammar.specs.Words.{words}
 use Rattle.grammar.specs.Tree.{body_depth}
 use Rattle.grammar.specs.Ids.{rule_ids, rule_names, is_distinct}
 use Rattle.grammar.specs.Lists.{distinct}
-use Rattle.grammar.specs.Corners.{Corners}
+use Rattle.grammar.specs.Corners.{Corners, rust, textbook}
 use Rattle.grammar.specs.Laws.Parse.{never}
 use Rattle.grammar.specs.Laws.Whole.{valid_parts}
 use Rattle.reference.specs.Analysis.{grammar_of, left_corner_cycles}
@@ -27,11 +26,10 @@ use Rattle.words.specs.Refusal.{refusal_number}
 use Rattle.sheet.proofs.Laws.Sizes.{is_refused, was_read}
 use Rattle.sheet.specs.Read.{WasRead}
 use Rattle.reach.specs.Rows.{Behind}
-use Rattle.analysis.specs.Survey.{reading}
 use Rattle.analysis.specs.Facts.{Standing, FactsOf, FactsFound}
 use Rattle.reach.specs.Listed.{CycleRows, CyclesIn}
 use Rattle.analysis.specs.Rounds.{no_rows}
-use Rattle.facts.specs.Told.{TellsRules, RulesTold, TellsSheet, Tells}
+use Rattle.facts.specs.Told.{reading_of, TellsRules, RulesTold, TellsSheet, Tells}
 use Rattle.analysis.specs.declared.rounds.Marks.{Marks}
 use Rattle.reach.proofs.Laws.Rows.{two_words}
 use Rattle.analysis.proofs.Laws.Standing.{all_rules}
@@ -42,18 +40,18 @@ pub rows_long : {rows : List (List ℕ)} → rows ≡ no_rows → length rows �
 rows_long e = ap length e ∙ length-replicate rule_limit (replicate {A = ℕ} 2 0)
 
 -- what is found and listed is told
-pub rules_told : {ws : List ℕ} {end : ℕ} {rules : Rules} {past : Bool} {m : Marks} {count : ℕ} {cs₀ ks₀ ys₀ cs ks ys : List (List ℕ)}
-    → cs₀ ≡ no_rows → ks₀ ≡ no_rows → ys₀ ≡ no_rows → FactsFound ws end rules past cs ks m → Behind rules.n cs₀ cs → Behind rules.n ks₀ ks
-    → CyclesIn ks rules.ids rules.n ys₀ ys count → RulesTold ws end rules (reading past) m count cs ks ys
-rules_told {ws} {end} {rules} {past} {m} {count} {cs = cs} {ks} {ys} a b d f x y z = record { is = told }
+pub rules_told : {ws : List ℕ} {end : ℕ} {rules : Rules} {c : Corners} {m : Marks} {count : ℕ} {cs₀ ks₀ ys₀ cs ks ys : List (List ℕ)}
+    → cs₀ ≡ no_rows → ks₀ ≡ no_rows → ys₀ ≡ no_rows → FactsFound ws end rules c cs ks m
+    → Behind rules.n cs₀ cs → Behind rules.n ks₀ ks
+    → CyclesIn ks rules.ids rules.n ys₀ ys count → RulesTold ws end rules c m count cs ks ys
+rules_told {ws} {end} {rules} {c} {m} {count} {cs = cs} {ks} {ys} a b d f x y z = record { is = told }
   where
-    told : (s : Standing ws end rules) → TellsRules (reading past) s.rows.found.trees m count cs ks ys
+    told : (s : Standing ws end rules) → TellsRules c s.rows.found.trees m count cs ks ys
     told s =
         let rs = s.rows.found.trees in
         let all = all_rules s.rows in
         let ids = s.rows.rows.ids in
         let g = grammar_of body_depth rs in
-        let c = reading past in
         let listed = z.is c g body_depth rs (are_edges s (f.is s)) (are_ids s c g) in
         record {
           facts = subst (λ xs. FactsOf c rs xs cs ks m) ids (f.is s);
@@ -160,6 +158,16 @@ pub cleared_long : (mid before : List ℕ) {after : List ℕ} → length mid ≡
     → after ≡ replicate (length before) 0
 cleared_long mid before e f = f ∙ ap (λ k. replicate k 0) e
 
+-- the reading that is asked for by a number
+pub reads_zero : {k : ℕ} → k ≡ 0 → rust ≡ reading_of k
+reads_zero e = rw e refl
+
+pub reads_other : {k : ℕ} → (k ≡ 0 → ⊥) → textbook ≡ reading_of k
+reads_other {k = zero} e = absurd (e refl)
+reads_other {k = suc k} e = refl
+
 pub ruleset rows_told = (rows_long, rules_told, cleared_long)
+
+pub ruleset readings = (reads_zero, reads_other)
 
 pub ruleset tellings = (tells_refusal, read_room, read_rules, read_work, read_cleared, tells_read)

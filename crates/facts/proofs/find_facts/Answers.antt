@@ -12,7 +12,8 @@ pub invariant_of-g : goal.invariant_of-g
 invariant_of-g c = record { standing = rw c.rules_end-end.ensures (read_rules _ _ c.in-Ok.ensures.read_as) }
 
 pub returns-in-Ok-clause-tells : goal.returns-in-Ok-clause-tells
-returns-in-Ok-clause-tells c = let told = rw c.rules_end-end.ensures at c.tell-t.ensures.rules_told in search (rules, tellings)
+returns-in-Ok-clause-tells c =
+    let told = rw (c.rules_end-end.ensures, c.reading_of.ensures) at c.tell-t.ensures.rules_told in search (rules, tellings)
 
 pub returns-in-Ok-clause-work_after : goal.returns-in-Ok-clause-work_after
 returns-in-Ok-clause-work_after c = search (rules, tellings)

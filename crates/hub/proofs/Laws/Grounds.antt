@@ -3,7 +3,7 @@ use Prim.Native.Nat.{ℕ, suc, ◌<◌, ◌≤◌}
 use mathlib.Core.Path.{◌≡◌, refl, sym, ap, ◌∙◌}
 use mathlib.Core.List.{List, [], ◌∷◌, Memᴰ}
 use mathlib.Core.Option.{Option, none, some}
-use mathlib.Core.Bool.{Bool, true, false, ◌||◌, true≢false, and-false, or-false}
+use mathlib.Core.Bool.{true, false, ◌||◌, true≢false, and-false, or-false}
 use native.Mathlib.Omega.{arith}
 use lib.ListN.{get_or, length-map}
 use lib.Dec.{eqb, ltb}
@@ -13,6 +13,7 @@ use Rattle.grammar.specs.Tree.{Rule, body_depth}
 use Rattle.grammar.specs.Lists.{member}
 use Rattle.grammar.specs.Laws.Lists.{member_in}
 use Rattle.grammar.specs.Laws.Parse.{either}
+use Rattle.grammar.specs.Corners.{Corners, rust}
 use Rattle.graph.specs.Members.{one_with}
 use Rattle.reference.specs.Analysis.{Grammar, names_of, ids_of, target, rule_with_id, collect_calls_into, grammar_of}
 use Rattle.records.specs.declared.rules.Rules.{Rules}
@@ -100,11 +101,11 @@ module _ {ws : List ℕ} {end : ℕ} {rules : Rules} (s : Standing ws end rules)
     no_target m (some t) e w =
         absurd
         (true≢false
-        (sym (rw e at ((agrees s o false).known m)) ∙ any_none (is_named rules.names rules.n m) w.none rules.n))
+        (sym (rw e at ((agrees s o rust).known m)) ∙ any_none (is_named rules.names rules.n m) w.none rules.n))
 
     told : (m i : ℕ) → At rules.names rules.n m i → (t : Option ℕ) → target grammar m ≡ t
         → holds rules.ids rules.n (elim t as (λ x. List ℕ) [ none ↦ [] | some t ↦ t ∷ [] ]) i ≡ true
-    told m i a t e = sym (rw e at ((agrees s o false).calls m i)) ∙ a.only i ∙ eq-eqb i i refl
+    told m i a t e = sym (rw e at ((agrees s o rust).calls m i)) ∙ a.only i ∙ eq-eqb i i refl
 
     -- A name's rule is its target.
     pub target_at : (m i : ℕ) → At rules.names rules.n m i → target grammar m ≡ some (get_or rules.ids i 0)
@@ -135,8 +136,8 @@ module _ {ws : List ℕ} {end : ℕ} {rules : Rules} (s : Standing ws end rules)
         }
 
 -- A bit of a row of calls.
-pub call_bit : {ws : List ℕ} {end : ℕ} {rules : Rules} {past : Bool} {calls corners : List (List ℕ)} {m : Marks}
-    (k : Known ws end rules past calls corners m) {i j : ℕ} (a : Among (rules_of ws end rules k.standing) i) → j < rules.n
+pub call_bit : {ws : List ℕ} {end : ℕ} {rules : Rules} {reading : Corners} {calls corners : List (List ℕ)} {m : Marks}
+    (k : Known ws end rules reading calls corners m) {i j : ℕ} (a : Among (rules_of ws end rules k.standing) i) → j < rules.n
     → edge calls i j ≡ member (get_or rules.ids j 0) (collect_calls_into (grammar_at ws end rules k.standing) body_depth a.rule.body)
 unfolding grammar_of
 call_bit k {i} {j} a l = row_bit (k.facts.rows.call_rows i a) (let c = all_rules k.standing.rows in omega arith)

@@ -9,6 +9,7 @@ use Rattle.grammar.specs.Tree.{RuleOf, Block, body_depth, inner_depth}
 use Rattle.grammar.specs.Lists.{member, keep, first, any}
 use Rattle.grammar.specs.Laws.Lists.{in_member, member_in, member_append}
 use Rattle.grammar.specs.Laws.Parse.{either}
+use Rattle.grammar.specs.Corners.{Corners}
 use Rattle.graph.specs.Members.{in_keep, keep_in, keep_is_part}
 use Rattle.graph.specs.Order.{Rising, part_rising}
 use Rattle.reference.specs.Analysis.{Grammar, collect_calls_into, grammar_of, nullable_rules}
@@ -43,8 +44,8 @@ pub candidates_by : {ws : List ℕ} {end : ℕ} {rules : Rules} {can : List ℕ}
     → Candidates y ws end rules.places rules.n can → CandidatesBy ws end rules y.members can y.nullable
 candidates_by y a b f = record { cycle = y; named = a; count = b; inside = refl; empty = refl; candidates = f }
 
-module _ {ws : List ℕ} {end : ℕ} {rules : Rules} {past : Bool} {calls corners : List (List ℕ)} {m : Marks}
-    (k : Known ws end rules past calls corners m) {cycle members : List ℕ} (cy : IsCycle ws end rules k.standing cycle members) where
+module _ {ws : List ℕ} {end : ℕ} {rules : Rules} {reading : Corners} {calls corners : List (List ℕ)} {m : Marks}
+    (k : Known ws end rules reading calls corners m) {cycle members : List ℕ} (cy : IsCycle ws end rules k.standing cycle members) where
   abbrev rs : List (RuleOf (Block body_depth))
   rs = rules_of ws end rules k.standing
 
@@ -168,7 +169,8 @@ module _ {ws : List ℕ} {end : ℕ} {rules : Rules} {n : ℕ} {members nullable
     {calls : List (List ℕ)} {kept w both : List ℕ} (c : CallsFrom calls members kept n w) (b : Meet can w both) where
   -- The answer that was found is the definition's.
   chosen : {r : Option ℕ}
-      → ((past : Bool) (corners : List (List ℕ)) (m : Marks) (k : Known ws end rules past calls corners m) (cycle preserved : List ℕ)
+      → ((reading : Corners) (corners : List (List ℕ)) (m : Marks) (k : Known ws end rules reading calls corners m)
+      (cycle preserved : List ℕ)
       (cy : IsCycle ws end rules k.standing cycle members) (pr : RowOf rules.ids rules.n preserved kept)
       → CandidatesBy ws end rules members can m.nullable
       → CallsFrom calls members kept rules.n w
@@ -177,8 +179,8 @@ module _ {ws : List ℕ} {end : ℕ} {rules : Rules} {n : ℕ} {members nullable
       → Chosen ws end rules nullable calls members kept r
   chosen h =
       record {
-        is = λ past corners m k z cycle preserved cy pr.
-            h past corners m k cycle preserved cy pr
+        is = λ reading corners m k z cycle preserved cy pr.
+            h reading corners m k cycle preserved cy pr
             (subst (CandidatesBy ws end rules members can) (sym z) f)
             (subst (λ x. CallsFrom calls members kept x w) e c);
       }
@@ -186,7 +188,7 @@ module _ {ws : List ℕ} {end : ℕ} {rules : Rules} {n : ℕ} {members nullable
   pub chosen_first : (t r : Option ℕ) → IsNext rules.ids both n t → MatchOption t (IsNext rules.ids can n r) (λ i. r ≡ Some i)
       → Chosen ws end rules nullable calls members kept r
   chosen_first None r h x =
-      chosen λ past corners m k cycle preserved cy pr f' c'.
+      chosen λ reading corners m k cycle preserved cy pr f' c'.
       hub_other k cy f' pr c' b r (rw e at h) (subst (λ j. IsNext rules.ids can j r) e x)
   chosen_first (Some i) r h x =
-      rw x (chosen λ past corners m k cycle preserved cy pr f' c'. hub_wanted k cy f' pr c' b (rw e at h))
+      rw x (chosen λ reading corners m k cycle preserved cy pr f' c'. hub_wanted k cy f' pr c' b (rw e at h))

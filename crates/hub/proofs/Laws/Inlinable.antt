@@ -11,6 +11,7 @@ use Rattle.std.specs.Cmp.{first_so, second_so}
 use Rattle.grammar.specs.Tree.{Rule, inner_depth}
 use Rattle.grammar.specs.Lists.{all, member, keep}
 use Rattle.grammar.specs.Laws.Parse.{either}
+use Rattle.grammar.specs.Corners.{Corners}
 use Rattle.graph.specs.Members.{in_keep, keep_in}
 use Rattle.reference.specs.Plan.{satellite_is_inlinable, satellites}
 use Rattle.records.specs.declared.rules.Rules.{Rules}
@@ -24,8 +25,8 @@ use Rattle.hub.specs.Inlinable.{AllInlinable}
 use Rattle.hub.proofs.Laws.Lists.{all_true, all_false}
 use Rattle.hub.proofs.Laws.Grounds.{row_bit, row_low, in_among, at_place, place_low}
 
-module _ {ws : List ℕ} {end : ℕ} {rules : Rules} {past : Bool} {calls corners : List (List ℕ)} {m : Marks}
-    (k : Known ws end rules past calls corners m) {cycle members : List ℕ} (cy : IsCycle ws end rules k.standing cycle members)
+module _ {ws : List ℕ} {end : ℕ} {rules : Rules} {reading : Corners} {calls corners : List (List ℕ)} {m : Marks}
+    (k : Known ws end rules reading calls corners m) {cycle members : List ℕ} (cy : IsCycle ws end rules k.standing cycle members)
     {hub : ℕ} (h : hub < rules.n) where
   abbrev rs : List Rule
   rs = rules_of ws end rules k.standing
@@ -90,4 +91,4 @@ module _ {ws : List ℕ} {end : ℕ} {rules : Rules} {past : Bool} {calls corner
 pub inlined : {stops members : List ℕ} {hub : ℕ} {both row : List ℕ} {r : Bool} → Meet stops members both → Without both hub row
     → Empty row r → AllInlinable stops members hub r
 inlined {members = members} {both = both} x y e =
-    record { is = λ ws end rules past calls corners m k z cycle cy h. all_are k cy h (subst (λ s. Meet s members both) (sym z) x) y e }
+    record { is = λ ws end rules reading calls corners m k z cycle cy h. all_are k cy h (subst (λ s. Meet s members both) (sym z) x) y e }

@@ -4,7 +4,7 @@ use Rattle.std.specs.Cmp.{first_so, second_so}
 use Prim.Native.Nat.{ℕ, ◌+◌, ◌*◌, ◌/◌, ◌≤◌}
 use mathlib.Core.Path.{◌≡◌, refl, sym, ap, ◌∙◌, subst}
 use mathlib.Core.List.{List, []}
-use mathlib.Core.Bool.{Bool, true}
+use mathlib.Core.Bool.{true}
 use native.Mathlib.Omega.{arith}
 use lib.ListN.{length, take, drop}
 use lib.Seq.{take-length}
@@ -21,6 +21,7 @@ use Rattle.grammar.specs.Reading.{refused, sheet, is_length, read_words, read, r
 use Rattle.grammar.specs.Laws.Words.{AreBytes, length_words}
 use Rattle.grammar.specs.Laws.Stands.{stands_none}
 use Rattle.grammar.specs.Laws.Codec.{accepted_valid, is_encoding_words}
+use Rattle.grammar.specs.Corners.{Corners, rust}
 use Rattle.reference.specs.Substitute.{standard}
 use Rattle.reference.specs.Run.{answer, refusal, answer_run, answer_reading, answer_to, eliminate_mutual_left_recursion}
 use Rattle.laws.specs.Proved.OtherUnits.{other_answer}
@@ -29,7 +30,6 @@ use Rattle.writing.specs.Laws.Wrote.{wrote_stands}
 use Rattle.writing.specs.Taken.{counters_of}
 use Rattle.writing.specs.declared.counters.Counters.{Counters}
 use Rattle.records.specs.Rules.{RowsOf}
-use Rattle.analysis.specs.Survey as survey
 use Rattle.sheet.specs.Answer as reader
 use Rattle.sheet.specs.Answer.{numbers_in, parts_of, ReadAs}
 use Rattle.sheet.specs.declared.answer.Reading.{Reading}
@@ -68,14 +68,14 @@ read_is : (bs : List ℕ) → is_length (length bs) ≡ true → read bs ≡ rea
 unfolding read_in
 read_is bs e = rw (e, read_in) refl
 
-module _ (past : Bool) (bs : List ℕ) (long : is_length (length bs) ≡ true) where
+module _ (reading : Corners) (bs : List ℕ) (long : is_length (length bs) ≡ true) where
   -- A refusal of the reader.
   pub answered_refused : {f : Refusal} (result trail : List ℕ) → ReadAs (read_words (words bs)) (Err f)
-      → Answered past bs result trail (Err f)
+      → Answered reading bs result trail (Err f)
   unfolding answer_to answer_reading
   answered_refused {f} result trail a =
       let w = read_is bs long ∙ was_refused (read_words (words bs)) a in
-      let z : answer_to standard (survey.reading past) bs ≡ refusal (refusal_number f) = ap (answer_reading standard (survey.reading past)) w in
+      let z : answer_to standard reading bs ≡ refusal (refusal_number f) = ap (answer_reading standard reading) w in
       record {
         is = record { refused = λ k x. let y = sym z ∙ x in cc; delivered = λ plans steps ws ts x. never (sym z ∙ x) };
         short = tt;
@@ -100,10 +100,10 @@ module _ (past : Bool) (bs : List ℕ) (long : is_length (length bs) ≡ true) w
     encoded : encode tree_read ≡ words bs
     encoded = is_encoding_words newest bs tree_read reads
 
-    answer_is : answer_to standard (survey.reading past) bs
-        ≡ answer_run tree_read (eliminate_mutual_left_recursion standard (survey.reading past) tree_read)
+    answer_is : answer_to standard reading bs
+        ≡ answer_run tree_read (eliminate_mutual_left_recursion standard reading tree_read)
     unfolding answer_to answer_reading
-    answer_is = ap (answer_reading standard (survey.reading past)) reads
+    answer_is = ap (answer_reading standard reading) reads
 
     module _ {result result' : List ℕ} {n : ℕ} (count : n ≡ length bs / 4) (room : result_bytes ≤ length result)
         (w : Wrote result result' 0 (take n (drop 0 (words bs)))) where
@@ -129,10 +129,10 @@ module _ (past : Bool) (bs : List ℕ) (long : is_length (length bs) ≡ true) w
 
       -- A unit of another kind.
       pub answered_other : (trail : List ℕ) → (r.parts.kind ≡ Parser → ⊥)
-          → Answered past bs result' trail (Ok (record { plans = 0; steps = 0; words = n; entries = 0 }))
+          → Answered reading bs result' trail (Ok (record { plans = 0; steps = 0; words = n; entries = 0 }))
       answered_other trail other =
           let k : unit_number r.parts.kind ≡ tree_read.kind = ap (λ q. q.kind) parts in
-          let z = other_answer standard (survey.reading past) bs tree_read reads (λ f. other (is_parser r.parts.kind (k ∙ f))) in
+          let z = other_answer standard reading bs tree_read reads (λ f. other (is_parser r.parts.kind (k ∙ f))) in
           record {
             is =
                 record {
@@ -185,7 +185,7 @@ module _ (past : Bool) (bs : List ℕ) (long : is_length (length bs) ≡ true) w
             }
 
         pub answered_run : {result'' trail'' : List ℕ} {e : Result Ended Refusal}
-            → RunOf standard past result' end to r.rules counters result'' trail'' e → Answered past bs result'' trail'' e
+            → RunOf standard reading result' end to r.rules counters result'' trail'' e → Answered reading bs result'' trail'' e
         unfolding begun
         answered_run {result''} {trail''} {e} o =
             record {
@@ -203,20 +203,20 @@ module _ {bs : List ℕ} {r : Reading} (s : WasSheet bs r) {result trail work : 
   abbrev room : result_bytes ≤ length result
   room = l.buffers.for_result
 
-  pub sheet_other : (past : Bool) (trail' : List ℕ) → (r.parts.kind ≡ Parser → ⊥)
-      → Answered past bs result' trail' (Ok (record { plans = 0; steps = 0; words = n; entries = 0 }))
-  sheet_other past = answered_other past bs long s.found count room w
+  pub sheet_other : (reading : Corners) (trail' : List ℕ) → (r.parts.kind ≡ Parser → ⊥)
+      → Answered reading bs result' trail' (Ok (record { plans = 0; steps = 0; words = n; entries = 0 }))
+  sheet_other reading = answered_other reading bs long s.found count room w
 
   module _ (are : AreBytes bs) (kind : r.parts.kind ≡ Parser) {end to : ℕ} {counters : Counters} (ends : end ≡ r.parts.preserved)
       (up_to : to ≡ end + r.parts.count) (same : counters ≡ r.parts.counters) where
     pub sheet_begun : Begun result' end to r.rules counters
-    sheet_begun = begun true bs long s.found count room w are kind ends up_to same
+    sheet_begun = begun rust bs long s.found count room w are kind ends up_to same
 
-    pub sheet_run : {limits : Limits} {past : Bool} {result'' trail'' : List ℕ} {e : Result Ended Refusal} → IsStandard limits
-        → RunOf (limits_of limits) past result' end to r.rules counters result'' trail'' e → Answered past bs result'' trail'' e
-    sheet_run {limits} {past} {result''} {trail''} {e} i o =
-        answered_run past bs long s.found count room w are kind ends up_to same
-        (subst (λ l. RunOf l past result' end to r.rules counters result'' trail'' e) i.is o)
+    pub sheet_run : {limits : Limits} {reading : Corners} {result'' trail'' : List ℕ} {e : Result Ended Refusal} → IsStandard limits
+        → RunOf (limits_of limits) reading result' end to r.rules counters result'' trail'' e → Answered reading bs result'' trail'' e
+    sheet_run {limits} {reading} {result''} {trail''} {e} i o =
+        answered_run reading bs long s.found count room w are kind ends up_to same
+        (subst (λ l. RunOf l reading result' end to r.rules counters result'' trail'' e) i.is o)
 
 pub lent_most : {bs result trail work : List ℕ} → Lent bs result trail work → length bs ≤ most_bytes
 lent_most {bs} l =

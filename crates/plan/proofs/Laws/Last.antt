@@ -6,12 +6,12 @@ use mathlib.Core.Bool.{Bool, true, false, not}
 use lib.ListN.{get_or}
 use borrow.Author.Tests.{eq-eqb, ne_eqb}
 use Rattle.grammar.specs.Tree.{body_depth, inner_depth}
+use Rattle.grammar.specs.Corners.{Corners}
 use Rattle.reference.specs.Analysis.{nullable_rules, grammar_of}
 use Rattle.reference.specs.Substitute.{Clause, no_steps, not_directly_rewritable, Decided, declined, require}
 use Rattle.reference.specs.Plan.{plan_of}
 use Rattle.records.specs.declared.rules.Rules.{Rules}
 use Rattle.reach.specs.Rows.{RowOf}
-use Rattle.analysis.specs.Survey.{reading}
 use Rattle.analysis.specs.declared.rounds.Marks.{Marks}
 use Rattle.analysis.proofs.Laws.Standing.{all_rules}
 use Rattle.hub.specs.Grounds.{Known, rules_of}
@@ -34,16 +34,16 @@ pub met : {A : Type 0} (c : Clause) (f : Unit {0} → Decided A) {b : Bool} → 
 met c f e = rw e refl
 
 -- The nullable rules as a row of all rules.
-pub nullable_row : {ws : List ℕ} {end : ℕ} {rules : Rules} {past : Bool} {calls corners : List (List ℕ)} {m : Marks}
-    (k : Known ws end rules past calls corners m)
+pub nullable_row : {ws : List ℕ} {end : ℕ} {rules : Rules} {reading : Corners} {calls corners : List (List ℕ)} {m : Marks}
+    (k : Known ws end rules reading calls corners m)
     → RowOf rules.ids rules.n (nullable_rules body_depth (rules_of ws end rules k.standing)) m.nullable
 nullable_row {ws} {end} {rules} {m = m} k =
     subst (λ n. RowOf rules.ids n (nullable_rules body_depth (rules_of ws end rules k.standing)) m.nullable)
     (sym (all_rules k.standing.rows)) k.facts.nullable
 
-module _ {ws : List ℕ} {end : ℕ} {rules : Rules} {past : Bool} {calls : List (List ℕ)} {marks : Marks} {kept members : List ℕ}
+module _ {ws : List ℕ} {end : ℕ} {rules : Rules} {reading : Corners} {calls : List (List ℕ)} {marks : Marks} {kept members : List ℕ}
     {hub : ℕ} {done : Done} {bs : List ℕ} where
-  pub last_idle : done.steps ≡ 0 → PlanLast ws end rules past calls marks kept members hub done bs (Err (Declined NoSteps))
+  pub last_idle : done.steps ≡ 0 → PlanLast ws end rules reading calls marks kept members hub done bs (Err (Declined NoSteps))
   last_idle e =
       record {
         is = λ limits x.
@@ -51,14 +51,14 @@ module _ {ws : List ℕ} {end : ℕ} {rules : Rules} {past : Bool} {calls : List
       }
 
   module _ {n : ℕ} (count : n ≡ rules.n) (some : done.steps ≡ 0 → ⊥) {j : Option (List ℕ)}
-      (judged : JudgedFound ws end rules marks.nullable past members hub bs done.l j) where
-    known_judged : (x : CycleKnown ws end rules past calls marks kept members)
-        → AreJudged (reading past) (known_grammar x) rules.ids rules.n x.cycle (get_or rules.ids hub 0) inner_depth
+      (judged : JudgedFound ws end rules marks.nullable reading members hub bs done.l j) where
+    known_judged : (x : CycleKnown ws end rules reading calls marks kept members)
+        → AreJudged reading (known_grammar x) rules.ids rules.n x.cycle (get_or rules.ids hub 0) inner_depth
         (settled ws end inner_depth bs done.l) j
     unfolding grammar_of
     known_judged x = judged.is x.known.standing _ x.cycle refl (nullable_row x.known) x.is_cycle.row
 
-    pub last_unfit : j ≡ None → PlanLast ws end rules past calls marks kept members hub done bs (Err (Declined NotDirectlyRewritable))
+    pub last_unfit : j ≡ None → PlanLast ws end rules reading calls marks kept members hub done bs (Err (Declined NotDirectlyRewritable))
     last_unfit f =
         record {
           is = λ limits x.
@@ -70,7 +70,7 @@ module _ {ws : List ℕ} {end : ℕ} {rules : Rules} {past : Bool} {calls : List
 
     pub last_plan : {planned : List ℕ} → j ≡ Some planned → hub < rules.n → Laid bs done.l → AllIn ws end inner_depth bs done.l
         → {row : List ℕ} → Removable calls n planned hub members kept row
-        → PlanLast ws end rules past calls marks kept members hub done bs
+        → PlanLast ws end rules reading calls marks kept members hub done bs
         (Ok (record { hub = hub; l = done.l; steps = done.steps; removable = row }))
     last_plan {planned} u low laid listed {row} rows =
         record {
@@ -82,7 +82,7 @@ module _ {ws : List ℕ} {end : ℕ} {rules : Rules} {past : Bool} {calls : List
                 ws = ws;
                 end = end;
                 rules = rules;
-                past = past;
+                reading = reading;
                 corners = x.corners;
                 marks = marks;
                 known = x.known;

@@ -2,19 +2,19 @@
 use Prim.Native.Nat.{ℕ, ◌<◌}
 use mathlib.Core.Path.{◌≡◌, refl, sym, ap, ◌∙◌, subst}
 use mathlib.Core.List.{List}
-use mathlib.Core.Bool.{Bool, true, false, not, true≢false}
+use mathlib.Core.Bool.{true, false, not, true≢false}
 use lib.ListN.{get_or}
 use lib.Dec.{eqb}
 use borrow.Author.Tests.{ne_eqb}
 use Rattle.grammar.specs.Tree.{inner_depth}
 use Rattle.grammar.specs.Lists.{member}
 use Rattle.grammar.specs.Laws.Parse.{either}
+use Rattle.grammar.specs.Corners.{Corners}
 use Rattle.graph.specs.Members.{keep_in}
 use Rattle.reference.specs.Substitute.{Decided, ◌and_then◌, Substituted, substitute, substitution_budget}
 use Rattle.reference.specs.Plan.{CyclePlan, satellite_is_inlinable, as_they_are, last_tests}
 use Rattle.records.specs.declared.rules.Rules.{Rules}
 use Rattle.reach.specs.Rows.{bit}
-use Rattle.analysis.specs.Survey.{reading}
 use Rattle.analysis.specs.Facts.{Among, Standing}
 use Rattle.analysis.specs.declared.rounds.Marks.{Marks}
 use Rattle.analysis.proofs.Laws.Standing.{id_at}
@@ -45,9 +45,9 @@ unplanned_then : {A B : Type 0} (m : Decided A) (f : A → Decided B) (n : Unpla
 unplanned_then m f (Declined c) d = record { is = rw d.is refl }
 unplanned_then m f Overfull d = rw d refl
 
-module _ {ws : List ℕ} {end : ℕ} {rules : Rules} {past : Bool} {calls : List (List ℕ)} {marks : Marks} {kept members : List ℕ}
+module _ {ws : List ℕ} {end : ℕ} {rules : Rules} {reading : Corners} {calls : List (List ℕ)} {marks : Marks} {kept members : List ℕ}
     {hub : ℕ} where
-  module _ (x : HubKnown ws end rules past calls marks kept members hub) where
+  module _ (x : HubKnown ws end rules reading calls marks kept members hub) where
     -- A member that is not the hub.
     satellite : {i : ℕ} (a : Among (known_rules x.known) i) → bit members i ≡ true → (i ≡ hub → ⊥)
         → satellite_is_inlinable inner_depth a.rule ≡ true
@@ -71,8 +71,9 @@ module _ {ws : List ℕ} {end : ℕ} {rules : Rules} {past : Bool} {calls : List
     pub hub_standing : Standing ws end rules
     hub_standing = x.known.known.standing
 
-module _ {ws : List ℕ} {end : ℕ} {rules : Rules} {past : Bool} {calls : List (List ℕ)} {marks : Marks} {kept : List ℕ} {y : Cycle} where
-  pub ground_of : HubKnown ws end rules past calls marks kept y.members y.hub → y.n ≡ rules.n → Ground ws end rules.names rules.places y
+module _ {ws : List ℕ} {end : ℕ} {rules : Rules} {reading : Corners} {calls : List (List ℕ)} {marks : Marks} {kept : List ℕ}
+    {y : Cycle} where
+  pub ground_of : HubKnown ws end rules reading calls marks kept y.members y.hub → y.n ≡ rules.n → Ground ws end rules.names rules.places y
   ground_of x e =
       record {
         rules = rules;
@@ -92,7 +93,7 @@ module _ {ws : List ℕ} {end : ℕ} {rules : Rules} {past : Bool} {calls : List
   module _ {most : ℕ} {limits : Limits} {bs : List ℕ} {made : Result (Option Done) Unplanned} (count : y.n ≡ rules.n)
       (b : IsBudget ws end rules y.members limits.floor most)
       (v : MadeOf ws end rules.names rules.places y limits most bs made) where
-    module _ (x : HubKnown ws end rules past calls marks kept y.members y.hub) (a : Among (known_rules x.known) y.hub) where
+    module _ (x : HubKnown ws end rules reading calls marks kept y.members y.hub) (a : Among (known_rules x.known) y.hub) where
       -- The definition's substitution.
       whole : Decided (Substituted inner_depth)
       whole =
@@ -102,7 +103,7 @@ module _ {ws : List ℕ} {end : ℕ} {rules : Rules} {past : Bool} {calls : List
 
       last : Substituted inner_depth → Decided (CyclePlan inner_depth)
       last =
-          last_tests (limits_of limits) (reading past) (known_grammar x.known) inner_depth (known_rules x.known) x.known.preserved
+          last_tests (limits_of limits) reading (known_grammar x.known) inner_depth (known_rules x.known) x.known.preserved
           x.known.cycle (get_or rules.ids y.hub 0)
 
       made_to : {r : Result (Option Done) Unplanned} → made ≡ r → MadeTo ws end bs whole r
@@ -113,14 +114,14 @@ module _ {ws : List ℕ} {end : ℕ} {rules : Rules} {past : Bool} {calls : List
 
     -- A list was made.
     module _ {done : Done} (e : made ≡ Ok (Some done)) where
-      pub made_laid : HubKnown ws end rules past calls marks kept y.members y.hub → Laid bs done.l
+      pub made_laid : HubKnown ws end rules reading calls marks kept y.members y.hub → Laid bs done.l
       made_laid x = (made_to x (at_place x.known.known.standing y.hub x.low) e).laid
 
-      pub made_listed : HubKnown ws end rules past calls marks kept y.members y.hub → AllIn ws end inner_depth bs done.l
+      pub made_listed : HubKnown ws end rules reading calls marks kept y.members y.hub → AllIn ws end inner_depth bs done.l
       made_listed x = (made_to x (at_place x.known.known.standing y.hub x.low) e).listed
 
-      pub made_planned : {r : Result Plan Unplanned} → PlanLast ws end rules past calls marks kept y.members y.hub done bs r
-          → PlanMade ws end rules past calls marks kept y.members limits y.hub bs r
+      pub made_planned : {r : Result Plan Unplanned} → PlanLast ws end rules reading calls marks kept y.members y.hub done bs r
+          → PlanMade ws end rules reading calls marks kept y.members limits y.hub bs r
       unfolding whole last
       made_planned {r} p =
           record {
@@ -129,11 +130,11 @@ module _ {ws : List ℕ} {end : ℕ} {rules : Rules} {past : Bool} {calls : List
                 (p.is limits x.known);
           }
 
-    pub made_idle : made ≡ Ok None → PlanMade ws end rules past calls marks kept y.members limits y.hub bs (Err (Declined NoSteps))
+    pub made_idle : made ≡ Ok None → PlanMade ws end rules reading calls marks kept y.members limits y.hub bs (Err (Declined NoSteps))
     unfolding whole last
     made_idle e = record { is = λ x a. record { is = ap (λ m. m and_then last x a) (made_to x a e).is } }
 
-    pub made_unplanned : {n : Unplanned} → made ≡ Err n → PlanMade ws end rules past calls marks kept y.members limits y.hub bs (Err n)
+    pub made_unplanned : {n : Unplanned} → made ≡ Err n → PlanMade ws end rules reading calls marks kept y.members limits y.hub bs (Err n)
     unfolding whole last
     made_unplanned {n} e = record { is = λ x a. unplanned_then (whole x a) (last x a) n (made_to x a e) }
 

@@ -3,7 +3,6 @@ use Prim.Native.Nat.{ℕ, zero, suc, ◌+◌, ◌<◌, ◌≤◌}
 use mathlib.Core.Path.{◌≡◌, refl, sym, ap, ◌∙◌, subst}
 use mathlib.Core.List.Memᴰ
 use mathlib.Core.List.{List, [], ◌∷◌, Memᴰ}
-use mathlib.Core.Bool.{Bool}
 use native.Mathlib.Omega.{arith}
 use native.Mathlib.Numerals.{add-one}
 use lib.ListN.{length, get_or, take, drop, replicate, set, length-set, length-drop, length-replicate}
@@ -12,13 +11,13 @@ use lib.Dec.{eqb}
 use borrow.Author.Tests.{eqb-true, eqb-false}
 use Rattle.grammar.specs.Numbers.{rule_limit}
 use Rattle.grammar.specs.Laws.Parse.{either}
+use Rattle.grammar.specs.Corners.{Corners}
 use Rattle.reference.specs.Run.{search_cycles, find_plan}
 use Rattle.records.specs.declared.rules.Rules.{Rules}
 use Rattle.reach.specs.Rows.{RowOf}
 use Rattle.reach.specs.Reach.{Loops}
 use Rattle.reach.specs.Listed.{Ids, Left, Taken, AheadOf}
 use Rattle.reach.specs.declared.cycles.Ahead.{Ahead}
-use Rattle.analysis.specs.Survey.{reading}
 use Rattle.analysis.specs.declared.rounds.Marks.{Marks}
 use Rattle.hub.specs.Grounds.{IsCycle}
 use Rattle.hub.proofs.Laws.Cycle.{listed_cycle}
@@ -36,7 +35,7 @@ use Rattle.plan.specs.declared.search.FoundPlan.{FoundPlan}
 use Rattle.plan.specs.declared.search.Found.{Found}
 use Rattle.plan.specs.Known.{CycleKnown}
 use Rattle.plan.specs.Decision.{DecidedAs, PlanOf}
-use Rattle.plan.specs.Search.{IsNone, Ended, cycles_of, decision_on, search_through, whole_search, AnswerIs, JoinedKnown, TriedOf}
+use Rattle.plan.specs.Search.{Ended, cycles_of, decision_on, search_through, whole_search, AnswerIs, JoinedKnown, TriedOf}
 use Rattle.plan.proofs.Laws.Cycles.{graph, graph_ids, all_ahead, cycles_few}
 
 -- Zeros, and the default behind them.
@@ -45,7 +44,7 @@ zeros_at zero j = refl
 zeros_at (suc n) zero = refl
 zeros_at (suc n) (suc j) = zeros_at n j
 
-module _ (ws : List ℕ) (end : ℕ) (rules : Rules) (past : Bool) (calls : List (List ℕ)) (marks : Marks) (kept : List ℕ)
+module _ (ws : List ℕ) (end : ℕ) (rules : Rules) (reading : Corners) (calls : List (List ℕ)) (marks : Marks) (kept : List ℕ)
     (closed : List (List ℕ)) (limits : Limits) where
   -- The first k cycles were declined; `left` has the members of the others.
   pub record Trying (n k : ℕ) (left clauses : List ℕ) : Type 0 where
@@ -53,43 +52,43 @@ module _ (ws : List ℕ) (end : ℕ) (rules : Rules) (past : Bool) (calls : List
     pub few : n ≤ rule_limit
     pub low : k ≤ n
     pub long : length clauses ≡ rule_limit
-    pub within : (x : JoinedKnown ws end rules past calls marks kept closed) → k ≤ length (cycles_of x.known)
-    pub ahead : (x : JoinedKnown ws end rules past calls marks kept closed)
+    pub within : (x : JoinedKnown ws end rules reading calls marks kept closed) → k ≤ length (cycles_of x.known)
+    pub ahead : (x : JoinedKnown ws end rules reading calls marks kept closed)
         → Left (graph x) n (cycles_of x.known) closed left (drop k (cycles_of x.known))
-    pub same : (x : JoinedKnown ws end rules past calls marks kept closed)
+    pub same : (x : JoinedKnown ws end rules reading calls marks kept closed)
         → whole_search x.known limits ≡ search_through x.known limits (drop k (cycles_of x.known))
-    pub declines : (x : JoinedKnown ws end rules past calls marks kept closed) (j : ℕ) → j < k
+    pub declines : (x : JoinedKnown ws end rules reading calls marks kept closed) (j : ℕ) → j < k
         → DeclinedByNumber (decision_on x.known limits (get_or (cycles_of x.known) j [])) (get_or clauses j 0)
     pub behind : (j : ℕ) → k ≤ j → get_or clauses j 0 ≡ 0
 
-module _ {ws : List ℕ} {end : ℕ} {rules : Rules} {past : Bool} {calls : List (List ℕ)} {marks : Marks} {kept : List ℕ}
+module _ {ws : List ℕ} {end : ℕ} {rules : Rules} {reading : Corners} {calls : List (List ℕ)} {marks : Marks} {kept : List ℕ}
     {closed : List (List ℕ)} where
-  abbrev all : JoinedKnown ws end rules past calls marks kept closed → List (List ℕ)
+  abbrev all : JoinedKnown ws end rules reading calls marks kept closed → List (List ℕ)
   all x = cycles_of x.known
 
-module _ {ws : List ℕ} {end : ℕ} {rules : Rules} {past : Bool} {calls : List (List ℕ)} {marks : Marks} {kept : List ℕ}
+module _ {ws : List ℕ} {end : ℕ} {rules : Rules} {reading : Corners} {calls : List (List ℕ)} {marks : Marks} {kept : List ℕ}
     {closed : List (List ℕ)} {limits : Limits} where
-  pub try_all : {n : ℕ} {r : Found} {left : List ℕ} → IsNone r → n ≡ rules.n → rules.n ≤ rule_limit → Loops closed n left
-      → Trying ws end rules past calls marks kept closed limits n 0 left r.clauses
+  pub try_all : {n : ℕ} {left : List ℕ} → n ≡ rules.n → rules.n ≤ rule_limit → Loops closed n left
+      → Trying ws end rules reading calls marks kept closed limits n 0 left (replicate rule_limit 0)
   unfolding find_plan
-  try_all {n} {r} {left} z e few l =
+  try_all {n} {left} e few l =
       record {
         size = e;
         few = omega arith;
         low = omega arith;
-        long = ap length z.clauses ∙ length-replicate {A = ℕ} rule_limit 0;
+        long = length-replicate {A = ℕ} rule_limit 0;
         within = λ x. omega arith;
         ahead = λ x. rw e (all_ahead x (rw e at l));
         same = λ x. refl;
         declines = λ x j l. absurd (omega arith);
-        behind = λ j l. rw z.clauses (zeros_at rule_limit j);
+        behind = λ j l. zeros_at rule_limit j;
       }
 
-  module _ {n k : ℕ} {left clauses : List ℕ} (g : Trying ws end rules past calls marks kept closed limits n k left clauses) where
+  module _ {n k : ℕ} {left clauses : List ℕ} (g : Trying ws end rules reading calls marks kept closed limits n k left clauses) where
     -- The answer at hand, behind those that were declined.
     tried : {f : Found} {answer : Result (Option FoundPlan) Refusal} {bs : List ℕ} → Ended answer k clauses f
-        → ((x : JoinedKnown ws end rules past calls marks kept closed) → AnswerIs x.known limits bs k answer)
-        → TriedOf ws end rules past calls marks kept closed limits bs f
+        → ((x : JoinedKnown ws end rules reading calls marks kept closed) → AnswerIs x.known limits bs k answer)
+        → TriedOf ws end rules reading calls marks kept closed limits bs f
     tried e y =
         record {
           is = λ x.
@@ -101,8 +100,8 @@ module _ {ws : List ℕ} {end : ℕ} {rules : Rules} {past : Bool} {calls : List
               };
         }
 
-    no_more : {f : Found} (bs : List ℕ) → ((x : JoinedKnown ws end rules past calls marks kept closed) → length (all x) ≤ k)
-        → Ended (Ok None) k clauses f → TriedOf ws end rules past calls marks kept closed limits bs f
+    no_more : {f : Found} (bs : List ℕ) → ((x : JoinedKnown ws end rules reading calls marks kept closed) → length (all x) ≤ k)
+        → Ended (Ok None) k clauses f → TriedOf ws end rules reading calls marks kept closed limits bs f
     unfolding search_cycles
     no_more bs l e =
         tried e λ x.
@@ -114,18 +113,18 @@ module _ {ws : List ℕ} {end : ℕ} {rules : Rules} {past : Bool} {calls : List
 
     -- As many were declined as there are rules.
     pub try_full : {f : Found} (bs : List ℕ) → n ≤ k → Ended (Ok None) n clauses f
-        → TriedOf ws end rules past calls marks kept closed limits bs f
+        → TriedOf ws end rules reading calls marks kept closed limits bs f
     try_full bs l e =
         let z : n ≡ k = let h = g.low in omega arith in
         no_more bs (λ x. let f = cycles_few x in let m = g.size in omega arith) (rw z at e)
 
     module _ {o : Option Ahead} (a : AheadOf closed rules.ids n left o) where
-      ids : (x : JoinedKnown ws end rules past calls marks kept closed) → Ids (graph x) n rules.ids
+      ids : (x : JoinedKnown ws end rules reading calls marks kept closed) → Ids (graph x) n rules.ids
       ids x = rw g.size (graph_ids x)
 
       -- None is left.
       pub try_done : {f : Found} (bs : List ℕ) → o ≡ None → Ended (Ok None) k clauses f
-          → TriedOf ws end rules past calls marks kept closed limits bs f
+          → TriedOf ws end rules reading calls marks kept closed limits bs f
       try_done bs d e =
           no_more bs
           (λ x.
@@ -136,7 +135,7 @@ module _ {ws : List ℕ} {end : ℕ} {rules : Rules} {past : Bool} {calls : List
           e
 
       module _ {r : Ahead} (d : o ≡ Some r) where
-        module _ (x : JoinedKnown ws end rules past calls marks kept closed) where
+        module _ (x : JoinedKnown ws end rules reading calls marks kept closed) where
           taken : Taken (graph x) rules.ids n (all x) closed (drop k (all x)) r.members r.left
           taken = rw d at (a.takes (graph x) (all x) (drop k (all x)) (ids x) (g.ahead x))
 
@@ -167,9 +166,9 @@ module _ {ws : List ℕ} {end : ℕ} {rules : Rules} {past : Bool} {calls : List
 
           nth_cycle : {row : List ℕ} → RowOf rules.ids rules.n (get_or (all x) k []) row
               → IsCycle ws end rules x.known.known.standing (get_or (all x) k []) row
-          nth_cycle r = listed_cycle x.known.known.standing (reading past) r nth_there
+          nth_cycle r = listed_cycle x.known.known.standing reading r nth_there
 
-          pub cycle_known : CycleKnown ws end rules past calls marks kept r.members
+          pub cycle_known : CycleKnown ws end rules reading calls marks kept r.members
           cycle_known =
               record {
                 corners = x.corners;
@@ -180,8 +179,8 @@ module _ {ws : List ℕ} {end : ℕ} {rules : Rules} {past : Bool} {calls : List
                 keeps = x.known.keeps;
               }
 
-        module _ {bs : List ℕ} {t : Result Plan Unplanned} (p : PlanOf ws end rules past calls marks kept r.members limits bs t) where
-          here : (x : JoinedKnown ws end rules past calls marks kept closed) {u : Result Plan Unplanned} → t ≡ u
+        module _ {bs : List ℕ} {t : Result Plan Unplanned} (p : PlanOf ws end rules reading calls marks kept r.members limits bs t) where
+          here : (x : JoinedKnown ws end rules reading calls marks kept closed) {u : Result Plan Unplanned} → t ≡ u
               → DecidedAs ws end rules.ids rules.n bs (decision_on x.known limits (get_or (all x) k [])) u
           unfolding cycle_known
           here x z =
@@ -189,7 +188,7 @@ module _ {ws : List ℕ} {end : ℕ} {rules : Rules} {past : Bool} {calls : List
               (p.is (cycle_known x))
 
           pub try_next : {b : Clause} {c : ℕ} → k < n → t ≡ Err (Declined b) → c ≡ clause_number (clause_of b)
-              → Trying ws end rules past calls marks kept closed limits n (k + 1) r.left (set clauses k c)
+              → Trying ws end rules reading calls marks kept closed limits n (k + 1) r.left (set clauses k c)
           unfolding search_cycles
           try_next {b} {c} l z w =
               record {
@@ -214,7 +213,7 @@ module _ {ws : List ℕ} {end : ℕ} {rules : Rules} {past : Bool} {calls : List
 
           pub try_planned : {f : Found} {plan : Plan} → t ≡ Ok plan
               → Ended (Ok (Some (record { plan = plan; members = r.members }))) k clauses f
-              → TriedOf ws end rules past calls marks kept closed limits bs f
+              → TriedOf ws end rules reading calls marks kept closed limits bs f
           unfolding search_cycles
           try_planned z e =
               tried e λ x.
@@ -228,7 +227,7 @@ module _ {ws : List ℕ} {end : ℕ} {rules : Rules} {past : Bool} {calls : List
               }
 
           pub try_overfull : {f : Found} → t ≡ Err Overfull → Ended (Err PlanTooLarge) k clauses f
-              → TriedOf ws end rules past calls marks kept closed limits bs f
+              → TriedOf ws end rules reading calls marks kept closed limits bs f
           unfolding search_cycles
           try_overfull z e =
               tried e λ x. record { low = inside x; over = here x z; is = next x ∙ rw (here x z, search_cycles) refl; refusal = refl }

@@ -3,18 +3,17 @@ use Prim.Native.Nat.{ℕ, suc, ◌<◌, ◌≤◌}
 use mathlib.Core.Path.{◌≡◌, refl, sym, subst}
 use mathlib.Core.List.Memᴰ
 use mathlib.Core.List.{List, [], Memᴰ}
-use mathlib.Core.Bool.{Bool}
 use native.Mathlib.Omega.{arith}
 use lib.ListN.{length, get_or, take, drop}
 use lib.Seq.{split_at, length-take-le}
 use Rattle.grammar.specs.Numbers.{most_words}
 use Rattle.grammar.specs.Tree.{Rule, body_depth, inner_depth}
+use Rattle.grammar.specs.Corners.{Corners}
 use Rattle.reference.specs.Analysis.{grammar_of}
 use Rattle.reference.specs.Plan.{plan_cycle}
 use Rattle.records.specs.declared.rules.Rules.{Rules}
 use Rattle.reach.specs.Rows.{RowOf}
 use Rattle.reach.specs.Listed.{CycleRows, CyclesIn}
-use Rattle.analysis.specs.Survey.{reading}
 use Rattle.analysis.specs.Facts.{Standing, FactsFound}
 use Rattle.analysis.specs.declared.rounds.Marks.{Marks}
 use Rattle.analysis.proofs.Laws.Edges.{are_ids, are_edges}
@@ -29,26 +28,26 @@ use Rattle.hub.proofs.Laws.Cycle.{listed_cycle}
 use Rattle.plan.specs.Ground.{KeptOf}
 use Rattle.plans.specs.Nth.{cycles_of, NthOf}
 
-module _ {ws preserved : List ℕ} {end : ℕ} {rules : Rules} {past : Bool} {calls corners : List (List ℕ)} {marks : Marks} {kept : List ℕ}
-    (f : FactsFound ws end rules past calls corners marks) (k : KeptOf preserved rules kept) (small : end ≤ most_words) where
+module _ {ws preserved : List ℕ} {end : ℕ} {rules : Rules} {reading : Corners} {calls corners : List (List ℕ)} {marks : Marks} {kept : List ℕ}
+    (f : FactsFound ws end rules reading calls corners marks) (k : KeptOf preserved rules kept) (small : end ≤ most_words) where
   module _ {m n : ℕ} {before rows : List (List ℕ)} (e : m ≡ rules.n) (c : CyclesIn corners rules.ids m before rows n) where
     module _ (s : Standing ws end rules) where
       abbrev rs : List Rule
       rs = s.rows.found.trees
 
       abbrev all : List (List ℕ)
-      all = cycles_of (reading past) rs
+      all = cycles_of reading rs
 
       listed : CycleRows rules.ids rules.n all rows n
       listed =
           let g = grammar_of body_depth rs in
           let z : CyclesIn corners rules.ids rules.n before rows n = rw (← e) c in
-          z.is (reading past) g body_depth rs (are_edges s (f.is s)) (are_ids s (reading past) g)
+          z.is reading g body_depth rs (are_edges s (f.is s)) (are_ids s reading g)
 
       counted : n ≡ length all
       counted = listed.count
 
-    pub nth_none : {nth : ℕ} (bs : List ℕ) → n ≤ nth → NthOf ws end preserved rules past nth bs (record { cycles = n; choice = None })
+    pub nth_none : {nth : ℕ} (bs : List ℕ) → n ≤ nth → NthOf ws end preserved rules reading nth bs (record { cycles = n; choice = None })
     nth_none bs l =
         record { is = λ s. record { cycles = counted s; choice = let z = counted s in omega arith } }
 
@@ -70,20 +69,20 @@ module _ {ws preserved : List ℕ} {end : ℕ} {rules : Rules} {past : Bool} {ca
           subst (Memᴰ (get_or xs nth [])) (sym (split_at xs nth [] (inside s)))
           (Memᴰ.append_right (take nth xs) (Memᴰ.head refl))
 
-      pub nth_known : Standing ws end rules → CycleKnown ws end rules past calls marks kept row
+      pub nth_known : Standing ws end rules → CycleKnown ws end rules reading calls marks kept row
       nth_known s =
           record {
             corners = corners;
             known = record { standing = s; small = small; facts = f.is s };
             cycle = get_or (all s) nth [];
-            is_cycle = listed_cycle s (reading past) (nth_row s) (nth_there s);
+            is_cycle = listed_cycle s reading (nth_row s) (nth_there s);
             preserved = preserved;
             keeps = k.row;
           }
 
       pub nth_some : {limits : Limits} {bs : List ℕ} {d : Result Plan Unplanned} → IsStandard limits
-          → PlanOf ws end rules past calls marks kept row limits bs d
-          → NthOf ws end preserved rules past nth bs (record { cycles = n; choice = Some d })
+          → PlanOf ws end rules reading calls marks kept row limits bs d
+          → NthOf ws end preserved rules reading nth bs (record { cycles = n; choice = Some d })
       unfolding nth_known
       nth_some {limits} {bs} {d} z p =
           record {
@@ -94,7 +93,7 @@ module _ {ws preserved : List ℕ} {end : ℕ} {rules : Rules} {past : Bool} {ca
                     low = let y = counted s in omega arith;
                     is = subst (λ x.
                         DecidedAs ws end rules.ids rules.n bs
-                        (plan_cycle x (reading past) (grammar_of body_depth (rs s)) inner_depth (rs s) preserved
+                        (plan_cycle x reading (grammar_of body_depth (rs s)) inner_depth (rs s) preserved
                         (get_or (all s) nth [])) d) z.is (p.is (nth_known s));
                   };
                 };

@@ -14,7 +14,6 @@ use Rattle.sheet.specs.Answer.{read_lent, work_after, ReadAs}
 use Rattle.sheet.specs.declared.answer.Reading.{Reading}
 use Rattle.words.specs.declared.numbers.Refusal.{Refusal}
 use Rattle.sheet.proofs.Laws.Sizes.{was_read}
-use Rattle.analysis.specs.Survey.{reading}
 use Rattle.analysis.proofs.Laws.Standing.{all_rules}
 use Rattle.std.specs.Prelude.{Option, Some, None, Result, Ok, Err}
 use Rattle.turns.specs.declared.turn.Unplanned.{Unplanned}
@@ -86,14 +85,14 @@ module _ (ws : List ℕ) (end : ℕ) (ids : List ℕ) (n : ℕ) (list : List ℕ
   first_left {t} e h = record { answer = search_left t.declined t.answer e h.answer; declines = h.declines; behind = h.behind }
 
 module _ (bs work : List ℕ) {r : Reading} (a : ReadAs (read_lent bs work) (Ok r)) {to : ℕ} (e : to ≡ r.parts.preserved + r.parts.count) where
-  pub nth_sheet : {past : Bool} {nth : ℕ} {t : Nth} {list after numbers removable : List ℕ}
-      → NthOf (words bs) r.parts.preserved (words (bytes_between bs r.parts.preserved to)) r.rules past nth list t → numbers ≡ nth_numbers t → removable ≡ nth_row t
+  pub nth_sheet : {reading : Corners} {nth : ℕ} {t : Nth} {list after numbers removable : List ℕ}
+      → NthOf (words bs) r.parts.preserved (words (bytes_between bs r.parts.preserved to)) r.rules reading nth list t → numbers ≡ nth_numbers t → removable ≡ nth_row t
       → after ≡ left_by t.choice list
-      → NthTold (reading past) nth bs (read_lent bs work) (work_after bs work) after numbers removable
+      → NthTold reading nth bs (read_lent bs work) (work_after bs work) after numbers removable
   unfolding read_stands
-  nth_sheet {past} {nth} {t} {list} {after} {numbers} {removable} d f g l =
+  nth_sheet {reading} {nth} {t} {list} {after} {numbers} {removable} d f g l =
       let w = was_read bs work a in
-      let here : NthToldOf (reading past) nth bs w.tree after numbers removable = record {
+      let here : NthToldOf reading nth bs w.tree after numbers removable = record {
         answer = t;
         numbers_are = f;
         removable_is = g;
@@ -106,17 +105,17 @@ module _ (bs work : List ℕ) {r : Reading} (a : ReadAs (read_lent bs work) (Ok 
         refusal = λ k z. absurd (let y = w.is in let u : ◌≡◌ {A = ℕ} 0 1 = cc in omega arith);
         sheet = λ s z.
             let same : w.tree ≡ s = let y = w.is in cc in
-            subst (λ x. NthToldOf (reading past) nth bs x after numbers removable) same here;
+            subst (λ x. NthToldOf reading nth bs x after numbers removable) same here;
       }
 
-  pub first_sheet : {past : Bool} {t : Found} {list after numbers cycle removable clauses : List ℕ}
-      → FirstOf (words bs) r.parts.preserved (words (bytes_between bs r.parts.preserved to)) r.rules past list t → numbers ≡ search_numbers t.declined t.answer
+  pub first_sheet : {reading : Corners} {t : Found} {list after numbers cycle removable clauses : List ℕ}
+      → FirstOf (words bs) r.parts.preserved (words (bytes_between bs r.parts.preserved to)) r.rules reading list t → numbers ≡ search_numbers t.declined t.answer
       → cycle ≡ search_cycle t.answer → removable ≡ search_row t.answer → clauses ≡ t.clauses → after ≡ left_by (choice_in t.answer) list
-      → FirstTold (reading past) bs (read_lent bs work) (work_after bs work) after numbers cycle removable clauses
+      → FirstTold reading bs (read_lent bs work) (work_after bs work) after numbers cycle removable clauses
   unfolding read_stands
-  first_sheet {past} {t} {list} {after} {numbers} {cycle} {removable} {clauses} d f x g y l =
+  first_sheet {reading} {t} {list} {after} {numbers} {cycle} {removable} {clauses} d f x g y l =
       let w = was_read bs work a in
-      let here : FirstToldOf (reading past) bs w.tree after numbers cycle removable clauses = record {
+      let here : FirstToldOf reading bs w.tree after numbers cycle removable clauses = record {
         found = t;
         numbers_are = f;
         cycle_is = x;
@@ -131,5 +130,5 @@ module _ (bs work : List ℕ) {r : Reading} (a : ReadAs (read_lent bs work) (Ok 
         refusal = λ k z. absurd (let y = w.is in let u : ◌≡◌ {A = ℕ} 0 1 = cc in omega arith);
         sheet = λ s z.
             let same : w.tree ≡ s = let y = w.is in cc in
-            subst (λ x. FirstToldOf (reading past) bs x after numbers cycle removable clauses) same here;
+            subst (λ x. FirstToldOf reading bs x after numbers cycle removable clauses) same here;
       }

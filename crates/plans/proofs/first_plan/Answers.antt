@@ -29,5 +29,5 @@ pub returns-in-Ok-clause-first_told : goal.returns-in-Ok-clause-first_told
 returns-in-Ok-clause-first_told c =
     let t = c.tell-t.ensures in
     let x = c.choice_in-choice.ensures in
-    first_sheet _ _ c.in-Ok.ensures.read_as c.preserved_end-to.ensures (rw c.rules_end-end.ensures at c.decide_first-found.ensures)
+    first_sheet _ _ c.in-Ok.ensures.read_as c.preserved_end-to.ensures (rw (c.rules_end-end.ensures, c.reading_of.ensures) at c.decide_first-found.ensures)
     (rw x at t.0) c.members_in.ensures (rw x at t.1) refl (rw x at c.leave.ensures)

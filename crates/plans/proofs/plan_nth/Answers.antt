@@ -27,4 +27,4 @@ invariant_of-preserved c =
 pub returns-in-Ok-clause-nth_told : goal.returns-in-Ok-clause-nth_told
 returns-in-Ok-clause-nth_told c =
     let t = c.tell-t.ensures in
-    nth_sheet _ _ c.in-Ok.ensures.read_as c.preserved_end-to.ensures (rw c.rules_end-end.ensures at c.decide_nth-decided.ensures) t.0 t.1 c.leave.ensures
+    nth_sheet _ _ c.in-Ok.ensures.read_as c.preserved_end-to.ensures (rw (c.rules_end-end.ensures, c.reading_of.ensures) at c.decide_nth-decided.ensures) t.0 t.1 c.leave.ensures

@@ -4,7 +4,7 @@ use mathlib.Core.Path.{◌≡◌, refl, sym, ap, ap₂, ◌∙◌, subst}
 use mathlib.Core.List.{List, [], ◌∷◌, map, Memᴰ}
 use mathlib.Core.Bool.{Bool, true, false, not}
 use native.Mathlib.Omega.{arith}
-use lib.ListN.{length, get_or, set, length-set, length-map}
+use lib.ListN.{length, get_or, set, length-map}
 use lib.Seq.{get_or-set_same, get_or-set_other}
 use lib.Dec.{eqb}
 use borrow.Author.Tests.{eqb-true, eqb-false, ne_eqb}
@@ -21,7 +21,6 @@ use Rattle.reference.specs.Plan.{satellite_is_inlinable}
 use Rattle.records.specs.declared.rules.Rules.{Rules}
 use Rattle.reach.specs.Rows.{bit, RowOf}
 use Rattle.reach.proofs.Laws.Graph.{at_in}
-use Rattle.analysis.specs.Survey.{reading}
 use Rattle.analysis.specs.Facts.{Standing, Among, SurveyOf, stopping, RowsBy}
 use Rattle.analysis.specs.declared.rounds.Marks.{Marks}
 use Rattle.analysis.proofs.Laws.Standing.{among, few, all_rules, id_at, key_at, rule_spans}
@@ -86,9 +85,10 @@ module _ {ws : List ℕ} {end : ℕ} {rules : Rules} (s : Standing ws end rules)
   by_ids {xs = xs} e r =
       row_of (λ j l. row_bit r (omega arith) ∙ ap (λ i. member i xs) (sym (same_ids j (omega arith)))) (λ j l. row_none r j (omega arith))
 
-module _ {ws : List ℕ} {end : ℕ} {rules : Rules} {n hub : ℕ} {row : List ℕ} {past : Bool} {calls corners : List (List ℕ)} {marks : Marks}
-    {kept : List ℕ} (x : Renewable ws end rules n hub row past calls corners marks kept) {cs ks : List (List ℕ)} {m : Renewed}
-    (l : RulesLess calls corners (record { found = record { marks = marks; kept = kept }; hub = hub }) cs ks m row n)
+module _ {ws : List ℕ} {end : ℕ} {rules : Rules} {n hub : ℕ} {row : List ℕ} {reading : Corners}
+    {calls corners : List (List ℕ)} {marks : Marks} {kept : List ℕ}
+    (x : Renewable ws end rules n hub row reading calls corners marks kept) {cs ks : List (List ℕ)} {m : Renewed}
+    (l : RulesLess calls corners (record { ground = record { marks = marks; kept = kept }; hub = hub }) cs ks m row n)
   where
     abbrev s₀ : Standing x.words₀ x.end₀ x.rules₀
     s₀ = x.known.known.standing
@@ -108,7 +108,7 @@ module _ {ws : List ℕ} {end : ℕ} {rules : Rules} {n hub : ℕ} {row : List �
     abbrev renewed : Rule → Rule
     renewed = with_body inner_depth hub_id x.stays.body
 
-    fewer : Fewer calls corners (record { found = record { marks = marks; kept = kept }; hub = hub }) cs ks m old left x.gone
+    fewer : Fewer calls corners (record { ground = record { marks = marks; kept = kept }; hub = hub }) cs ks m old left x.gone
     fewer = l.is old x.gone (sym (x.count ∙ all_rules s₀.rows)) (by_rules s₀ (all_rules s₀.rows) x.gone_row)
 
     trees : new ≡ map renewed left
@@ -161,7 +161,7 @@ module _ {ws : List ℕ} {end : ℕ} {rules : Rules} {n hub : ℕ} {row : List �
           (as_new (subst (λ ys. HasRow left ys (get_or rows i [])) (ap give e ∙ sym (stays a.rule (is_among a))) (h.at i b)))
 
     -- Which rules are nullable does not change.
-    nulls : HasRow new (nullable_rules body_depth new) m.found.marks.nullable
+    nulls : HasRow new (nullable_rules body_depth new) m.ground.marks.nullable
     nulls =
         let h = as_new (fewer.nullable (nullable_rules body_depth old) (by_rules s₀ refl x.known.known.facts.nullable)) in
         row_of
@@ -172,16 +172,17 @@ module _ {ws : List ℕ} {end : ℕ} {rules : Rules} {n hub : ℕ} {row : List �
         ∙ rw (in_member (at_in 0 (ids_of new) j (let z = length-map new (λ t. t.id) in omega arith))) refl))
         (row_none h)
 
-    module _ {cs' ks' : List (List ℕ)} {st : List ℕ} (v : HubSurveyed ws end rules m.hub past m.found.marks.nullable cs ks m.found.marks.stops cs' ks' st)
+    module _ {cs' ks' : List (List ℕ)} {st : List ℕ} (v : HubSurveyed ws end rules m.hub reading m.ground.marks.nullable cs ks
+        m.ground.marks.stops cs' ks' st)
       where
         abbrev grammar : Grammar
         grammar = record { names = names_of new; nullable = nullable_rules body_depth new }
 
-        own : {i : ℕ} (a : Among new i) → i ≡ m.hub → SurveyOf (reading past) grammar rules.ids (length new) a.rule v.survey
+        own : {i : ℕ} (a : Among new i) → i ≡ m.hub → SurveyOf reading grammar rules.ids (length new) a.rule v.survey
         own {i} a e =
             let z = rule_spans x.standing.rows a in
-            subst (λ k. SurveyOf (reading past) grammar rules.ids k a.rule v.survey) (all_rules x.standing.rows)
-            (v.surveyed.by grammar rules.ids (agrees x.standing (by_ids x.standing (all_rules x.standing.rows) nulls) past)
+            subst (λ k. SurveyOf reading grammar rules.ids k a.rule v.survey) (all_rules x.standing.rows)
+            (v.surveyed.by grammar rules.ids (agrees x.standing (by_ids x.standing (all_rules x.standing.rows) nulls) reading)
             a.rule z.0 (rw (← e) z.1))
 
         -- A row for each rule: the hub's is new.
@@ -206,7 +207,7 @@ module _ {ws : List ℕ} {end : ℕ} {rules : Rules} {n hub : ℕ} {row : List �
         abbrev test : Rule → Bool
         test t = not (satellite_is_inlinable inner_depth t)
 
-        was_stopping : {i : ℕ} (b : Among left i) → bit m.found.marks.stops i ≡ test b.rule
+        was_stopping : {i : ℕ} (b : Among left i) → bit m.ground.marks.stops i ≡ test b.rule
         unfolding stopping
         was_stopping b =
             let (j, a, e) = in_among (in_keep (λ r. not (member r.id x.gone)) old (is_among b)).0 in
@@ -223,7 +224,7 @@ module _ {ws : List ℕ} {end : ℕ} {rules : Rules} {n hub : ℕ} {row : List �
             let (b, e) = other a z in
             v.stops.other i z ∙ was_stopping b ∙ ap test e)
 
-        stop_row : RowOf rules.ids (length new) (stopping (reading past) new rules.ids) st
+        stop_row : RowOf rules.ids (length new) (stopping reading new rules.ids) st
         unfolding stopping
         stop_row =
             let h = as_new (fewer.stops (ids_of (keep test old)) (by_rules s₀ refl x.known.known.facts.stops)) in
@@ -235,7 +236,7 @@ module _ {ws : List ℕ} {end : ℕ} {rules : Rules} {n hub : ℕ} {row : List �
             (λ j k.
             v.stops.other j (λ e. let b = hub_inside in let c = all_rules x.standing.rows in omega arith) ∙ row_none h j k))
 
-        row_facts : RowsBy (reading past) new rules.ids (nullable_rules body_depth new) cs' ks'
+        row_facts : RowsBy reading new rules.ids (nullable_rules body_depth new) cs' ks'
         unfolding grammar_of
         row_facts =
             let before = grammar_of body_depth old in
@@ -246,13 +247,14 @@ module _ {ws : List ℕ} {end : ℕ} {rules : Rules} {n hub : ℕ} {row : List �
                   other_row (called before) (called grammar) x.stays.calls
                   (fewer.calls (called before) (record { at = λ j b. by_rules s₀ refl (x.known.known.facts.rows.call_rows j b) })) a d);
               corner_rows =
-                  with_own (cornered (reading past) grammar) ks v.survey.corners v.corners l.corners_long (λ i a e. (own a e).corners)
+                  with_own (cornered reading grammar) ks v.survey.corners v.corners l.corners_long (λ i a e. (own a e).corners)
                   (λ i a d.
-                  other_row (cornered (reading past) before) (cornered (reading past) grammar) (x.stays.corners (reading past))
-                  (fewer.corners (cornered (reading past) before) (record { at = λ j b. by_rules s₀ refl (x.known.known.facts.rows.corner_rows j b) })) a d);
+                  other_row (cornered reading before) (cornered reading grammar) (x.stays.corners reading)
+                  (fewer.corners (cornered reading before) (record { at = λ j b. by_rules s₀ refl (x.known.known.facts.rows.corner_rows j b) }))
+                  a d);
             }
 
-        known_now : RulesKnown ws end rules past cs' ks' (record { nullable = m.found.marks.nullable; stops = st }) m.found.kept
+        known_now : RulesKnown ws end rules reading cs' ks' (record { nullable = m.ground.marks.nullable; stops = st }) m.ground.kept
         known_now =
             record {
               known = record {
@@ -266,34 +268,29 @@ module _ {ws : List ℕ} {end : ℕ} {rules : Rules} {n hub : ℕ} {row : List �
                   (as_new (fewer.kept x.known.preserved (by_rules s₀ (all_rules s₀.rows) x.known.keeps)));
             }
 
-        now : RenewedAs ws end rules n hub row past calls corners marks kept x cs' ks'
-            (record { found = record { marks = record { nullable = m.found.marks.nullable; stops = st }; kept = m.found.kept }; hub = m.hub })
+        now : RenewedAs ws end rules n hub row reading calls corners marks kept x cs' ks'
+            (record {
+              ground = record { marks = record { nullable = m.ground.marks.nullable; stops = st }; kept = m.ground.kept };
+              hub = m.hub;
+            })
         unfolding known_now
         now = record { known = known_now; standing = refl; preserved = refl; inside = hub_inside; same = hub_id_lem }
 
-module _ {ws : List ℕ} {end : ℕ} {rules : Rules} {n hub : ℕ} {row : List ℕ} {past : Bool} {calls corners : List (List ℕ)} {marks : Marks}
-    {kept : List ℕ} {cs ks : List (List ℕ)} {m : Renewed}
-    (l : RulesLess calls corners (record { found = record { marks = marks; kept = kept }; hub = hub }) cs ks m row n)
+module _ {ws : List ℕ} {end : ℕ} {rules : Rules} {n hub : ℕ} {row : List ℕ} {reading : Corners}
+    {calls corners : List (List ℕ)} {marks : Marks} {kept : List ℕ} {cs ks : List (List ℕ)} {m : Renewed}
+    (l : RulesLess calls corners (record { ground = record { marks = marks; kept = kept }; hub = hub }) cs ks m row n)
   where
-    pub hub_low : Renewable ws end rules n hub row past calls corners marks kept → m.hub < rules.n
+    pub hub_low : Renewable ws end rules n hub row reading calls corners marks kept → m.hub < rules.n
     hub_low x = hub_inside x l
 
     pub renewed_of : {cs' ks' : List (List ℕ)} {known : Marks}
-        → HubSurveyed ws end rules m.hub past m.found.marks.nullable cs ks m.found.marks.stops cs' ks' known.stops
-        → known.nullable ≡ m.found.marks.nullable
-        → RenewedOf ws end rules n hub row past calls corners marks kept cs' ks'
-        (record { found = record { marks = known; kept = m.found.kept }; hub = m.hub })
+        → HubSurveyed ws end rules m.hub reading m.ground.marks.nullable cs ks m.ground.marks.stops cs' ks' known.stops
+        → known.nullable ≡ m.ground.marks.nullable
+        → RenewedOf ws end rules n hub row reading calls corners marks kept cs' ks'
+        (record { ground = record { marks = known; kept = m.ground.kept }; hub = m.hub })
     renewed_of {cs'} {ks'} {known} v e =
         subst
         (λ null.
-        RenewedOf ws end rules n hub row past calls corners marks kept cs' ks'
-        (record { found = record { marks = record { nullable = null; stops = known.stops }; kept = m.found.kept }; hub = m.hub }))
+        RenewedOf ws end rules n hub row reading calls corners marks kept cs' ks'
+        (record { ground = record { marks = record { nullable = null; stops = known.stops }; kept = m.ground.kept }; hub = m.hub }))
         (sym e) (record { is = λ x. now x l v })
-
-    pub calls_long_lem : {cs' ks' : List (List ℕ)} {st : List ℕ} → HubSurveyed ws end rules m.hub past m.found.marks.nullable cs ks m.found.marks.stops cs' ks' st
-        → length cs' ≡ rule_limit
-    calls_long_lem v = ap length v.calls ∙ length-set cs m.hub v.survey.calls ∙ l.calls_long
-
-    pub corners_long_lem : {cs' ks' : List (List ℕ)} {st : List ℕ}
-        → HubSurveyed ws end rules m.hub past m.found.marks.nullable cs ks m.found.marks.stops cs' ks' st → length ks' ≡ rule_limit
-    corners_long_lem v = ap length v.corners ∙ length-set ks m.hub v.survey.corners ∙ l.corners_long

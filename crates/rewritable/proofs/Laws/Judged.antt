@@ -19,7 +19,7 @@ use Rattle.reference.specs.Analysis.{Grammar, target, left_corners, element_null
 use Rattle.reference.specs.Plan.{hub_call, is_hub_call, gives_hub_arguments, starts_with_hub_call, is_recursive, is_primary, is_fit}
 use Rattle.reach.specs.Rows.{holds, Meet, Empty}
 use Rattle.analysis.specs.Names.{is_named}
-use Rattle.analysis.specs.Survey.{View, reading}
+use Rattle.analysis.specs.Survey.{View}
 use Rattle.analysis.specs.Facts.{Agrees}
 use Rattle.rewritable.specs.Items.{call_of, is_call_of, gives_arguments, starts_with_call, may_be_rewritten}
 use Rattle.rewritable.specs.Walks.{Agreeing, WalkOf}
@@ -88,13 +88,13 @@ module _ {g : Grammar} {ids : List ℕ} {v : View} (w : Agrees g ids v) {hub : �
 -- One alternative.
 module _ (v : View) (hub d : ℕ) (es : List (Element (Block d))) (w : Agreeing v) (cycle : List ℕ) where
   abbrev primary : Bool
-  primary = is_primary (reading v.past) w.grammar cycle (get_or w.ids hub 0) d es
+  primary = is_primary v.reading w.grammar cycle (get_or w.ids hub 0) d es
 
   abbrev recursive : Bool
   recursive = is_recursive w.grammar (get_or w.ids hub 0) d es
 
   abbrev fit : Bool
-  fit = is_fit (reading v.past) w.grammar cycle (get_or w.ids hub 0) d es
+  fit = is_fit v.reading w.grammar cycle (get_or w.ids hub 0) d es
 
 -- It is fit, or it is not.
 module _ {c : Corners} {g : Grammar} {ids : List ℕ} {n : ℕ} {cycle : List ℕ} {hub d : ℕ} {es : List (Element (Block d))} where
@@ -140,7 +140,7 @@ module _ (v : View) {hub : ℕ} (low : hub < v.n) (d : ℕ) (es : List (Element 
           by = λ w cycle r.
               let s = starts w cycle ∙ t in
               let p : primary v hub d es w cycle ≡ false =
-              ap (λ b. not (b || meet (left_corners (reading v.past) w.grammar d es) cycle)) s in
+              ap (λ b. not (b || meet (left_corners v.reading w.grammar d es) cycle)) s in
               let q : recursive v hub d es w cycle ≡ b =
               ap (λ b. b && not (all (element_nullable w.grammar (block_is_nullable w.grammar d)) (drop 1 es))) s
               ∙ ap not (sym (walked.tail w)) ∙ sym y in
@@ -160,8 +160,8 @@ module _ (v : View) {hub : ℕ} (low : hub < v.n) (d : ℕ) (es : List (Element 
           by = λ w cycle r.
               let s = starts w cycle ∙ n in
               let p : primary v hub d es w cycle ≡ b =
-              ap (λ b. not (b || meet (left_corners (reading v.past) w.grammar d es) cycle)) s
-              ∙ sym (corners_apart w.agrees (reading v.past) d es (walked.corners w) r y z) ∙ sym i in
+              ap (λ b. not (b || meet (left_corners v.reading w.grammar d es) cycle)) s
+              ∙ sym (corners_apart w.agrees v.reading d es (walked.corners w) r y z) ∙ sym i in
               let q : recursive v hub d es w cycle ≡ false =
               ap (λ b. b && not (all (element_nullable w.grammar (block_is_nullable w.grammar d)) (drop 1 es))) s in
               let f : fit v hub d es w cycle ≡ b = fits w cycle ∙ ap₂ ◌||◌ p q ∙ or-false b in

@@ -11,7 +11,7 @@ use Rattle.grammar.specs.Fold.{folded, element_fold, block_fold}
 use Rattle.reference.specs.Walks.{elements_give}
 use Rattle.reference.specs.Analysis.{Grammar, collect_calls_in_elements, collect_calls_into, element_nullable, block_is_nullable, left_corners}
 use Rattle.reference.specs.Plan.{satellite_has_embedded_semantics}
-use Rattle.analysis.specs.Survey.{View, Seen, reading, surveying}
+use Rattle.analysis.specs.Survey.{View, Seen, surveying}
 use Rattle.analysis.specs.Facts.{Agrees}
 use Rattle.analysis.proofs.Laws.Meant.{elements_add, elements_null, block_means}
 use Rattle.reach.specs.Rows.{holds}
@@ -26,7 +26,7 @@ module _ {g : Grammar} {ids : List ℕ} {v : View} (w : Agrees g ids v) (d : ℕ
   abbrev past : Seen
   past = folded (element_fold (surveying v) (block_fold (surveying v) d)) s es
 
-  pub past_adds : Adds ids v.n s past (collect_calls_in_elements g d es) (left_corners (reading v.past) g d es)
+  pub past_adds : Adds ids v.n s past (collect_calls_in_elements g d es) (left_corners v.reading g d es)
   unfolding collect_calls_in_elements elements_give collect_calls_into left_corners satellite_has_embedded_semantics
   past_adds =
       let x = elements_add w (block_ids action_sort d) (block_ids predicate_sort d) (block_means w d) s es in

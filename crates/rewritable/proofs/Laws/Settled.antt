@@ -15,7 +15,7 @@ use Rattle.reference.specs.Substitute.{Planned}
 use Rattle.reference.specs.Plan.{is_primary, is_recursive, is_fit, planned_hub_is_directly_rewritable}
 use Rattle.reach.specs.Rows.{bit, holds, RowOf, Union}
 use Rattle.reach.proofs.Laws.Rows.{no_bits}
-use Rattle.analysis.specs.Survey.{View, reading}
+use Rattle.analysis.specs.Survey.{View}
 use Rattle.planned.specs.Layout.{meaning, settled, records_from}
 use Rattle.planned.specs.List.{ListedIn, AllIn}
 use Rattle.planned.specs.Reading.{settled_from, OnTrack, AtFront, ReadNext}
@@ -136,7 +136,7 @@ module _ (v : View) (members : List ℕ) (hub : ℕ) (ws : List ℕ) (end d : �
     pub on : OnTrack bs l c
     pub listed : AllIn ws end d bs l
     pub by : (w : Agreeing v) (cycle : List ℕ) → RowOf w.ids v.n cycle members
-        → Left (reading v.past) w.grammar w.ids v.n cycle (get_or w.ids hub 0) d (settled ws end d bs l)
+        → Left v.reading w.grammar w.ids v.n cycle (get_or w.ids hub 0) d (settled ws end d bs l)
         (settled_from ws end d bs l c) primary recursive row
 
   pub judge_none : AllIn ws end d bs l → {c : Cursor} → AtFront c → Judging 0 c false false (replicate 2 0)
@@ -150,10 +150,10 @@ module _ (v : View) (members : List ℕ) (hub : ℕ) (ws : List ℕ) (end d : �
         by = λ w cycle r.
             subst
             (λ ps.
-            Left (reading v.past) w.grammar w.ids v.n cycle (get_or w.ids hub 0) d (settled ws end d bs l) ps false false
+            Left v.reading w.grammar w.ids v.n cycle (get_or w.ids hub 0) d (settled ws end d bs l) ps false false
             (replicate 2 0))
             (sym (f.all ws end d bs l))
-            (left_all (reading v.past) w.grammar w.ids v.n cycle (get_or w.ids hub 0) d (settled ws end d bs l));
+            (left_all v.reading w.grammar w.ids v.n cycle (get_or w.ids hub 0) d (settled ws end d bs l));
       }
 
   module _ {k : ℕ} {c : Cursor} {primary recursive : Bool} {row : List ℕ} (g : Judging k c primary recursive row) where

@@ -2,15 +2,14 @@
 use Prim.Native.Nat.{ℕ}
 use mathlib.Core.Path.{◌≡◌, sym, subst}
 use mathlib.Core.List.{List}
-use mathlib.Core.Bool.{Bool}
 use lib.ListN.{length, get_or}
 use Rattle.std.specs.declared.option.Option.{Option}
 use Rattle.grammar.specs.Tree.{inner_depth}
+use Rattle.grammar.specs.Corners.{Corners}
 use Rattle.reference.specs.Analysis.{Grammar, names_of}
 use Rattle.records.specs.declared.rules.Rules.{Rules}
 use Rattle.reach.specs.Rows.{RowOf}
 use Rattle.analysis.specs.Names.{Tabled}
-use Rattle.analysis.specs.Survey.{reading}
 use Rattle.analysis.specs.Facts.{Agrees, Standing}
 use Rattle.analysis.proofs.Laws.Agree.{agrees}
 use Rattle.analysis.proofs.Laws.Standing.{told}
@@ -25,32 +24,32 @@ no_table {rules = rules} s e table none =
     subst (λ n. Tabled rules.names n table) (sym e)
     (record { told = told s; room = λ some. absurd (some none) })
 
-module _ {ws : List ℕ} {end : ℕ} {rules : Rules} {n : ℕ} (e : n ≡ rules.n) {nullable : List ℕ} {past : Bool} where
+module _ {ws : List ℕ} {end : ℕ} {rules : Rules} {n : ℕ} (e : n ≡ rules.n) {nullable : List ℕ} {reading : Corners} where
   known_by : (s : Standing ws end rules) (g : Grammar) → g.names ≡ names_of s.rows.found.trees
       → RowOf rules.ids rules.n g.nullable nullable
-      → Agrees g rules.ids (record { names = rules.names; n = n; nullable = nullable; past = past })
+      → Agrees g rules.ids (record { names = rules.names; n = n; nullable = nullable; reading = reading })
   known_by s g names row =
       subst
       (λ ns.
       Agrees (record { names = ns; nullable = g.nullable }) rules.ids
-      (record { names = rules.names; n = n; nullable = nullable; past = past }))
+      (record { names = rules.names; n = n; nullable = nullable; reading = reading }))
       (sym names)
       (subst
       (λ n.
       Agrees (record { names = names_of s.rows.found.trees; nullable = g.nullable }) rules.ids
-      (record { names = rules.names; n = n; nullable = nullable; past = past }))
-      (sym e) (agrees s row past))
+      (record { names = rules.names; n = n; nullable = nullable; reading = reading }))
+      (sym e) (agrees s row reading))
 
   pub judged_found : {members : List ℕ} {hub : ℕ} {bs : List ℕ} {l : Sizes} {r : Option (List ℕ)}
-      → JudgedOf (record { names = rules.names; n = n; nullable = nullable; past = past }) members hub inner_depth
+      → JudgedOf (record { names = rules.names; n = n; nullable = nullable; reading = reading }) members hub inner_depth
       (settled ws end inner_depth bs l) r
-      → JudgedFound ws end rules nullable past members hub bs l r
+      → JudgedFound ws end rules nullable reading members hub bs l r
   judged_found {members} {hub} {bs} {l} {r} j =
       record {
         is = λ s g cycle names row cycles.
             subst
             (λ n.
-            AreJudged (reading past) g rules.ids n cycle (get_or rules.ids hub 0) inner_depth
+            AreJudged reading g rules.ids n cycle (get_or rules.ids hub 0) inner_depth
             (settled ws end inner_depth bs l) r)
             e
             (j.by

@@ -15,7 +15,7 @@ use Rattle.grammar.specs.Laws.Opened.{Opened, opened_leaf, opened_block, opened}
 use Rattle.reference.specs.Substitute.{plain}
 use Rattle.reference.specs.Analysis.{collect_calls_in_elements, left_corners, element_nullable, block_is_nullable}
 use Rattle.reach.specs.Rows.{holds}
-use Rattle.analysis.specs.Survey.{View, Seen, seen_of, turned, into, unseen, reading, surveying, LeafSeen}
+use Rattle.analysis.specs.Survey.{View, Seen, seen_of, turned, into, unseen, surveying, LeafSeen}
 use Rattle.analysis.specs.declared.leaf.Seen.{Seen as Held}
 use Rattle.planned.specs.Layout.{made_if}
 use Rattle.planned.specs.Shown.{meant, ItemOf}
@@ -101,7 +101,7 @@ module _ (v : View) (a : Shown) where
   no_calls es w e j = ap (λ s. s.calls j) e ∙ (past_adds w.agrees d front es).calls j
 
   no_corners : (es : List (Element (Block d))) (w : Agreeing v) {r : Seen} → r ≡ folded (past_element v d) front es → (j : ℕ)
-      → r.corners j ≡ holds w.ids v.n (left_corners (reading v.past) w.grammar d es) j
+      → r.corners j ≡ holds w.ids v.n (left_corners v.reading w.grammar d es) j
   no_corners es w e j = ap (λ s. s.corners j) e ∙ (past_adds w.agrees d front es).corners j
 
   module _ (b : Held) (begin : seen_of b ≡ front) where

@@ -2,18 +2,18 @@
 use Prim.Native.Nat.{ℕ, ◌+◌, ◌≤◌}
 use mathlib.Core.Path.{◌≡◌, sym, subst}
 use mathlib.Core.List.{List}
-use mathlib.Core.Bool.{Bool, true}
+use mathlib.Core.Bool.{true}
 use native.Mathlib.Omega.{arith}
 use Rattle.grammar.specs.Numbers.{trailer_words, most_words, rule_limit}
 use Rattle.reference.specs.Numbers.{most_entries}
 use Rattle.grammar.specs.Tree.{Sheet}
 use Rattle.grammar.specs.Words.{words}
 use Rattle.grammar.specs.Valid.{valid}
+use Rattle.grammar.specs.Corners.{Corners}
 use Rattle.reference.specs.Substitute as R
 use Rattle.reference.specs.Run.{no_plan, too_large, find_plan}
 use Rattle.laws.specs.Running.Midway.{SoFar, midway_so_far, midway_next}
 use Rattle.words.specs.Room.{Room}
-use Rattle.analysis.specs.Survey.{reading}
 use Rattle.turns.specs.Midway.{limits_of}
 use Rattle.turns.specs.declared.limits.Limits.{Limits}
 use Rattle.plan.specs.declared.plan.Plan.{Plan}
@@ -31,10 +31,10 @@ use Rattle.run.specs.Ended.{Short}
 use Rattle.run.specs.Midst.{Midst}
 use Rattle.run.specs.Turn.{ended_with, Advancing}
 
-module _ {limits : R.Limits} {past : Bool} {s : Sheet} {result trail : List ℕ} {calls corners : List (List ℕ)} {st : State}
-    (m : Midst limits past s result trail calls corners st) where
-  pub so_far : SoFar limits (reading past) s m.stages m.now
-  so_far = midway_so_far limits (reading past) s m.midway
+module _ {limits : R.Limits} {reading : Corners} {s : Sheet} {result trail : List ℕ} {calls corners : List (List ℕ)} {st : State}
+    (m : Midst limits reading s result trail calls corners st) where
+  pub so_far : SoFar limits reading s m.stages m.now
+  so_far = midway_so_far limits reading s m.midway
 
   pub now_valid : valid m.now ≡ true
   now_valid = so_far.reads_back.is_valid
@@ -51,7 +51,7 @@ module _ {limits : R.Limits} {past : Bool} {s : Sheet} {result trail : List ℕ}
   pub midst_small : st.at.end ≤ most_words
   midst_small = let u = m.held.up_to in let l = midst_short in omega arith
 
-  unfoldable pub midst_known : RulesKnown (words result) st.at.end st.at.rules past calls corners st.found.marks st.found.kept
+  unfoldable pub midst_known : RulesKnown (words result) st.at.end st.at.rules reading calls corners st.ground.marks st.ground.kept
   unfolding held_standing
   midst_known =
       record {
@@ -60,18 +60,18 @@ module _ {limits : R.Limits} {past : Bool} {s : Sheet} {result trail : List ℕ}
         keeps = m.keeps;
       }
 
-module _ {lim : Limits} {past : Bool} {s : Sheet} {result trail : List ℕ} {calls corners : List (List ℕ)} {st : State}
-    (m : Midst (limits_of lim) past s result trail calls corners st) {bs : List ℕ} {r : Found}
-    (o : FoundOf (words result) st.at.end st.at.rules past calls corners st.found.marks st.found.kept lim bs r) where
+module _ {lim : Limits} {reading : Corners} {s : Sheet} {result trail : List ℕ} {calls corners : List (List ℕ)} {st : State}
+    (m : Midst (limits_of lim) reading s result trail calls corners st) {bs : List ℕ} {r : Found}
+    (o : FoundOf (words result) st.at.end st.at.rules reading calls corners st.ground.marks st.ground.kept lim bs r) where
   pub answer_at : {a : Result (Option FoundPlan) Refusal} → r.answer ≡ a → AnswerIs (midst_known m) lim bs r.declined a
   answer_at e = subst (λ a. AnswerIs (midst_known m) lim bs r.declined a) e (o.is (midst_known m)).answer
 
-  pub found_none : r.answer ≡ Ok None → find_plan (limits_of lim) (reading past) s.preserved m.now.rules ≡ no_plan
+  pub found_none : r.answer ≡ Ok None → find_plan (limits_of lim) reading s.preserved m.now.rules ≡ no_plan
   unfolding midst_known held_standing
   found_none e = (answer_at e).is
 
   module _ {f : Refusal} (e : r.answer ≡ Err f) where
-    pub found_large : find_plan (limits_of lim) (reading past) s.preserved m.now.rules ≡ too_large
+    pub found_large : find_plan (limits_of lim) reading s.preserved m.now.rules ≡ too_large
     unfolding midst_known held_standing
     found_large = (answer_at e).is
 
@@ -79,7 +79,7 @@ module _ {lim : Limits} {past : Bool} {s : Sheet} {result trail : List ℕ} {cal
     found_refusal = (answer_at e).refusal
 
   unfoldable pub found_planned : {f : FoundPlan} {p : Plan} → r.answer ≡ Ok (Some f) → p ≡ f.plan
-      → Advancing (limits_of lim) past result trail bs calls corners st p
+      → Advancing (limits_of lim) reading result trail bs calls corners st p
   unfolding midst_known held_standing
   found_planned {f} {p} e g =
       let a = answer_at e in
@@ -93,10 +93,10 @@ module _ {lim : Limits} {past : Bool} {s : Sheet} {result trail : List ℕ} {cal
       }
 
 -- The plan may be applied.
-unfoldable pub advancing_applicable : {limits : R.Limits} {past : Bool} {result trail work : List ℕ}
-    {calls corners : List (List ℕ)} {st : State} {p : Plan} → (x : Advancing limits past result trail work calls corners st p)
+unfoldable pub advancing_applicable : {limits : R.Limits} {reading : Corners} {result trail work : List ℕ}
+    {calls corners : List (List ℕ)} {st : State} {p : Plan} → (x : Advancing limits reading result trail work calls corners st p)
     → Applicable result work st.at.end st.at.to st.at.rules p
-advancing_applicable {limits} {past} x =
+advancing_applicable {limits} {reading} x =
     record {
       sheet = x.midst.now;
       is_valid = now_valid x.midst;
@@ -105,15 +105,15 @@ advancing_applicable {limits} {past} x =
       rows = x.midst.rows;
       plan = x.plan;
       same = x.same;
-      hub_stays = (midway_next limits (reading past) x.sheet x.midst.midway x.found).hub_stays;
+      hub_stays = (midway_next limits reading x.sheet x.midst.midway x.found).hub_stays;
     }
 
-pub advancing_entries : {limits : R.Limits} {past : Bool} {result trail work : List ℕ}
-    {calls corners : List (List ℕ)} {st : State} {p : Plan} → Advancing limits past result trail work calls corners st p
+pub advancing_entries : {limits : R.Limits} {reading : Corners} {result trail work : List ℕ}
+    {calls corners : List (List ℕ)} {st : State} {p : Plan} → Advancing limits reading result trail work calls corners st p
     → st.at.entries ≤ most_entries
 advancing_entries x = let e = x.midst.entries in let l = (so_far x.midst).entries in omega arith
 
-pub advancing_rules : {limits : R.Limits} {past : Bool} {result trail work : List ℕ}
-    {calls corners : List (List ℕ)} {st : State} {p : Plan} → Advancing limits past result trail work calls corners st p
+pub advancing_rules : {limits : R.Limits} {reading : Corners} {result trail work : List ℕ}
+    {calls corners : List (List ℕ)} {st : State} {p : Plan} → Advancing limits reading result trail work calls corners st p
     → st.at.rules.n ≤ rule_limit
 advancing_rules x = let e = x.midst.rows.count in let l = (so_far x.midst).rules in omega arith

@@ -3,11 +3,11 @@ use Rattle.std.specs.Prelude.{Some, None, Ok, Err}
 use Prim.Native.Nat.{ℕ, suc, ◌-◌, ◌<◌}
 use mathlib.Core.Path.{◌≡◌, refl, sym, subst}
 use mathlib.Core.List.{List}
-use mathlib.Core.Bool.{Bool}
 use native.Mathlib.Omega.{arith}
 use lib.ListN.{length}
 use Rattle.grammar.specs.Numbers.{most_words}
 use Rattle.grammar.specs.Words.{words}
+use Rattle.grammar.specs.Corners.{Corners}
 use Rattle.writing.specs.declared.counters.Counters.{Counters}
 use Rattle.records.specs.declared.rules.Rules.{Rules}
 use Rattle.analysis.specs.Facts.{FactsFound}
@@ -33,35 +33,35 @@ buffers_same b i j k =
     let w = b.for_work in
     record { for_result = omega arith; for_trail = omega arith; for_work = omega arith }
 
-module _ (lim : Limits) (past : Bool) (room : ℕ) (result₀ : List ℕ) (end to : ℕ) (rules : Rules) (counters : Counters)
+module _ (lim : Limits) (reading : Corners) (room : ℕ) (result₀ : List ℕ) (end to : ℕ) (rules : Rules) (counters : Counters)
     (result trail work : List ℕ) (calls corners : List (List ℕ)) (st : State) where
   pub record Looping : Type 0 where
     pub lent : Buffers result trail work
     pub small : Small lim
     pub most : room ≡ most_words
     pub begun : Begun result₀ end to rules counters
-    pub going : Going (limits_of lim) past result trail calls corners st
-    pub onward : Onward (limits_of lim) past result₀ end to rules counters result trail calls corners st
+    pub going : Going (limits_of lim) reading result trail calls corners st
+    pub onward : Onward (limits_of lim) reading result₀ end to rules counters result trail calls corners st
 
 -- The trail has no entries yet, and the work area is as long as it was lent.
-pub looping_start : {lim : Limits} {past : Bool} {room : ℕ} {result₀ trail work work₀ : List ℕ} {at : Applied} {calls corners : List (List ℕ)}
-    {found : Ground} {st : State} → Buffers result₀ trail work₀ → Small lim → room ≡ most_words → at.entries ≡ 0
-    → Begun result₀ at.end at.to at.rules at.counters → FactsFound (words result₀) at.end at.rules past calls corners found.marks
-    → KeptOf (words (bytes_between result₀ at.end at.to)) at.rules found.kept → length work ≡ length work₀ → st ≡ at_start at found
-    → Looping lim past room result₀ at.end at.to at.rules at.counters result₀ trail work calls corners st
-looping_start {lim} {past} {room} {result₀} {trail} {work} {work₀} {at} {calls} {corners} b s m z x g k w e =
+pub looping_start : {lim : Limits} {reading : Corners} {room : ℕ} {result₀ trail work work₀ : List ℕ} {at : Applied} {calls corners : List (List ℕ)}
+    {ground : Ground} {st : State} → Buffers result₀ trail work₀ → Small lim → room ≡ most_words → at.entries ≡ 0
+    → Begun result₀ at.end at.to at.rules at.counters → FactsFound (words result₀) at.end at.rules reading calls corners ground.marks
+    → KeptOf (words (bytes_between result₀ at.end at.to)) at.rules ground.kept → length work ≡ length work₀ → st ≡ at_start at ground
+    → Looping lim reading room result₀ at.end at.to at.rules at.counters result₀ trail work calls corners st
+looping_start {lim} {reading} {room} {result₀} {trail} {work} {work₀} {at} {calls} {corners} b s m z x g k w e =
     let o = onward_begin (limits_of lim) z g k trail in
-    subst (λ y. Looping lim past room result₀ at.end at.to at.rules at.counters result₀ trail work calls corners y) (sym e)
+    subst (λ y. Looping lim reading room result₀ at.end at.to at.rules at.counters result₀ trail work calls corners y) (sym e)
     (record { lent = buffers_same b refl refl w; small = s; most = m; begun = x; going = onward_going o x; onward = o })
 
-module _ {lim : Limits} {past : Bool} {room : ℕ} {result₀ : List ℕ} {end to : ℕ} {rules : Rules} {counters : Counters} where
+module _ {lim : Limits} {reading : Corners} {room : ℕ} {result₀ : List ℕ} {end to : ℕ} {rules : Rules} {counters : Counters} where
   module _ {result trail work : List ℕ} {calls corners : List (List ℕ)} {st : State}
-      (l : Looping lim past room result₀ end to rules counters result trail work calls corners st) where
+      (l : Looping lim reading room result₀ end to rules counters result trail work calls corners st) where
     module _ {result' trail' : List ℕ} {calls' corners' : List (List ℕ)} where
       module _ {next : State}
-          (t : TurnedOf (limits_of lim) past result trail calls corners st result' trail' calls' corners' (Ok (Some next))) where
+          (t : TurnedOf (limits_of lim) reading result trail calls corners st result' trail' calls' corners' (Ok (Some next))) where
         pub looping_more : {work' : List ℕ} → length result' ≡ length result → length trail' ≡ length trail → length work' ≡ length work
-            → Looping lim past room result₀ end to rules counters result' trail' work' calls' corners' next
+            → Looping lim reading room result₀ end to rules counters result' trail' work' calls' corners' next
         looping_more i j k =
             let o = onward_more l.onward t in
             record {
@@ -77,13 +77,13 @@ module _ {lim : Limits} {past : Bool} {room : ℕ} {result₀ : List ℕ} {end t
         pub looping_falls : suc rules.n - next.plans < suc rules.n - st.plans
         looping_falls = onward_falls l.onward t l.begun
 
-      module _ (t : TurnedOf (limits_of lim) past result trail calls corners st result' trail' calls' corners' (Ok None)) where
-        pub looping_over : RunOf (limits_of lim) past result₀ end to rules counters result' trail' (Ok (ended_with st))
+      module _ (t : TurnedOf (limits_of lim) reading result trail calls corners st result' trail' calls' corners' (Ok None)) where
+        pub looping_over : RunOf (limits_of lim) reading result₀ end to rules counters result' trail' (Ok (ended_with st))
         looping_over = onward_over l.onward t l.begun
 
       pub looping_refused : {f : Refusal}
-          → TurnedOf (limits_of lim) past result trail calls corners st result' trail' calls' corners' (Err f)
-          → RunOf (limits_of lim) past result₀ end to rules counters result' trail' (Err f)
+          → TurnedOf (limits_of lim) reading result trail calls corners st result' trail' calls' corners' (Err f)
+          → RunOf (limits_of lim) reading result₀ end to rules counters result' trail' (Err f)
       looping_refused = onward_refused l.onward
 
 pub ruleset loops = (looping_more, looping_falls, looping_over, looping_refused)

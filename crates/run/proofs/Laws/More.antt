@@ -3,7 +3,7 @@ use Rattle.std.specs.Prelude.{Result, Ok, Err}
 use Prim.Native.Nat.{ℕ, suc, ◌+◌, ◌*◌, ◌≤◌, ◌<◌, ◌^◌}
 use mathlib.Core.Path.{◌≡◌, refl, sym, ap, ap₂, ◌∙◌, subst, subst₂}
 use mathlib.Core.List.{List, [], ◌∷◌, ◌++◌}
-use mathlib.Core.Bool.{Bool, true}
+use mathlib.Core.Bool.{true}
 use native.Mathlib.Omega.{arith}
 use lib.ListN.{length, get_or, length-append}
 use Rattle.grammar.specs.Form.{newest}
@@ -18,6 +18,7 @@ use Rattle.grammar.specs.Valid.{rule_limit}
 use Rattle.grammar.specs.Laws.Whole.{valid_parts}
 use Rattle.grammar.specs.Laws.Lists.{each_append}
 use Rattle.grammar.specs.Laws.Stands.{stands_append, stands_within}
+use Rattle.grammar.specs.Corners.{Corners}
 use Rattle.reference.specs.Substitute as R
 use Rattle.reference.specs.Numbers.{entry_words}
 use Rattle.reference.specs.Apply.{fresh_each, apply_alternative, apply_plan}
@@ -27,7 +28,6 @@ use Rattle.laws.specs.Running.Midway.{midway_more, midway_refused, steps_fit}
 use Rattle.laws.specs.Running.Stages.{entries_last, steps_last}
 use Rattle.words.specs.Room.{Room}
 use Rattle.writing.specs.Laws.Wrote.{wrote_stands, wrote_same}
-use Rattle.analysis.specs.Survey.{reading}
 use Rattle.reach.specs.Rows.{RowOf}
 use Rattle.analysis.specs.Facts.{Standing, FactsOf}
 use Rattle.plan.specs.declared.plan.Plan.{Plan}
@@ -76,9 +76,9 @@ successor PlanTooLarge = (6, refl)
 successor CounterPastEnd = (7, refl)
 successor ResultTooLong = (8, refl)
 
-module _ {limits : R.Limits} {past : Bool} {result trail work : List ℕ} {calls corners : List (List ℕ)} {st : State} {p : Plan}
-    (x : Advancing limits past result trail work calls corners st p) where
-  abbrev m : Midst limits past x.sheet result trail calls corners st
+module _ {limits : R.Limits} {reading : Corners} {result trail work : List ℕ} {calls corners : List (List ℕ)} {st : State} {p : Plan}
+    (x : Advancing limits reading result trail work calls corners st p) where
+  abbrev m : Midst limits reading x.sheet result trail calls corners st
   m = x.midst
 
   abbrev s : Sheet
@@ -101,31 +101,31 @@ module _ {limits : R.Limits} {past : Bool} {result trail work : List ℕ} {calls
         ∙ ap₂ (λ k ps. refusal_of k ps stage.after st.at.entries) (so_far m).kind (so_far m).preserved
         ∙ ap (refusal_of s.kind s.preserved stage.after) m.entries
 
-  next : NextPlan limits (reading past) s m.stages m.now x.cycle x.plan
-  next = midway_next limits (reading past) s m.midway x.found
+  next : NextPlan limits reading s m.stages m.now x.cycle x.plan
+  next = midway_next limits reading s m.midway x.found
 
   pub turned_refused : {result' trail' : List ℕ} {f : Refusal}
       → AppliedOf result work st.at.end st.at.to st.at.rules st.at.counters p st.at.entries result' trail trail' (Err f)
-      → Over limits past s result' trail' (Err f)
+      → Over limits reading s result' trail' (Err f)
   turned_refused {result'} {trail'} {f} o =
       let (k, e) = successor f in
       record {
         short = tt;
         is =
             subst (λ r. AnswerIs result' trail' (Err f) (answer_run s r))
-            (sym (midway_refused limits (reading past) s m.midway x.found (sym (number_is o) ∙ e))) (stopped_answer s m.stages e);
+            (sym (midway_refused limits reading s m.midway x.found (sym (number_is o) ∙ e))) (stopped_answer s m.stages e);
       }
 
   module _ {result' trail' : List ℕ} {a : Applied}
       (o : AppliedOf result work st.at.end st.at.to st.at.rules st.at.counters p st.at.entries result' trail trail' (Ok a)) where
-    pub after_midway : Midway limits (reading past) s (m.stages ++ (stage ∷ [])) (sheet_with s.kind s.preserved stage.after)
-    after_midway = midway_more limits (reading past) s m.midway x.found (sym (number_is o))
+    pub after_midway : Midway limits reading s (m.stages ++ (stage ∷ [])) (sheet_with s.kind s.preserved stage.after)
+    after_midway = midway_more limits reading s m.midway x.found (sym (number_is o))
 
     abbrev left : Sheet
     left = sheet_with s.kind s.preserved stage.after
 
-    left_so_far : SoFar limits (reading past) s (m.stages ++ (stage ∷ [])) left
-    left_so_far = midway_so_far limits (reading past) s after_midway
+    left_so_far : SoFar limits reading s (m.stages ++ (stage ∷ [])) left
+    left_so_far = midway_so_far limits reading s after_midway
 
     done : Done m.now.kind m.now.preserved stage.after st.at.entries result' trail trail' a
     done = (applied o).done
@@ -162,7 +162,7 @@ module _ {limits : R.Limits} {past : Bool} {result trail work : List ℕ} {calls
         }
 
     pub renewable : {n : ℕ} → n ≡ st.at.rules.n
-        → Renewable (words result') a.end a.rules n p.hub p.removable past calls corners st.found.marks st.found.kept
+        → Renewable (words result') a.end a.rules n p.hub p.removable reading calls corners st.ground.marks st.ground.kept
     unfolding midst_known held_standing left_standing
     renewable e =
         record {
@@ -182,7 +182,7 @@ module _ {limits : R.Limits} {past : Bool} {result trail work : List ℕ} {calls
     -- Plans and steps are words.
     pub steps_small : limits.budget_floor ≤ 2 ^ 24 → st.steps + p.steps < word_end
     steps_small l =
-        let z = steps_fit limits (reading past) s after_midway l in
+        let z = steps_fit limits reading s after_midway l in
         let e = steps_last m.stages stage in
         let a = m.steps in
         let b = x.same.steps in
@@ -196,10 +196,10 @@ module _ {limits : R.Limits} {past : Bool} {result trail work : List ℕ} {calls
         omega arith
 
     module _ {n : ℕ} (e : n ≡ st.at.rules.n) {calls' corners' : List (List ℕ)} {r : Renewed}
-        (w : RenewedOf (words result') a.end a.rules n p.hub p.removable past calls corners st.found.marks st.found.kept
+        (w : RenewedOf (words result') a.end a.rules n p.hub p.removable reading calls corners st.ground.marks st.ground.kept
         calls' corners' r) where
       abbrev after : State
-      after = behind_plan st a p r
+      after = behind_plan st a p r.ground
 
       told : Front trail' (each encode_entry (entries_of (m.stages ++ (stage ∷ [])))) (entry_words * a.entries)
       told =
@@ -224,11 +224,11 @@ module _ {limits : R.Limits} {past : Bool} {result trail work : List ℕ} {calls
             room = let l = done.told.long in let h = done.room in omega arith;
           }
 
-      renewed : RenewedAs (words result') a.end a.rules n p.hub p.removable past calls corners st.found.marks st.found.kept
+      renewed : RenewedAs (words result') a.end a.rules n p.hub p.removable reading calls corners st.ground.marks st.ground.kept
           (renewable e) calls' corners' r
       renewed = w.is (renewable e)
 
-      one_more : Midst limits past s result' trail' calls' corners' after
+      one_more : Midst limits reading s result' trail' calls' corners' after
       unfolding renewable midst_known held_standing left_standing
       one_more =
           record {
@@ -239,9 +239,9 @@ module _ {limits : R.Limits} {past : Bool} {result trail work : List ℕ} {calls
             rows = done.rows;
             counters = done.counters_are;
             facts =
-                subst (λ t. FactsOf (reading past) t.rows.found.trees a.rules.ids calls' corners' r.found.marks)
+                subst (λ t. FactsOf reading t.rows.found.trees a.rules.ids calls' corners' r.ground.marks)
                 renewed.standing renewed.known.known.facts;
-            keeps = subst (λ ps. RowOf a.rules.ids a.rules.n ps r.found.kept) renewed.preserved renewed.known.keeps;
+            keeps = subst (λ ps. RowOf a.rules.ids a.rules.n ps r.ground.kept) renewed.preserved renewed.known.keeps;
             told = told;
             entries = done.entries ∙ ap (λ k. k + length stage.after.entries) m.entries
                 ∙ sym (length-append (entries_of m.stages) stage.after.entries)
@@ -250,7 +250,7 @@ module _ {limits : R.Limits} {past : Bool} {result trail work : List ℕ} {calls
             steps = ap₂ ◌+◌ m.steps (sym x.same.steps) ∙ sym (steps_last m.stages stage);
           }
 
-      pub turned_more : OneMore limits past s result' trail' calls' corners' st after
+      pub turned_more : OneMore limits reading s result' trail' calls' corners' st after
       turned_more =
           record {
             short = midst_ended one_more;
@@ -260,19 +260,22 @@ module _ {limits : R.Limits} {past : Bool} {result trail work : List ℕ} {calls
           }
 
 -- The returns.
-module _ {limits : R.Limits} {past : Bool} {result trail work : List ℕ} {calls corners : List (List ℕ)} {st : State} {p : Plan}
+module _ {limits : R.Limits} {reading : Corners} {result trail work : List ℕ} {calls corners : List (List ℕ)} {st : State} {p : Plan}
     {result' trail' : List ℕ} where
   pub advanced_refused : {f : Refusal} {calls' corners' : List (List ℕ)}
       → AppliedOf result work st.at.end st.at.to st.at.rules st.at.counters p st.at.entries result' trail trail' (Err f)
-      → AdvancedOf limits past result trail work calls corners st p result' trail' calls' corners' (Err f)
+      → AdvancedOf limits reading result trail work calls corners st p result' trail' calls' corners' (Err f)
   advanced_refused o = record { is = λ x. turned_refused x o }
 
   pub advanced_more : {a : Applied} {calls' corners' : List (List ℕ)} {next : State}
       → AppliedOf result work st.at.end st.at.to st.at.rules st.at.counters p st.at.entries result' trail trail' (Ok a)
-      → UpToDate (words result') past calls corners st a p calls' corners' next
-      → AdvancedOf limits past result trail work calls corners st p result' trail' calls' corners' (Ok next)
+      → UpToDate (words result') reading calls corners st a p calls' corners' next
+      → AdvancedOf limits reading result trail work calls corners st p result' trail' calls' corners' (Ok next)
   advanced_more {a} {calls'} {corners'} {next} o u =
-      record { is = λ x. subst (OneMore limits past x.sheet result' trail' calls' corners' st) (sym u.is) (turned_more x o refl u.renews) }
+      record {
+        is = λ x. subst (OneMore limits reading x.sheet result' trail' calls' corners' st) (sym u.is)
+            (turned_more x o refl u.renews);
+      }
 
 -- Of a plan that is applied.
 pub ruleset advances = (

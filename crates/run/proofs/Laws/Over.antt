@@ -3,17 +3,16 @@ use Prim.Native.Nat.{ℕ, ◌*◌}
 use Rattle.std.specs.Prelude.{None, Ok, Err}
 use mathlib.Core.Path.{◌≡◌, refl, sym, ◌∙◌, subst}
 use mathlib.Core.List.{List}
-use mathlib.Core.Bool.{Bool}
 use lib.ListN.{length}
 use Rattle.grammar.specs.Tree.{Sheet}
 use Rattle.grammar.specs.Lists.{each}
 use Rattle.grammar.specs.Encode.{encode}
 use Rattle.grammar.specs.Laws.Parse.{never}
+use Rattle.grammar.specs.Corners.{Corners}
 use Rattle.reference.specs.Substitute as R
 use Rattle.reference.specs.Run.{Stage, ended, stopped, no_plan, too_large, find_plan, answer_run, sheet_after}
 use Rattle.reference.specs.Run.{steps_of, entries_of, encode_entry}
 use Rattle.laws.specs.Running.Midway.{midway_ended, midway_large}
-use Rattle.analysis.specs.Survey.{reading}
 use Rattle.run.specs.declared.state.State.{State}
 use Rattle.run.specs.declared.state.Ended.{Ended}
 use Rattle.run.specs.Ended.{Front, AnswerIs}
@@ -57,16 +56,16 @@ module _ {result trail : List ℕ} {r : Ended} (s : Sheet) (ss : List Stage) whe
             };
       }
 
-module _ {limits : R.Limits} {past : Bool} {s : Sheet} {result trail : List ℕ} {calls corners : List (List ℕ)} {st : State}
-    (m : Midst limits past s result trail calls corners st) where
+module _ {limits : R.Limits} {reading : Corners} {s : Sheet} {result trail : List ℕ} {calls corners : List (List ℕ)} {st : State}
+    (m : Midst limits reading s result trail calls corners st) where
   -- No cycle has a plan.
-  pub turned_none : find_plan limits (reading past) s.preserved m.now.rules ≡ no_plan
-      → TurnedTo limits past s result trail calls corners st (Ok None)
+  pub turned_none : find_plan limits reading s.preserved m.now.rules ≡ no_plan
+      → TurnedTo limits reading s result trail calls corners st (Ok None)
   turned_none f =
       record {
         short = midst_ended m;
         is =
-            subst (λ r. AnswerIs result trail (Ok (ended_with st)) (answer_run s r)) (sym (midway_ended limits (reading past) s m.midway f))
+            subst (λ r. AnswerIs result trail (Ok (ended_with st)) (answer_run s r)) (sym (midway_ended limits reading s m.midway f))
             (ended_answer s m.stages m.plans m.steps
             (record {
               stands = rw m.midway.is_now m.held.stands;
@@ -76,12 +75,12 @@ module _ {limits : R.Limits} {past : Bool} {s : Sheet} {result trail : List ℕ}
       }
 
   -- A planned list is too large.
-  pub turned_large : find_plan limits (reading past) s.preserved m.now.rules ≡ too_large
-      → TurnedTo limits past s result trail calls corners st (Err PlanTooLarge)
+  pub turned_large : find_plan limits reading s.preserved m.now.rules ≡ too_large
+      → TurnedTo limits reading s result trail calls corners st (Err PlanTooLarge)
   turned_large f =
       record {
         short = tt;
         is =
             subst (λ r. AnswerIs result trail (Err PlanTooLarge) (answer_run s r))
-            (sym (midway_large limits (reading past) s m.midway f)) (stopped_answer s m.stages refl);
+            (sym (midway_large limits reading s m.midway f)) (stopped_answer s m.stages refl);
       }

@@ -4,7 +4,7 @@ use Rattle.std.specs.Cmp.{first_so}
 use Prim.Native.Nat.{ℕ, suc, ◌+◌, ◌-◌, ◌*◌, ◌≤◌, ◌<◌}
 use mathlib.Core.Path.{◌≡◌, refl, sym, ap, ◌∙◌, subst}
 use mathlib.Core.List.{List, []}
-use mathlib.Core.Bool.{Bool, true}
+use mathlib.Core.Bool.{true}
 use native.Mathlib.Omega.{arith}
 use lib.ListN.{length}
 use lib.Dec.{leb}
@@ -15,6 +15,7 @@ use Rattle.grammar.specs.Valid.{fits_in}
 use Rattle.grammar.specs.Lists.{rising, total}
 use Rattle.grammar.specs.Words.{words}
 use Rattle.grammar.specs.Laws.Stands.{stands_none}
+use Rattle.grammar.specs.Corners.{Corners}
 use Rattle.reference.specs.Substitute as R
 use Rattle.reference.specs.Numbers.{entry_words}
 use Rattle.reference.specs.Run.{steps_of, entries_of}
@@ -24,7 +25,6 @@ use Rattle.words.specs.declared.numbers.Refusal.{Refusal}
 use Rattle.writing.specs.declared.counters.Counters.{Counters}
 use Rattle.records.specs.declared.rules.Rules.{Rules}
 use Rattle.reach.specs.Rows.{RowOf}
-use Rattle.analysis.specs.Survey.{reading}
 use Rattle.analysis.specs.Facts.{Standing, FactsFound}
 use Rattle.hub.specs.Preserved.{bytes_between}
 use Rattle.hub.proofs.Laws.Preserved.{run_words}
@@ -60,39 +60,40 @@ module _ {result : List ℕ} {end to : ℕ} {rules : Rules} {counters : Counters
 pub ruleset begins = (begun_room, begun_kept, begun_rises, begun_standing)
 
 -- The trail has no entries yet.
-module _ (limits : R.Limits) {past : Bool} {result : List ℕ} {at : Applied} {calls corners : List (List ℕ)} {found : Ground}
-    (e : at.entries ≡ 0) (f : FactsFound (words result) at.end at.rules past calls corners found.marks)
-    (k : KeptOf (words (bytes_between result at.end at.to)) at.rules found.kept) (trail : List ℕ) where
-  started : (x : Begun result at.end at.to at.rules at.counters) → Midst limits past x.sheet result trail calls corners (at_start at found)
+module _ (limits : R.Limits) {reading : Corners} {result : List ℕ} {at : Applied} {calls corners : List (List ℕ)} {ground : Ground}
+    (e : at.entries ≡ 0) (f : FactsFound (words result) at.end at.rules reading calls corners ground.marks)
+    (k : KeptOf (words (bytes_between result at.end at.to)) at.rules ground.kept) (trail : List ℕ) where
+  started : (x : Begun result at.end at.to at.rules at.counters) → Midst limits reading x.sheet result trail calls corners (at_start at ground)
   unfolding begun_standing held_standing entries_of steps_of total
   started x =
       record {
         stages = [];
         now = x.sheet;
-        midway = midway_start limits (reading past) x.sheet x.is_valid x.is_fitting x.is_parser;
+        midway = midway_start limits reading x.sheet x.is_valid x.is_fitting x.is_parser;
         held = x.held;
         rows = x.rows;
         counters = x.counters_are;
         facts = f.is (begun_standing x);
-        keeps = subst (λ ps. RowOf at.rules.ids at.rules.n ps found.kept) (run_words result at.end at.to ∙ held_preserved x.held) k.row;
+        keeps = subst (λ ps. RowOf at.rules.ids at.rules.n ps ground.kept) (run_words result at.end at.to ∙ held_preserved x.held) k.row;
         told = subst (λ n. Front trail [] (entry_words * n)) (sym e) (record { stands = stands_none (omega arith); room = omega arith });
         entries = e;
         plans = refl;
         steps = refl;
       }
 
-  pub onward_begin : Onward limits past result at.end at.to at.rules at.counters result trail calls corners (at_start at found)
+  pub onward_begin : Onward limits reading result at.end at.to at.rules at.counters result trail calls corners (at_start at ground)
   onward_begin = record { is = started }
 
-module _ {limits : R.Limits} {past : Bool} {result : List ℕ} {end to : ℕ} {rules : Rules} {counters : Counters} where
+module _ {limits : R.Limits} {reading : Corners} {result : List ℕ} {end to : ℕ} {rules : Rules} {counters : Counters} where
   module _ {result₁ trail₁ : List ℕ} {calls corners : List (List ℕ)} {st : State}
-      (o : Onward limits past result end to rules counters result₁ trail₁ calls corners st) where
-    pub onward_going : Begun result end to rules counters → Going limits past result₁ trail₁ calls corners st
+      (o : Onward limits reading result end to rules counters result₁ trail₁ calls corners st) where
+    pub onward_going : Begun result end to rules counters → Going limits reading result₁ trail₁ calls corners st
     onward_going x = record { sheet = x.sheet; midst = o.is x }
 
     module _ {result₂ trail₂ : List ℕ} {calls₂ corners₂ : List (List ℕ)} where
-      module _ {next : State} (t : TurnedOf limits past result₁ trail₁ calls corners st result₂ trail₂ calls₂ corners₂ (Ok (Some next))) where
-        pub onward_more : Onward limits past result end to rules counters result₂ trail₂ calls₂ corners₂ next
+      module _ {next : State}
+          (t : TurnedOf limits reading result₁ trail₁ calls corners st result₂ trail₂ calls₂ corners₂ (Ok (Some next))) where
+        pub onward_more : Onward limits reading result end to rules counters result₂ trail₂ calls₂ corners₂ next
         onward_more = record { is = λ x. (t.is x.sheet (o.is x)).midst }
 
         -- The measure: one rule more is a hub.
@@ -104,11 +105,11 @@ module _ {limits : R.Limits} {past : Bool} {result : List ℕ} {end to : ℕ} {r
             let c = x.rows.count in
             omega arith
 
-      module _ (t : TurnedOf limits past result₁ trail₁ calls corners st result₂ trail₂ calls₂ corners₂ (Ok None)) where
+      module _ (t : TurnedOf limits reading result₁ trail₁ calls corners st result₂ trail₂ calls₂ corners₂ (Ok None)) where
         pub onward_over : Begun result end to rules counters
-            → RunOf limits past result end to rules counters result₂ trail₂ (Ok (ended_with st))
+            → RunOf limits reading result end to rules counters result₂ trail₂ (Ok (ended_with st))
         onward_over y = record { short = (t.is y.sheet (o.is y)).short; is = λ x. (t.is x.sheet (o.is x)).is }
 
-      pub onward_refused : {f : Refusal} → TurnedOf limits past result₁ trail₁ calls corners st result₂ trail₂ calls₂ corners₂ (Err f)
-          → RunOf limits past result end to rules counters result₂ trail₂ (Err f)
+      pub onward_refused : {f : Refusal} → TurnedOf limits reading result₁ trail₁ calls corners st result₂ trail₂ calls₂ corners₂ (Err f)
+          → RunOf limits reading result end to rules counters result₂ trail₂ (Err f)
       onward_refused t = record { short = tt; is = λ x. (t.is x.sheet (o.is x)).is }
