@@ -1,6 +1,7 @@
 -- Drafts that follow one another.
 use Rattle.std.specs.Prelude.{ℕ, ◌+◌, ◌-◌, ◌<◌, ◌≡◌, refl, List, [], ◌∷◌, ◌++◌, length}
 use Rattle.std.proofs.Common.{sym, ap, ◌∙◌, subst, append_assoc, append-nil, arith, length-append}
+use Rattle.grammar.specs.Form.{newest}
 use Rattle.grammar.specs.Numbers.{rule_limit}
 use Rattle.grammar.specs.Tree.{Rule, body_depth, Counters}
 use Rattle.grammar.specs.Encode.{encode_rule, encode_rules, encode_block}
@@ -24,7 +25,7 @@ row_added {id} {name} {n} {a} {b} r w e f l h fs g =
     ∙ length-append (encode_rules fs) (encode_rules (r ∷ []))
     ∙ ap (λ k. length (encode_rules fs) + k) (ap length (append-nil (encode_rule (encode_block body_depth) r))) in
     record {
-      rows = rows_more fs r g.rows h (omega arith) e f w.rows;
+      rows = rows_more newest fs r g.rows h (omega arith) e f w.rows;
       to = omega arith;
     }
 

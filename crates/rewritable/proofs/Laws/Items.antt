@@ -8,6 +8,7 @@ use native.Mathlib.Omega.{arith}
 use lib.ListN.{get_or}
 use lib.Dec.{eqb, ltb}
 use borrow.Author.Tests.{eqb-true, lt-ltb, le-ltb}
+use Rattle.grammar.specs.Form.{newest}
 use Rattle.grammar.specs.Numbers.{once, call_kind, kind_end}
 use Rattle.grammar.specs.Tree.{ElementHead, Call, Leaf, epsilon, action, predicate, call, token, terminal, end_of_input, Element, leaf, block}
 use Rattle.grammar.specs.Tree.{Block}
@@ -100,7 +101,7 @@ module _ (d m : ℕ) (made : Bool) where
         one {o = o} h (call c) w u =
             let x : o ≡ p = let y = w.place in let z = head.payload_is in omega arith in
             let u' = rw x at u in
-            let s = call_stands c u'.stands in
+            let s = call_stands {form = newest} c u'.stands in
             is_call h c
             (record {
               kind = let y = w.packed in omega arith;

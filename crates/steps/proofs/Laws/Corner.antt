@@ -165,7 +165,7 @@ module _ (d : ℕ) {ws : List ℕ} {end at : ℕ} (f : FoundElement ws end d at)
 module _ {ws : List ℕ} {end at p q kind : ℕ} {h : ElementHead} (w : HeadWords ws end at h kind p) (k : Call)
     (u : Spans ws end encode_leaf ok_leaf p (call k) q) where
   bare_is : bare_reference h k ≡ bare_at ws at p
-  unfolding bare_reference encode_leaf_in ok_head ok_label
+  unfolding bare_reference ok_head ok_label
   bare_is = rw (w.named, (call_stands k u.stands).arguments_are, w.counted)
       (go h.label h.options (first_so (ok_label h.label) _ (second_so (leb h.quantifier 6) _ w.fine)))
     where
