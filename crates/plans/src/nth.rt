@@ -64,13 +64,7 @@ impl From<Decision> for u32 {
 }
 
 // The decision for the nth cycle of rules that stand in a sheet, and preserved ids.
-pub fn decide_nth(
-    g: &Ruled,
-    preserved: &Preserved,
-    past: bool,
-    nth: u32,
-    work: &mut [u8],
-) -> Nth
+pub fn decide_nth(g: &Ruled, preserved: &Preserved, past: bool, nth: u32, work: &mut [u8]) -> Nth
     requires bounds { (g.now.s.now.end ≤ most_words) × (work_bytes ≤ length work.old) }
     ensures { NthOf (text g.now.s.now) g.now.s.now.end (words preserved.now.ids.now) g.now.rules.now past nth work.new result }
 {
