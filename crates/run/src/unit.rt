@@ -48,7 +48,7 @@ pub fn run_unit(
         rules: &before.rules,
     };
     let preserved = Preserved {
-        ids: &res[4 * before.end..4 * before.to],
+        ids: &s.bytes[4 * s.end..4 * before.to],
     };
     let ground = find_out(&g, &preserved, reading, &mut rows, work);
     let mut st = State::begin(before, ground);

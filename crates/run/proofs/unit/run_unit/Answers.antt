@@ -1,6 +1,6 @@
 use Rattle.std.proofs.Common.{refl, rules, arith}
 use Rattle.run.proofs.unit.run_unit.Goals as goal
-use Rattle.run.proofs.Laws.Start.{begins, begun_standing}
+use Rattle.run.proofs.Laws.Start.{begins, begun_rises, begun_standing}
 use Rattle.run.proofs.Laws.Loop.{loops, looping_start, looping_more}
 
 pub invariant_of-s : goal.invariant_of-s
@@ -9,6 +9,9 @@ invariant_of-s c = record { room = search (rules, loops, begins) }
 -- src/unit.rt:42:9
 pub find_out-ground-requires : goal.find_out-ground-requires
 find_out-ground-requires c = search (rules, loops, begins)
+
+pub invariant_of-preserved : goal.invariant_of-preserved
+invariant_of-preserved c = record { rises = begun_rises c.requires.begun }
 
 pub invariant_of-g : goal.invariant_of-g
 invariant_of-g c = record { standing = begun_standing c.requires.begun }
