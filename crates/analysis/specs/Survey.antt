@@ -27,7 +27,7 @@ pub record View : Type 0 where
   pub past : Bool
 
 abbrev pub view_of : Known → View
-view_of k = record { names = k.names.now; n = k.n; nullable = k.nullable; past = k.past }
+view_of k = record { names = k.names.list.now; n = k.names.n; nullable = k.nullable; past = k.past }
 
 abbrev pub reading : Bool → Corners
 reading true = textbook

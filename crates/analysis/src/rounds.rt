@@ -10,7 +10,6 @@ ghost use Rattle.reach.specs.Rows.{Behind};
 ghost use Rattle.words.specs.Sheet.{text};
 
 use crate::known::Known;
-use crate::names::put_names;
 use crate::ruled::Ruled;
 use crate::survey::survey_rule;
 use reach::rows::{Row, add_if};
@@ -67,13 +66,13 @@ fn mark(r: Round, i: usize, nullable: bool, stops: bool) -> Round
 
 // Every rule surveyed.
 fn survey_all(g: &Ruled, v: &Known, rows: &mut Rows) -> Round
-    requires bounds { v.now.n ≡ g.now.rules.now.n }
+    requires bounds { v.now.names.n ≡ g.now.rules.now.n }
     ensures { Recording (view_of v.now) (text g.now.s.now) g.now.s.now.end g.now.rules.now.places
         rows.old.calls rows.old.corners g.now.rules.now.n rows.new.calls rows.new.corners result }
 {
     let places = g.rules.places;
     let mut r = Round::default();
-    for i in 0..v.n {
+    for i in 0..v.names.n {
         let t = survey_rule(g.s, v, places[i] as usize);
         let c = t.calls;
         let k = t.corners;
@@ -92,14 +91,12 @@ fn rounds(g: &Ruled, past: bool, table: &[u8], rows: &mut Rows) -> Marks
     ensures behind { Behind g.now.rules.now.n rows.old.calls rows.new.calls
         × Behind g.now.rules.now.n rows.old.corners rows.new.corners }
 {
-    let names = g.rules.names;
-    let n = g.rules.n as usize;
+    let names = g.names();
     let mut found = [0u64; Row::WORDS];
     let mut count: u32 = 0;
-    for _ in 0..n {
+    for _ in 0..names.n {
         let v = Known {
-            names: &names,
-            n,
+            names,
             table,
             nullable: found,
             past,
@@ -118,8 +115,7 @@ fn rounds(g: &Ruled, past: bool, table: &[u8], rows: &mut Rows) -> Marks
         count = r.count;
     }
     let v = Known {
-        names: &names,
-        n,
+        names,
         table,
         nullable: found,
         past,
@@ -142,8 +138,6 @@ pub fn find_rows(g: &Ruled, past: bool, rows: &mut Rows, work: &mut [u8]) -> Mar
         × Behind g.now.rules.now.n rows.old.corners rows.new.corners }
     ensures work_after { work.new ≡ table_with g.now.rules.now.names g.now.rules.now.n work.old }
 {
-    let names = g.rules.names;
-    let n = g.rules.n as usize;
-    put_names(&names, n, work);
+    g.names().put(work);
     rounds(g, past, work, rows)
 }

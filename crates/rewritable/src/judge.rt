@@ -36,12 +36,12 @@ fn judge_alternative(
     work: &[u8],
     x: Listed,
 ) -> Option<Verdict>
-    requires bounds { hub < v.now.n }
+    requires bounds { hub < v.now.names.n }
     requires located { Located work.now x × ListedIn (text s.now) s.now.end depth work.now x }
     ensures { VerdictOf (view_of v.now) members hub depth
         (meaning (text s.now) s.now.end depth work.now x).elements result }
 {
-    let name = v.names[hub];
+    let name = v.names.list[hub];
     if !may_be_rewritten(s, depth, name, work, x) {
         return None;
     }
@@ -66,7 +66,7 @@ fn judge_list(
     work: &[u8],
     l: Sizes,
 ) -> Option<[u64; Row::WORDS]>
-    requires bounds { hub < v.now.n }
+    requires bounds { hub < v.now.names.n }
     requires laid { Laid work.now l × AllIn (text s.now) s.now.end depth work.now l }
     ensures { JudgedOf (view_of v.now) members hub depth
         (settled (text s.now) s.now.end depth work.now l) result }
@@ -100,10 +100,8 @@ pub fn judge(
     requires laid { Laid work.now l × AllIn (text g.now.s.now) g.now.s.now.end inner_depth work.now l }
     ensures { JudgedFound (text g.now.s.now) g.now.s.now.end g.now.rules.now nullable past members hub work.now l result }
 {
-    let names = g.rules.names;
     let v = Known {
-        names: &names,
-        n: g.rules.n as usize,
+        names: g.names(),
         table: &g.s.bytes[..0],
         nullable,
         past,

@@ -10,7 +10,6 @@ ghost use Rattle.words.specs.Kinds.{quantifier_number};
 ghost use Rattle.words.specs.Sheet.{text};
 
 use crate::cycle::Cycle;
-use analysis::names::scan;
 use planned::list::{Item, Listed};
 use planned::read::item;
 use reach::rows::has;
@@ -71,10 +70,10 @@ fn meet_member(bare: bool, quantifier: Quantifier, t: usize, hub: usize) -> Corn
 
 // A call of a name; one of no rule, or of a rule outside the cycle, is settled.
 fn meet_call(c: &Cycle, name: u32, bare: bool, quantifier: Quantifier) -> Corner<usize>
-    ensures { CallMet c.now.names.now c.now name bare (quantifier_number quantifier) result }
+    ensures { CallMet c.now.names.list.now c.now name bare (quantifier_number quantifier) result }
 {
     let members = c.members;
-    match scan(c.names, c.n, name) {
+    match c.names.scan(name) {
         Some(t) if has(members, t) => meet_member(bare, quantifier, t, c.hub),
         _ => Corner::Settled,
     }
@@ -96,7 +95,7 @@ fn quantifier_of(s: &Sheet, x: Item) -> Quantifier
 // One element of the list: nothing, where it takes no input.
 fn meet_item(s: &Sheet, c: &Cycle, x: Item) -> Option<Corner<usize>>
     requires { FoundElement (text s.now) s.now.end inner_depth x.at }
-    ensures { ItemMet c.now.names.now c.now (text s.now) s.now.end inner_depth x.at x.plain result }
+    ensures { ItemMet c.now.names.list.now c.now (text s.now) s.now.end inner_depth x.at x.plain result }
 {
     let head = element_head(s, Block::DEPTH, x.at);
     let kind = head.kind;
@@ -115,7 +114,7 @@ fn meet_item(s: &Sheet, c: &Cycle, x: Item) -> Option<Corner<usize>>
 // The corner of an alternative that is listed.
 pub fn find_corner(s: &Sheet, c: &Cycle, work: &[u8], x: Listed) -> Corner<Place>
     requires { Located work.now x × ListedIn (text s.now) s.now.end inner_depth work.now x }
-    ensures { CornerAt c.now.names.now c.now (text s.now) s.now.end inner_depth work.now x result }
+    ensures { CornerAt c.now.names.list.now c.now (text s.now) s.now.end inner_depth work.now x result }
 {
     let n = x.ne;
     for i in 0..n {

@@ -33,7 +33,7 @@ fn look_step(
 ) -> Unplanned
     requires bounds { Located work.old h × InHand h × Reached task.now.c h.ne p (splits step) }
     requires listed_in { ListedIn (text task.now.s.now) task.now.s.now.end inner_depth work.old h }
-    ensures { StepLooked (text task.now.s.now) task.now.s.now.end task.now.c.names.now task.now.places.now task.now.c budget
+    ensures { StepLooked (text task.now.s.now) task.now.s.now.end task.now.c.names.list.now task.now.places.now task.now.c budget
         work.old work.new h p (splits step) result }
 {
     if budget == 0 {
@@ -50,7 +50,7 @@ fn look_step(
 fn look_hand(task: &Task, budget: usize, work: &mut [u8], h: Listed) -> Result<(), Unplanned>
     requires bounds { Located work.old h × InHand h }
     requires listed_in { ListedIn (text task.now.s.now) task.now.s.now.end inner_depth work.old h }
-    ensures { HandLooked (text task.now.s.now) task.now.s.now.end task.now.c.names.now task.now.places.now task.now.c budget
+    ensures { HandLooked (text task.now.s.now) task.now.s.now.end task.now.c.names.list.now task.now.places.now task.now.c budget
         work.old work.new h result }
 {
     match find_corner(task.s, &task.c, work, h) {
@@ -65,7 +65,7 @@ fn look_hand(task: &Task, budget: usize, work: &mut [u8], h: Listed) -> Result<(
 fn look_at(task: &Task, budget: usize, work: &mut [u8], at: usize) -> Result<(), Unplanned>
     requires bounds { work_bytes ≤ length work.old }
     requires found_alternative { FoundAlternative (text task.now.s.now) task.now.s.now.end inner_depth at }
-    ensures { LookedAt (text task.now.s.now) task.now.s.now.end task.now.c.names.now task.now.places.now task.now.c budget at
+    ensures { LookedAt (text task.now.s.now) task.now.s.now.end task.now.c.names.list.now task.now.places.now task.now.c budget at
         work.old work.new result }
 {
     let h = hub_in_hand(task.s, Block::DEPTH, at, work);
@@ -81,7 +81,7 @@ fn look_all(
 ) -> Result<Option<Done>, Unplanned>
     requires bounds { work_bytes ≤ length work.old }
     requires at_value { (at ≡ get_or task.now.places.now task.now.c.hub 0) × (at + 4 ≤ task.now.s.now.end) }
-    ensures { Unstored (text task.now.s.now) task.now.s.now.end task.now.c.names.now task.now.places.now task.now.c budget
+    ensures { Unstored (text task.now.s.now) task.now.s.now.end task.now.c.names.list.now task.now.places.now task.now.c budget
         work.new result }
 {
     let s = task.s;
@@ -97,7 +97,7 @@ fn look_all(
 // The hub of a cycle.
 pub fn unstored(task: &Task, budget: usize, work: &mut [u8]) -> Result<Option<Done>, Unplanned>
     requires bounds { work_bytes ≤ length work.old }
-    ensures { Unstored (text task.now.s.now) task.now.s.now.end task.now.c.names.now task.now.places.now task.now.c budget
+    ensures { Unstored (text task.now.s.now) task.now.s.now.end task.now.c.names.list.now task.now.places.now task.now.c budget
         work.new result }
 {
     let c = task.c;

@@ -56,9 +56,9 @@ fn stored(
     work: &mut [u8],
 ) -> Result<Option<Done>, Unplanned>
     requires shut { Shut (Ready (text task.now.s.now) task.now.s.now.end work.old first 0 0 0) }
-    requires going { Shut (Going (text task.now.s.now) task.now.s.now.end task.now.c.names.now task.now.places.now task.now.c
+    requires going { Shut (Going (text task.now.s.now) task.now.s.now.end task.now.c.names.list.now task.now.places.now task.now.c
         task.now.limits budget work.old first) }
-    ensures { MadeOf (text task.now.s.now) task.now.s.now.end task.now.c.names.now task.now.places.now task.now.c task.now.limits
+    ensures { MadeOf (text task.now.s.now) task.now.s.now.end task.now.c.names.list.now task.now.places.now task.now.c task.now.limits
         budget work.new result }
 {
     let mut st = first;
@@ -74,7 +74,7 @@ fn stored(
 // The hub's own list is stored if it is within the limits.
 fn run(task: &Task, budget: usize, work: &mut [u8]) -> Result<Option<Done>, Unplanned>
     requires bounds { work_bytes ≤ length work.old }
-    ensures { MadeOf (text task.now.s.now) task.now.s.now.end task.now.c.names.now task.now.places.now task.now.c task.now.limits
+    ensures { MadeOf (text task.now.s.now) task.now.s.now.end task.now.c.names.list.now task.now.places.now task.now.c task.now.limits
         budget work.new result }
 {
     let c = task.c;
@@ -98,8 +98,8 @@ pub fn substitute(
     work: &mut [u8],
 ) -> Result<Option<Done>, Unplanned>
     requires bounds { (s.now.end ≤ most_words) × (work_bytes ≤ length work.old) }
-    requires ground { Ground (text s.now) s.now.end c.now.names.now rules.places c.now }
-    ensures { MadeOf (text s.now) s.now.end c.now.names.now rules.places c.now limits budget work.new result }
+    requires ground { Ground (text s.now) s.now.end c.now.names.list.now rules.places c.now }
+    ensures { MadeOf (text s.now) s.now.end c.now.names.list.now rules.places c.now limits budget work.new result }
 {
     let places = rules.places;
     let task = Task {

@@ -68,7 +68,7 @@ same_tests ids t false x true true f = refl
 same_tests ids t false true true false f = refl
 same_tests ids t false false true false f = refl
 
-module _ (c : Cycle) {t : ℕ} (l : t < c.n) (m : bit c.members t ≡ true) where
+module _ (c : Cycle) {t : ℕ} (l : t < c.names.n) (m : bit c.members t ≡ true) where
   met_by_lem : (a x b y : Bool) → eqb t c.hub ≡ y → MetIn c (met_by a x b y t)
   met_by_lem true true b y h = (l, m)
   met_by_lem true false b y h = tt
@@ -81,7 +81,7 @@ module _ (c : Cycle) {t : ℕ} (l : t < c.n) (m : bit c.members t ≡ true) wher
   met_in bare q = met_by_lem (eqb q optional_greedy) bare (eqb q once) (eqb t c.hub) refl
 
 -- A call of a name.
-module _ {names : List ℕ} {name : ℕ} {r : P.Option ℕ} (c : Cycle) (a : IsTarget names c.n name r) (bare : Bool) (q : ℕ) where
+module _ {names : List ℕ} {name : ℕ} {r : P.Option ℕ} (c : Cycle) (a : IsTarget names c.names.n name r) (bare : Bool) (q : ℕ) where
   corner_of : (g : Grammar) (cycle : List ℕ) (hub : ℕ) (d : ℕ) (h : ElementHead) (k : Call) (es : List (Element (Block d))) (o : Option ℕ)
       → target g k.name ≡ o
       → planned_corner g cycle hub (leaf h (call k) ∷ es)
@@ -122,7 +122,7 @@ module _ {names : List ℕ} {name : ℕ} {r : P.Option ℕ} (c : Cycle) (a : IsT
         }
       where
         meant : (g : Grammar) (cycle ids : List ℕ) → CycleBy g cycle ids names c → (d : ℕ) (h : ElementHead) (k : Call) → h.quantifier ≡ q
-            → bare_reference h k ≡ bare → (es : List (Element (Block d))) → t < c.n
+            → bare_reference h k ≡ bare → (es : List (Element (Block d))) → t < c.names.n
             → member_corner (get_or ids c.hub 0) h k (get_or ids t 0)
             ≡ corner_by ids (corner_at 0 m)
         meant g cycle ids b d h k u v es l =
