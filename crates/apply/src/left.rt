@@ -10,8 +10,8 @@ use reach::rows::{Row, has};
 use records::rules::Rules;
 
 // Those from one place among the rules up to another that are not in the row.
-// Stays: this takes bytes and an end, and no `Ruled`, since the room that a `Sheet` has behind its end is not asked for, and a type may
-// not ask more.
+// Stays: this takes bytes and an end, and no `Ruled`. A `Sheet` has room for a trailer behind its end, for which this public function
+// does not ask its callers, and by the project's rule on promises may not.
 pub fn words_left(
     s: &[u8],
     end: usize,

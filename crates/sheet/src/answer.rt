@@ -72,6 +72,8 @@ fn trailer_kind(s: &[u8], t: usize) -> Option<UnitKind>
 }
 
 // Where the rules end of a sheet whose trailer begins at the word `t`: in front of the preserved ids, whose number the trailer has.
+// Stays: bytes and place are two parameters, here, above and below. This public function asks for three words of a trailer and the
+// others for eight: a type that all take would ask more of its callers, which by the project's rule on promises it may not.
 pub fn rules_end(s: &[u8], t: usize) -> usize
     requires { (4 * (t + 2) + 4 ≤ length s.now) × (get_or (words s.now) (t + 2) 0 ≤ t) }
     ensures { result + get_or (words s.now) (t + 2) 0 ≡ t }
