@@ -28,7 +28,7 @@ pub record View : Type 0 where
   pub reading : Corners
 
 abbrev pub view_of : Known → View
-view_of k = record { names = k.names.now; n = k.n; nullable = k.nullable; reading = corners_of k.reading }
+view_of k = record { names = k.names.list.now; n = k.names.n; nullable = k.nullable; reading = corners_of k.reading }
 
 -- What the walk has seen. `seeks`: left corners are still sought. `null`: in an alternative, that all in front is nullable;
 -- in a block, that some alternative in front is.

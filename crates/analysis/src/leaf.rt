@@ -9,7 +9,6 @@ ghost use Rattle.words.specs.Sheet.{text};
 
 use crate::corners::Corners;
 use crate::known::Known;
-use crate::names::look_up;
 use reach::rows::{Row, add_if, has, with};
 use words::numbers::{Kind, Quantifier};
 use words::sheet::Sheet;
@@ -69,7 +68,7 @@ pub fn see_symbol(reading: Corners, skips: bool, t: &mut Seen)
 fn see_name(v: &Known, name: u32, skips: bool, t: &mut Seen)
     ensures { NameSeen (view_of v.now) name skips (seen_of t.old) (seen_of t.new) }
 {
-    match look_up(v.names, v.n, v.table, name) {
+    match v.names.look_up(v.table, name) {
         None => see_symbol(v.reading, skips, t),
         Some(i) => {
             let empty = skips | has(v.nullable, i);

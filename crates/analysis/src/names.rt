@@ -18,40 +18,49 @@ fn slot(name: u32) -> usize
     (name % Table::SLOTS) as usize
 }
 
-// Puts the places of the first n names into the table.
-// Stays: names and their number are two parameters, here and below. Of a slice of the first n the promises would tell of that slice,
-// and each caller, whose own are of the array of a sheet's rules (`Rules`) and of its n, would have to turn them back.
-pub fn put_names(names: &[u32], n: usize, table: &mut [u8])
-    requires few_rules { (n ≤ rule_limit) × (slots ≤ length table.old) }
-    requires told { Told names.now n }
-    ensures table_after { table.new ≡ table_with names.now n table.old }
-    ensures tabled { Tabled names.now n table.new }
-{
-    for i in 0..n {
-        table[slot(names[i])] = i as u8;
-    }
+// The names of rules by place: the first n of a list, of which no two are equal.
+// Stays: list and number are two fields. Of a slice of the first n the promises would tell of that slice, and those who know the
+// array of a sheet's rules (`Rules`) and its n would have to turn them back.
+#[derive(Clone, Copy, Debug, PartialEq, Eq)]
+pub struct Names<'a> {
+    pub list: &'a [u32],
+    pub n: usize,
+    ghost few: { n ≤ rule_limit },
+    ghost told: { Told list.now n },
 }
 
-// The rule that has a name, found by looking through the names.
-pub fn scan(names: &[u32], n: usize, name: u32) -> Option<usize>
-    requires { Told names.now n }
-    ensures { IsTarget names.now n name result }
-{
-    names[..n].iter().position(|x| *x == name)
-}
+impl Names<'_> {
+    // Puts their places into the table.
+    pub fn put(&self, table: &mut [u8])
+        requires room { slots ≤ length table.old }
+        ensures table_after { table.new ≡ table_with self.now.list.now self.now.n table.old }
+        ensures tabled { Tabled self.now.list.now self.now.n table.new }
+    {
+        for i in 0..self.n {
+            table[slot(self.list[i])] = i as u8;
+        }
+    }
 
-// A byte of the table says where to look. Where another name stands there, or without a table, the names are looked through.
-#[tactic(auto, using(crate::proofs::Laws::Names::lookups))]
-pub fn look_up(names: &[u32], n: usize, table: &[u8], name: u32) -> Option<usize>
-    requires { Tabled names.now n table.now }
-    ensures { IsTarget names.now n name result }
-{
-    if table.is_empty() {
-        return scan(names, n, name);
+    // The rule that has a name, found by looking through the names.
+    pub fn scan(&self, name: u32) -> Option<usize>
+        ensures { IsTarget self.now.list.now self.now.n name result }
+    {
+        self.list[..self.n].iter().position(|x| *x == name)
     }
-    let i = usize::from(table[slot(name)]);
-    if i < n && names[i] == name {
-        return Some(i);
+
+    // A byte of the table says where to look. Where another name stands there, or without a table, the names are looked through.
+    #[tactic(auto, using(crate::proofs::Laws::Names::lookups))]
+    pub fn look_up(&self, table: &[u8], name: u32) -> Option<usize>
+        requires { Tabled self.now.list.now self.now.n table.now }
+        ensures { IsTarget self.now.list.now self.now.n name result }
+    {
+        if table.is_empty() {
+            return self.scan(name);
+        }
+        let i = usize::from(table[slot(name)]);
+        if i < self.n && self.list[i] == name {
+            return Some(i);
+        }
+        self.scan(name)
     }
-    scan(names, n, name)
 }

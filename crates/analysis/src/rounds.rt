@@ -12,7 +12,6 @@ ghost use Rattle.words.specs.Sheet.{text};
 
 use crate::corners::Corners;
 use crate::known::Known;
-use crate::names::put_names;
 use crate::ruled::Ruled;
 use crate::survey::survey_rule;
 use reach::rows::{Row, add_if};
@@ -69,13 +68,13 @@ fn mark(r: Round, i: usize, nullable: bool, stops: bool) -> Round
 
 // Every rule surveyed.
 fn survey_all(g: &Ruled, v: &Known, rows: &mut Rows) -> Round
-    requires bounds { v.now.n ≡ g.now.rules.now.n }
+    requires bounds { v.now.names.n ≡ g.now.rules.now.n }
     ensures { Recording (view_of v.now) (text g.now.s.now) g.now.s.now.end g.now.rules.now.places
         rows.old.calls rows.old.corners g.now.rules.now.n rows.new.calls rows.new.corners result }
 {
     let places = g.rules.places;
     let mut r = Round::default();
-    for i in 0..v.n {
+    for i in 0..v.names.n {
         let t = survey_rule(g.s, v, places[i] as usize);
         let c = t.calls;
         let k = t.corners;
@@ -99,10 +98,8 @@ fn round_by(
     ensures { RoundFound (text g.now.s.now) g.now.s.now.end g.now.rules.now (corners_of reading) nullable
         rows.old.calls rows.old.corners rows.new.calls rows.new.corners result }
 {
-    let names = g.rules.names;
     let v = Known {
-        names: &names,
-        n: g.rules.n as usize,
+        names: g.names(),
         table,
         nullable,
         reading,
@@ -147,8 +144,6 @@ pub fn find_rows(g: &Ruled, reading: Corners, rows: &mut Rows, work: &mut [u8]) 
         × Behind g.now.rules.now.n rows.old.corners rows.new.corners }
     ensures work_after { work.new ≡ table_with g.now.rules.now.names g.now.rules.now.n work.old }
 {
-    let names = g.rules.names;
-    let n = g.rules.n as usize;
-    put_names(&names, n, work);
+    g.names().put(work);
     rounds(g, reading, work, rows)
 }

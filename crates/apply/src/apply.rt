@@ -10,7 +10,6 @@ ghost use Rattle.apply.specs.Applied.{Buffers, Applicable, AppliedOf, WordsAfter
 
 use crate::judge::{ids_in, judge};
 use crate::left::words_left;
-use analysis::ruled::Ruled;
 use compose::compose::compose;
 use copies::pen::Pen;
 use drafts::draft::Draft;
@@ -45,16 +44,16 @@ impl Fixed {
 }
 
 // The words of the new sheet.
-fn words_after(g: &Ruled, to: usize, p: Plan, work: &[u8], m: Measure) -> usize
-    requires applicable { Applicable g.now.s.now.bytes.now work.now g.now.s.now.end to g.now.rules.now p }
-    requires measured { Measured inner_depth (settled (text g.now.s.now) g.now.s.now.end inner_depth work.now p.l) m }
-    ensures { WordsAfter g.now.s.now.bytes.now work.now g.now.s.now.end to g.now.rules.now p result }
+fn words_after(s: &Sheet, to: usize, rules: Rules, p: Plan, work: &[u8], m: Measure) -> usize
+    requires applicable { Applicable s.now.bytes.now work.now s.now.end to rules p }
+    requires measured { Measured inner_depth (settled (text s.now) s.now.end inner_depth work.now p.l) m }
+    ensures { WordsAfter s.now.bytes.now work.now s.now.end to rules p result }
 {
-    let n = g.rules.n as usize;
+    let n = rules.n as usize;
     let row = p.removable;
-    let front = words_left(g, row, 0, p.hub);
-    let rest = words_left(g, row, p.hub + 1, n);
-    front + (Fixed::RULE + m.words) + rest + (to - g.s.end) + Sheet::TRAILER_WORDS
+    let front = words_left(s.bytes, s.end, rules, row, 0, p.hub);
+    let rest = words_left(s.bytes, s.end, rules, row, p.hub + 1, n);
+    front + (Fixed::RULE + m.words) + rest + (to - s.end) + Sheet::TRAILER_WORDS
 }
 
 // The new sheet of n words, composed and copied; the trail has so many entries then.
@@ -120,17 +119,14 @@ pub fn apply(
     ensures lengths_stay { (length res.new ≡ length res.old)
         × (length trail.new ≡ length trail.old) × (length work.new ≡ length work.old) }
 {
+    let rules = before.rules;
     let counters = before.counters;
     let end = before.end;
     let recorded = before.entries;
     let l = p.l;
     let s = Sheet { bytes: res, end };
-    let g = Ruled {
-        s: &s,
-        rules: &before.rules,
-    };
     let m = measure(&s, work, l);
-    let n = words_after(&g, before.to, p, work, m);
+    let n = words_after(&s, before.to, rules, p, work, m);
     judge(counters, m, n, room, recorded)?;
     let entries = recorded + ids_in(m) + 1;
     Ok(put(res, trail, work, before, p, n, entries))

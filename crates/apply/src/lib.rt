@@ -3,4 +3,4 @@
 
 pub mod apply;
 pub mod judge;
-mod left;
+pub mod left;

@@ -23,8 +23,8 @@ pub record Callee (g : Grammar) (cycle : List ℕ) (c : Cycle) (m i : ℕ) : Typ
 
 -- What is known by places is what a grammar says by ids.
 pub record Tells (g : Grammar) (cycle : List ℕ) (c : Cycle) : Type 0 where
-  pub unknown : (m : ℕ) → Nowhere c.names.now c.n m → target g m ≡ none
-  pub rule : (m i : ℕ) → At c.names.now c.n m i → Callee g cycle c m i
+  pub unknown : (m : ℕ) → Nowhere c.names.list.now c.names.n m → target g m ≡ none
+  pub rule : (m i : ℕ) → At c.names.list.now c.names.n m i → Callee g cycle c m i
 
 -- Whether a call of a name in front is settled outside the cycle.
 pub record NameSettles (c : Cycle) (m : ℕ) (r : Bool) : Type 0 where

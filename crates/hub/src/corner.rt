@@ -7,7 +7,6 @@ ghost use Rattle.words.specs.Kinds.{kind_number};
 ghost use Rattle.words.specs.Sheet.{text};
 
 use crate::cycle::Cycle;
-use analysis::names::scan;
 use analysis::ruled::Ruled;
 use ends::ends::alternative_end;
 use reach::rows::{Row, collect, has};
@@ -22,7 +21,9 @@ fn name_settles(c: &Cycle, name: u32) -> bool
 {
     let members = c.members;
     let nullable = c.nullable;
-    scan(c.names, c.n, name).is_none_or(|i| !has(members, i) & !has(nullable, i))
+    c.names
+        .scan(name)
+        .is_none_or(|i| !has(members, i) & !has(nullable, i))
 }
 
 // n elements from `at` on: the first that is significant decides.
@@ -64,7 +65,7 @@ fn any_settled(s: &Sheet, c: &Cycle, n: u32, at: usize) -> bool
 
 // Rule i, which stands at `at`: a member with an alternative that begins outside.
 fn is_candidate(s: &Sheet, c: &Cycle, i: usize, at: usize) -> bool
-    requires bounds { (i < c.now.n) × (at + 4 ≤ s.now.end) }
+    requires bounds { (i < c.now.names.n) × (at + 4 ≤ s.now.end) }
     requires found_rule { FoundRule (text s.now) s.now.end at }
     ensures { IsCandidate c.now (text s.now) s.now.end i at result }
 {
@@ -74,9 +75,9 @@ fn is_candidate(s: &Sheet, c: &Cycle, i: usize, at: usize) -> bool
 
 // Every rule looked at.
 pub fn candidates(g: &Ruled, c: &Cycle) -> [u64; Row::WORDS]
-    requires bounds { c.now.n ≡ g.now.rules.now.n }
+    requires bounds { c.now.names.n ≡ g.now.rules.now.n }
     ensures { Candidates c.now (text g.now.s.now) g.now.s.now.end g.now.rules.now.places g.now.rules.now.n result }
 {
     let places = g.rules.places;
-    collect(c.n, |i| is_candidate(g.s, c, i, places[i] as usize))
+    collect(c.names.n, |i| is_candidate(g.s, c, i, places[i] as usize))
 }

@@ -1,19 +1,13 @@
 // A cycle whose corners are looked at.
-ghost use Rattle.std.specs.Prelude.{◌≤◌};
-ghost use Rattle.grammar.specs.Numbers.{rule_limit};
-ghost use Rattle.analysis.specs.Names.{Told};
-
+use analysis::names::Names;
 use reach::rows::Row;
 
-// A cycle among n rules: their names by place, which rules are its members, and which rules are nullable.
+// A cycle among rules: their names, which rules are its members, and which rules are nullable.
 // Stays: that of `steps` differs in its last field alone, which is the place of the hub. One type for both, over that field's type, would
 // call both by one name that says neither.
 #[derive(Clone, Copy, Debug, PartialEq, Eq)]
 pub struct Cycle<'a> {
-    pub names: &'a [u32],
-    pub n: usize,
+    pub names: Names<'a>,
     pub members: [u64; Row::WORDS],
     pub nullable: [u64; Row::WORDS],
-    ghost few: { n ≤ rule_limit },
-    ghost told: { Told names.now n },
 }

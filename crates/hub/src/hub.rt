@@ -25,10 +25,8 @@ pub fn choose_hub(
 {
     let n = g.rules.n as usize;
     let ids = g.rules.ids;
-    let names = g.rules.names;
     let c = Cycle {
-        names: &names,
-        n,
+        names: g.names(),
         members,
         nullable,
     };

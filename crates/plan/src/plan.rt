@@ -85,12 +85,9 @@ fn make(
         f.now.ground.marks f.now.ground.kept members limits hub work.new result }
 {
     let g = f.g;
-    let n = g.rules.n as usize;
     let most = budget(g, members, limits.floor);
-    let names = g.rules.names;
     let c = Cycle {
-        names: &names,
-        n,
+        names: g.names(),
         members,
         hub,
     };

@@ -9,7 +9,6 @@ ghost use Rattle.words.specs.Sheet.{text};
 use crate::places::rules_less;
 use analysis::corners::Corners;
 use analysis::known::Known;
-use analysis::names::put_names;
 use analysis::rounds::{Marks, Rows};
 use analysis::ruled::Ruled;
 use analysis::survey::survey_rule;
@@ -47,14 +46,12 @@ fn survey_hub(
     ensures same_nullable { result.nullable ≡ marks.nullable }
     ensures work_after { work.new ≡ table_with g.now.rules.now.names g.now.rules.now.n work.old }
 {
-    let names = g.rules.names;
+    let names = g.names();
     let places = g.rules.places;
-    let n = g.rules.n as usize;
     let nullable = marks.nullable;
-    put_names(&names, n, work);
+    names.put(work);
     let known = Known {
-        names: &names,
-        n,
+        names,
         table: work,
         nullable,
         reading,

@@ -36,10 +36,10 @@ fn judge_alternative(
     members: [u64; Row::WORDS],
     hub: usize,
 ) -> Option<Verdict>
-    requires { hub < v.now.n }
+    requires { hub < v.now.names.n }
     ensures { VerdictOf (view_of v.now) members hub inner_depth (meant a.now).elements result }
 {
-    let name = v.names[hub];
+    let name = v.names.list[hub];
     if !may_be_rewritten(a, name) {
         return None;
     }
@@ -63,7 +63,7 @@ fn judge_list(
     work: &[u8],
     l: Sizes,
 ) -> Option<[u64; Row::WORDS]>
-    requires bounds { hub < v.now.n }
+    requires bounds { hub < v.now.names.n }
     requires laid { Laid work.now l × AllIn (text s.now) s.now.end inner_depth work.now l }
     ensures { JudgedOf (view_of v.now) members hub inner_depth
         (settled (text s.now) s.now.end inner_depth work.now l) result }
@@ -97,10 +97,8 @@ pub fn judge(
     requires laid { Laid work.now l × AllIn (text g.now.s.now) g.now.s.now.end inner_depth work.now l }
     ensures { JudgedFound (text g.now.s.now) g.now.s.now.end g.now.rules.now nullable (corners_of reading) members hub work.now l result }
 {
-    let names = g.rules.names;
     let v = Known {
-        names: &names,
-        n: g.rules.n as usize,
+        names: g.names(),
         table: &g.s.bytes[..0],
         nullable,
         reading,

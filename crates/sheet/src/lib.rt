@@ -5,7 +5,6 @@ pub mod answer;
 mod counts;
 mod judge;
 mod refused;
-pub mod trailer;
 
 ghost use Rattle.std.specs.Prelude.{◌≡◌};
 ghost use Rattle.sheet.specs.Answer.{ReadAs, read_lent, work_after};

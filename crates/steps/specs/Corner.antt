@@ -20,7 +20,7 @@ use Rattle.steps.specs.declared.corner.Corner.TheVariants.{Settled, Blocked, Opt
 -- An index of n elements, and a member of the cycle.
 pub record MemberIn (c : Cycle) (n : ℕ) (p : Place) : Type 0 where
   pub index : p.index < n
-  pub rule : p.target < c.n
+  pub rule : p.target < c.names.n
   pub member : bit c.members p.target ≡ true
 
 -- A corner by places as one by ids.
@@ -39,10 +39,10 @@ CornerIn c n (Satellite p) = MemberIn c n p × (p.target ≡ c.hub → ⊥)
 
 -- What a grammar, a cycle and its hub are by ids, they are here by places.
 pub record CycleBy (g : Grammar) (cycle ids names : List ℕ) (c : Cycle) : Type 0 where
-  pub unknown : (m : ℕ) → Nowhere names c.n m → target g m ≡ none
-  pub known : (m t : ℕ) → At names c.n m t → target g m ≡ some (get_or ids t 0)
-  pub members : (t : ℕ) → t < c.n → member (get_or ids t 0) cycle ≡ bit c.members t
-  pub hub : (t : ℕ) → t < c.n → eqb (get_or ids t 0) (get_or ids c.hub 0) ≡ eqb t c.hub
+  pub unknown : (m : ℕ) → Nowhere names c.names.n m → target g m ≡ none
+  pub known : (m t : ℕ) → At names c.names.n m t → target g m ≡ some (get_or ids t 0)
+  pub members : (t : ℕ) → t < c.names.n → member (get_or ids t 0) cycle ≡ bit c.members t
+  pub hub : (t : ℕ) → t < c.names.n → eqb (get_or ids t 0) (get_or ids c.hub 0) ≡ eqb t c.hub
 
 -- A call's words say that it is bare; an element's word and mark say its quantifier.
 abbrev pub bare_at : List ℕ → ℕ → ℕ → Bool
@@ -67,8 +67,8 @@ met_corner ids (Some r) k = met_corner_by ids r
 abbrev pub MetIn : Cycle → ℕ → Corner → Type 0
 MetIn c i Settled = Unit {0}
 MetIn c i Blocked = Unit {0}
-MetIn c i (Optional p) = (p.index ≡ i) × (p.target < c.n) × (bit c.members p.target ≡ true)
-MetIn c i (Satellite p) = (p.index ≡ i) × (p.target < c.n) × (bit c.members p.target ≡ true) × (p.target ≡ c.hub → ⊥)
+MetIn c i (Optional p) = (p.index ≡ i) × (p.target < c.names.n) × (bit c.members p.target ≡ true)
+MetIn c i (Satellite p) = (p.index ≡ i) × (p.target < c.names.n) × (bit c.members p.target ≡ true) × (p.target ≡ c.hub → ⊥)
 
 -- At a call of a member, by tests: whether it is optional, bare, once, and of the hub.
 abbrev pub met_by : (is_optional bare is_once of_hub : Bool) → Place → Corner

@@ -8,7 +8,6 @@ ghost use Rattle.words.specs.Kinds.{quantifier_number};
 ghost use Rattle.words.specs.Sheet.{text};
 
 use crate::cycle::Cycle;
-use analysis::names::scan;
 use planned::list::Item;
 use planned::shown::Shown;
 use reach::rows::has;
@@ -56,10 +55,10 @@ fn meet_member(bare: bool, quantifier: Quantifier, p: Place, hub: usize) -> Corn
 
 // A call of a name, at an index; one of no rule, or of a rule outside the cycle, is settled.
 fn meet_call(c: &Cycle, index: usize, name: u32, bare: bool, quantifier: Quantifier) -> Corner
-    ensures { CallMet c.now.names.now c.now index name bare (quantifier_number quantifier) result }
+    ensures { CallMet c.now.names.list.now c.now index name bare (quantifier_number quantifier) result }
 {
     let members = c.members;
-    match scan(c.names, c.n, name) {
+    match scan(c.names, c.names.n, name) {
         Some(target) if has(members, target) => {
             meet_member(bare, quantifier, Place { index, target }, c.hub)
         }
@@ -83,7 +82,7 @@ fn quantifier_of(s: &Sheet, x: Item) -> Quantifier
 // The element at an index of the list: nothing, where it takes no input.
 fn meet_item(s: &Sheet, c: &Cycle, index: usize, x: Item) -> Option<Corner>
     requires { FoundElement (text s.now) s.now.end inner_depth x.at }
-    ensures { ItemMet c.now.names.now c.now (text s.now) s.now.end inner_depth index x.at x.plain result }
+    ensures { ItemMet c.now.names.list.now c.now (text s.now) s.now.end inner_depth index x.at x.plain result }
 {
     let head = element_head(s, Block::DEPTH, x.at);
     let kind = head.kind;
@@ -101,7 +100,7 @@ fn meet_item(s: &Sheet, c: &Cycle, index: usize, x: Item) -> Option<Corner>
 
 // The corner of an alternative that is listed.
 pub fn find_corner(a: &Shown, c: &Cycle) -> Corner
-    ensures { CornerAt c.now.names.now c.now (text a.now.s.now) a.now.s.now.end inner_depth a.now.work.now a.now.x result }
+    ensures { CornerAt c.now.names.list.now c.now (text a.now.s.now) a.now.s.now.end inner_depth a.now.work.now a.now.x result }
 {
     for i in 0..a.x.ne {
         if let Some(met) = meet_item(a.s, c, i, a.item(i)) {

@@ -27,7 +27,7 @@ use words::words::word;
 fn look_step(task: &Task, work: &mut [u8], h: Listed, p: Place, step: Step) -> Unplanned
     requires bounds { Located work.old h × InHand h × Reached task.now.c h.ne p (splits step) }
     requires listed_in { ListedIn (text task.now.s.now) task.now.s.now.end inner_depth work.old h }
-    ensures { StepLooked (text task.now.s.now) task.now.s.now.end task.now.c.names.now task.now.places.now task.now.c task.now.budget
+    ensures { StepLooked (text task.now.s.now) task.now.s.now.end task.now.c.names.list.now task.now.places.now task.now.c task.now.budget
         work.old work.new h p (splits step) result }
 {
     if task.budget == 0 {
@@ -44,7 +44,7 @@ fn look_step(task: &Task, work: &mut [u8], h: Listed, p: Place, step: Step) -> U
 fn look_hand(task: &Task, work: &mut [u8], h: Listed) -> Result<(), Unplanned>
     requires bounds { Located work.old h × InHand h }
     requires listed_in { ListedIn (text task.now.s.now) task.now.s.now.end inner_depth work.old h }
-    ensures { HandLooked (text task.now.s.now) task.now.s.now.end task.now.c.names.now task.now.places.now task.now.c task.now.budget
+    ensures { HandLooked (text task.now.s.now) task.now.s.now.end task.now.c.names.list.now task.now.places.now task.now.c task.now.budget
         work.old work.new h result }
 {
     let s = task.s;
@@ -60,7 +60,7 @@ fn look_hand(task: &Task, work: &mut [u8], h: Listed) -> Result<(), Unplanned>
 fn look_at(task: &Task, work: &mut [u8], at: usize) -> Result<(), Unplanned>
     requires bounds { work_bytes ≤ length work.old }
     requires found_alternative { FoundAlternative (text task.now.s.now) task.now.s.now.end inner_depth at }
-    ensures { LookedAt (text task.now.s.now) task.now.s.now.end task.now.c.names.now task.now.places.now task.now.c task.now.budget at
+    ensures { LookedAt (text task.now.s.now) task.now.s.now.end task.now.c.names.list.now task.now.places.now task.now.c task.now.budget at
         work.old work.new result }
 {
     let h = hub_in_hand(task.s, at, work);
@@ -71,7 +71,7 @@ fn look_at(task: &Task, work: &mut [u8], at: usize) -> Result<(), Unplanned>
 fn look_all(task: &Task, work: &mut [u8], at: usize) -> Result<Option<Done>, Unplanned>
     requires bounds { work_bytes ≤ length work.old }
     requires at_value { (at ≡ get_or task.now.places.now task.now.c.hub 0) × (at + 4 ≤ task.now.s.now.end) }
-    ensures { Unstored (text task.now.s.now) task.now.s.now.end task.now.c.names.now task.now.places.now task.now.c task.now.budget
+    ensures { Unstored (text task.now.s.now) task.now.s.now.end task.now.c.names.list.now task.now.places.now task.now.c task.now.budget
         work.new result }
 {
     let s = task.s;
@@ -87,7 +87,7 @@ fn look_all(task: &Task, work: &mut [u8], at: usize) -> Result<Option<Done>, Unp
 // The hub of a cycle.
 pub fn unstored(task: &Task, work: &mut [u8]) -> Result<Option<Done>, Unplanned>
     requires bounds { work_bytes ≤ length work.old }
-    ensures { Unstored (text task.now.s.now) task.now.s.now.end task.now.c.names.now task.now.places.now task.now.c task.now.budget
+    ensures { Unstored (text task.now.s.now) task.now.s.now.end task.now.c.names.list.now task.now.places.now task.now.c task.now.budget
         work.new result }
 {
     look_all(task, work, task.hub())

@@ -50,9 +50,9 @@ fn begin(task: &Task, at: usize, all: Size) -> State
 // The list is within the limits from the first, and stored: turns until nothing is left to look at, or one ends it.
 fn stored(task: &Task, first: State, work: &mut [u8]) -> Result<Option<Done>, Unplanned>
     requires shut { Shut (Ready (text task.now.s.now) task.now.s.now.end work.old first 0 0 0) }
-    requires going { Shut (Going (text task.now.s.now) task.now.s.now.end task.now.c.names.now task.now.places.now task.now.c
+    requires going { Shut (Going (text task.now.s.now) task.now.s.now.end task.now.c.names.list.now task.now.places.now task.now.c
         task.now.limits task.now.budget work.old first) }
-    ensures { MadeOf (text task.now.s.now) task.now.s.now.end task.now.c.names.now task.now.places.now task.now.c task.now.limits
+    ensures { MadeOf (text task.now.s.now) task.now.s.now.end task.now.c.names.list.now task.now.places.now task.now.c task.now.limits
         task.now.budget work.new result }
 {
     let mut st = first;
@@ -68,7 +68,7 @@ fn stored(task: &Task, first: State, work: &mut [u8]) -> Result<Option<Done>, Un
 // The hub's own list is stored if it is within the limits.
 fn run(task: &Task, work: &mut [u8]) -> Result<Option<Done>, Unplanned>
     requires bounds { work_bytes ≤ length work.old }
-    ensures { MadeOf (text task.now.s.now) task.now.s.now.end task.now.c.names.now task.now.places.now task.now.c task.now.limits
+    ensures { MadeOf (text task.now.s.now) task.now.s.now.end task.now.c.names.list.now task.now.places.now task.now.c task.now.limits
         task.now.budget work.new result }
 {
     let at = task.hub();
@@ -91,8 +91,8 @@ pub fn substitute(
     work: &mut [u8],
 ) -> Result<Option<Done>, Unplanned>
     requires bounds { (s.now.end ≤ most_words) × (work_bytes ≤ length work.old) }
-    requires ground { Ground (text s.now) s.now.end c.now.names.now places.now c.now }
-    ensures { MadeOf (text s.now) s.now.end c.now.names.now places.now c.now limits budget work.new result }
+    requires ground { Ground (text s.now) s.now.end c.now.names.list.now places.now c.now }
+    ensures { MadeOf (text s.now) s.now.end c.now.names.list.now places.now c.now limits budget work.new result }
 {
     let task = Task {
         s,

@@ -18,7 +18,7 @@ pub record Ground (ws : List ℕ) (end : ℕ) (names places : List ℕ) (c : Cyc
   pub named : rules.names ≡ names
   pub placed : rules.places ≡ places
   pub small : end ≤ most_words
-  pub count : c.n ≡ rules.n
+  pub count : c.names.n ≡ rules.n
   pub hub : c.hub < rules.n
   pub nullable : List ℕ
   pub empty : RowOf rules.ids rules.n (nullable_rules body_depth (rules_of ws end rules standing)) nullable

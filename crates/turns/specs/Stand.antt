@@ -17,8 +17,8 @@ pub record RuleStands (ws : List ℕ) (end at name : ℕ) : Type 0 where
 
 -- So it is at the place of each of the rules; the hub is one of them, and the other members of the cycle can be inlined.
 pub record RulesStand (ws : List ℕ) (end : ℕ) (places : List ℕ) (c : Cycle) : Type 0 where
-  pub hub : c.hub < c.n
-  pub long : c.n ≤ length places
-  pub stands : (i : ℕ) → i < c.n → RuleStands ws end (get_or places i 0) (get_or c.names.now i 0)
-  pub inlinable : (i : ℕ) → i < c.n → bit c.members i ≡ true → (i ≡ c.hub → ⊥) → (t : Rule) (q : ℕ)
+  pub hub : c.hub < c.names.n
+  pub long : c.names.n ≤ length places
+  pub stands : (i : ℕ) → i < c.names.n → RuleStands ws end (get_or places i 0) (get_or c.names.list.now i 0)
+  pub inlinable : (i : ℕ) → i < c.names.n → bit c.members i ≡ true → (i ≡ c.hub → ⊥) → (t : Rule) (q : ℕ)
       → RuleSpans ws end body_depth (get_or places i 0) t q → satellite_is_inlinable inner_depth t ≡ true

@@ -34,13 +34,13 @@ impl Task<'_> {
 
     // The call of the member that is met at a place.
     pub fn call(&self, p: Place, step: Step) -> Call
-        requires { (p.target < length self.now.c.names.now) × (p.target < length self.now.places.now) }
-        ensures { result ≡ call_of self.now.c.names.now self.now.places.now p step }
+        requires { (p.target < length self.now.c.names.list.now) × (p.target < length self.now.places.now) }
+        ensures { result ≡ call_of self.now.c.names.list.now self.now.places.now p step }
     {
         let i = p.target;
         Call {
             index: p.index,
-            name: self.c.names[i],
+            name: self.c.names.list[i],
             at: self.places[i] as usize,
             step,
         }

@@ -158,7 +158,7 @@ fn step(task: &Task, work: &mut [u8], t: Taken, k: Call) -> Result<State, Unplan
 // A step at a member of the cycle that is called.
 fn step_at(task: &Task, work: &mut [u8], t: Taken, p: Place, by: Step) -> Result<State, Unplanned>
     requires shut { Shut (With (text task.now.s.now) task.now.s.now.end work.old t.st (listed_of t.x)) }
-    requires called_at { CalledAt (text task.now.s.now) task.now.s.now.end work.old task.now.c.names.now task.now.places.now
+    requires called_at { CalledAt (text task.now.s.now) task.now.s.now.end work.old task.now.c.names.list.now task.now.places.now
         (listed_of t.x) p (splits by) }
     ensures { SteppedTo (text task.now.s.now) task.now.s.now.end work.old work.new t.st (listed_of t.x) p.index
         (get_or task.now.places.now p.target 0) (splits by) task.now.limits result }
@@ -180,7 +180,7 @@ pub fn stuck(budget: usize) -> Clause
 // What was taken is settled, or a step is made on it.
 fn act(task: &Task, work: &mut [u8], t: Taken) -> Result<State, Unplanned>
     requires shut { Shut (With (text task.now.s.now) task.now.s.now.end work.old t.st (listed_of t.x)) }
-    ensures { ActedOn (text task.now.s.now) task.now.s.now.end task.now.c.names.now task.now.places.now task.now.c task.now.limits
+    ensures { ActedOn (text task.now.s.now) task.now.s.now.end task.now.c.names.list.now task.now.places.now task.now.c task.now.limits
         work.old work.new t.st (listed_of t.x) result }
 {
     let x = t.x.listed();
@@ -197,7 +197,7 @@ fn act(task: &Task, work: &mut [u8], t: Taken) -> Result<State, Unplanned>
 pub fn take_turn(task: &Task, work: &mut [u8], st: State) -> Result<State, Unplanned>
     requires bounds { HasNext st }
     requires shut { Shut (Ready (text task.now.s.now) task.now.s.now.end work.old st 0 0 0) }
-    ensures { TurnedTo (text task.now.s.now) task.now.s.now.end task.now.c.names.now task.now.places.now task.now.c task.now.limits
+    ensures { TurnedTo (text task.now.s.now) task.now.s.now.end task.now.c.names.list.now task.now.places.now task.now.c task.now.limits
         work.old work.new st result }
 {
     let t = take(task.s, work, st);

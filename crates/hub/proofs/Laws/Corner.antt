@@ -29,7 +29,7 @@ use Rattle.hub.specs.Corner.{Tells, NameSettles, Settles}
 use Rattle.hub.specs.declared.cycle.Cycle.{Cycle}
 
 -- A call of a name, by the rule that has it.
-pub name_settled : {m : ℕ} (c : Cycle) (t : Rust.Option ℕ) → IsTarget c.names.now c.n m t → {r : Bool}
+pub name_settled : {m : ℕ} (c : Cycle) (t : Rust.Option ℕ) → IsTarget c.names.list.now c.names.n m t → {r : Bool}
     → MatchOption t (r ≡ true) (λ i. r ≡ (not (bit c.members i) && not (bit c.nullable i))) → NameSettles c m r
 name_settled {m = m} c None a h = record { by = λ g cycle f. rw (f.unknown m (a.unknown refl)) h }
 name_settled {m = m} c (Some i) a h =

@@ -121,7 +121,7 @@ module _ {ws : List ℕ} {end : ℕ} {rules : Rules} (s : Standing ws end rules)
     pub target_none : (m : ℕ) → Nowhere rules.names rules.n m → target grammar m ≡ none
     target_none m w = no_target m (target grammar m) refl w
 
-    pub tells : (y : Cycle) → y.names.now ≡ rules.names → y.n ≡ rules.n → y.members ≡ members → y.nullable ≡ nullable → Tells grammar cycle y
+    pub tells : (y : Cycle) → y.names.list.now ≡ rules.names → y.names.n ≡ rules.n → y.members ≡ members → y.nullable ≡ nullable → Tells grammar cycle y
     tells y names count inside empty =
         record {
           unknown = λ m w. target_none m (rw (names, count) at w);

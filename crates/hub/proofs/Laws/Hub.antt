@@ -34,13 +34,13 @@ use Rattle.hub.proofs.Laws.Grounds.{row_bit, at_place, place_low, with_id, id_pl
 -- The candidates among the members, by a cycle of the rules' names, these members and a row of nullable rules.
 pub record CandidatesBy (ws : List ℕ) (end : ℕ) (rules : Rules) (members can nullable : List ℕ) : Type 0 where
   pub cycle : Cycle
-  pub named : cycle.names.now ≡ rules.names
-  pub count : cycle.n ≡ rules.n
+  pub named : cycle.names.list.now ≡ rules.names
+  pub count : cycle.names.n ≡ rules.n
   pub inside : cycle.members ≡ members
   pub empty : cycle.nullable ≡ nullable
   pub candidates : Candidates cycle ws end rules.places rules.n can
 
-pub candidates_by : {ws : List ℕ} {end : ℕ} {rules : Rules} {can : List ℕ} (y : Cycle) → y.names.now ≡ rules.names → y.n ≡ rules.n
+pub candidates_by : {ws : List ℕ} {end : ℕ} {rules : Rules} {can : List ℕ} (y : Cycle) → y.names.list.now ≡ rules.names → y.names.n ≡ rules.n
     → Candidates y ws end rules.places rules.n can → CandidatesBy ws end rules y.members can y.nullable
 candidates_by y a b f = record { cycle = y; named = a; count = b; inside = refl; empty = refl; candidates = f }
 

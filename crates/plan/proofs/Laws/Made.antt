@@ -71,9 +71,17 @@ module _ {ws : List ℕ} {end : ℕ} {rules : Rules} {reading : Corners} {calls 
     pub hub_standing : Standing ws end rules
     hub_standing = x.known.known.standing
 
+-- What was made is so by the rules' names.
+by_names : {ws : List ℕ} {end : ℕ} (rules : Rules) {y : Cycle} {limits : Limits} {most : ℕ} {bs : List ℕ} {made : Result (Option Done) Unplanned}
+    → y.names.list.now ≡ rules.names → MadeOf ws end y.names.list.now rules.places y limits most bs made
+    → MadeOf ws end rules.names rules.places y limits most bs made
+by_names {ws} {end} rules {y} {limits} {most} {bs} {made} named w =
+    subst (λ ns. MadeOf ws end ns rules.places y limits most bs made) named w
+
 module _ {ws : List ℕ} {end : ℕ} {rules : Rules} {reading : Corners} {calls : List (List ℕ)} {marks : Marks} {kept : List ℕ}
     {y : Cycle} where
-  pub ground_of : HubKnown ws end rules reading calls marks kept y.members y.hub → y.n ≡ rules.n → Ground ws end rules.names rules.places y
+  pub ground_of : HubKnown ws end rules reading calls marks kept y.members y.hub → y.names.n ≡ rules.n
+      → Ground ws end rules.names rules.places y
   ground_of x e =
       record {
         rules = rules;
@@ -90,9 +98,13 @@ module _ {ws : List ℕ} {end : ℕ} {rules : Rules} {reading : Corners} {calls 
         inlinable = λ i a. satellite x a;
       }
 
-  module _ {most : ℕ} {limits : Limits} {bs : List ℕ} {made : Result (Option Done) Unplanned} (count : y.n ≡ rules.n)
-      (b : IsBudget ws end rules y.members limits.floor most)
-      (v : MadeOf ws end rules.names rules.places y limits most bs made) where
+  pub ground_named : HubKnown ws end rules reading calls marks kept y.members y.hub → y.names.list.now ≡ rules.names → y.names.n ≡ rules.n
+      → Ground ws end y.names.list.now rules.places y
+  ground_named x named e = subst (λ ns. Ground ws end ns rules.places y) (sym named) (ground_of x e)
+
+  module _ {most : ℕ} {limits : Limits} {bs : List ℕ} {made : Result (Option Done) Unplanned} (named : y.names.list.now ≡ rules.names)
+      (count : y.names.n ≡ rules.n) (b : IsBudget ws end rules y.members limits.floor most)
+      (w : MadeOf ws end y.names.list.now rules.places y limits most bs made) where
     module _ (x : HubKnown ws end rules reading calls marks kept y.members y.hub) (a : Among (known_rules x.known) y.hub) where
       -- The definition's substitution.
       whole : Decided (Substituted inner_depth)
@@ -110,7 +122,7 @@ module _ {ws : List ℕ} {end : ℕ} {rules : Rules} {reading : Corners} {calls 
       unfolding whole ground_of
       made_to {r} e =
           let z = b.is x.known.known.standing (limits_of limits) refl x.known.cycle x.known.is_cycle in
-          subst (MadeTo ws end bs whole) e (rw z at (v.is (ground_of x count) a))
+          subst (MadeTo ws end bs whole) e (rw z at ((by_names rules named w).is (ground_of x count) a))
 
     -- A list was made.
     module _ {done : Done} (e : made ≡ Ok (Some done)) where

@@ -69,7 +69,7 @@ same_tests ids p false x true true f = refl
 same_tests ids p false true true false f = refl
 same_tests ids p false false true false f = refl
 
-module _ (c : Cycle) (p : Place) (l : p.target < c.n) (m : bit c.members p.target ≡ true) where
+module _ (c : Cycle) (p : Place) (l : p.target < c.names.n) (m : bit c.members p.target ≡ true) where
   met_by_lem : (a x b y : Bool) → eqb p.target c.hub ≡ y → MetIn c p.index (met_by a x b y p)
   met_by_lem true true b y h = (refl, l, m)
   met_by_lem true false b y h = tt
@@ -82,7 +82,7 @@ module _ (c : Cycle) (p : Place) (l : p.target < c.n) (m : bit c.members p.targe
   met_in bare q = met_by_lem (eqb q optional_greedy) bare (eqb q once) (eqb p.target c.hub) refl
 
 -- A call of a name.
-module _ {names : List ℕ} {name : ℕ} {r : P.Option ℕ} (c : Cycle) (a : IsTarget names c.n name r) (i : ℕ) (bare : Bool) (q : ℕ) where
+module _ {names : List ℕ} {name : ℕ} {r : P.Option ℕ} (c : Cycle) (a : IsTarget names c.names.n name r) (i : ℕ) (bare : Bool) (q : ℕ) where
   corner_of : (g : Grammar) (cycle : List ℕ) (hub : ℕ) (d : ℕ) (h : ElementHead) (k : Call) (es : List (Element (Block d))) (o : Option ℕ)
       → target g k.name ≡ o
       → planned_corner g cycle hub (leaf h (call k) ∷ es)
@@ -124,7 +124,7 @@ module _ {names : List ℕ} {name : ℕ} {r : P.Option ℕ} (c : Cycle) (a : IsT
         }
       where
         meant : (g : Grammar) (cycle ids : List ℕ) → CycleBy g cycle ids names c → (d : ℕ) (h : ElementHead) (k : Call) → h.quantifier ≡ q
-            → bare_reference h k ≡ bare → (es : List (Element (Block d))) → t < c.n
+            → bare_reference h k ≡ bare → (es : List (Element (Block d))) → t < c.names.n
             → member_corner (get_or ids c.hub 0) h k (get_or ids t 0)
             ≡ met_corner_by ids m
         meant g cycle ids b d h k u v es l =

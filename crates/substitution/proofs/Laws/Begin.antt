@@ -112,7 +112,7 @@ module _ {ws : List ℕ} {end : ℕ} {places : List ℕ} {c : Cycle} (s : RulesS
           first : (g : Ground ws end names places c) (a : Among (rules_of ws end g.rules g.standing) c.hub)
               → Substituting (task_of g (limits_of limits)) budget (as_they_are a.rule.body) st.budget st.steps [] (as_they_are hub_stands.tree.body)
           first g a =
-              let l : c.hub < c.n = let e = g.count in let h = g.hub in omega arith in
+              let l : c.hub < c.names.n = let e = g.count in let h = g.hub in omega arith in
               let same = target_tree g l e a hub_stands.spans in
               record {
                 same =

@@ -115,7 +115,7 @@ module _ (ws : List ℕ) (end : ℕ) (names places : List ℕ) (c : Cycle) (left
     pub so : (b : Ground ws end names places c) (limits : R.Limits) (a : Among (rules_of ws end b.rules b.standing) c.hub)
         → Behind (task_of b limits) left (as_they_are a.rule.body) found.trees
 
-pub hub_low : {ws : List ℕ} {end : ℕ} {names places : List ℕ} {c : Cycle} → Ground ws end names places c → c.hub < c.n
+pub hub_low : {ws : List ℕ} {end : ℕ} {names places : List ℕ} {c : Cycle} → Ground ws end names places c → c.hub < c.names.n
 hub_low b = let e = b.count in let l = b.hub in omega arith
 
 module _ {ws : List ℕ} {end : ℕ} {places : List ℕ} {c : Cycle} (s : RulesStand ws end places c) where

@@ -44,7 +44,7 @@ stuck_stops p s = record { spent = s.spent; declines = λ f. rw (s.blocked f) (r
 -- What is needed where a member is met.
 module _ {ws : List ℕ} {end : ℕ} {places : List ℕ} {c : Cycle} (s : RulesStand ws end places c) {n : ℕ} {p : Place} {optional : Bool}
     (r : Reached c n p optional) where
-  pub reached_name : p.target < length c.names.now
+  pub reached_name : p.target < length c.names.list.now
   reached_name = member_name s r.member.rule
 
   pub reached_place : p.target < length places
@@ -57,7 +57,7 @@ module _ {ws : List ℕ} {end : ℕ} {places : List ℕ} {c : Cycle} (s : RulesS
     pub reached_room : at + 4 ≤ end
     reached_room = member_room s r.member.rule e
 
-    pub reached_named : {name : ℕ} → name ≡ get_or c.names.now p.target 0 → RuleNamed ws end inner_depth at name
+    pub reached_named : {name : ℕ} → name ≡ get_or c.names.list.now p.target 0 → RuleNamed ws end inner_depth at name
     reached_named f = member_named s r.member.rule e f
 
     pub reached_unreferring : optional ≡ false → RuleUnreferring ws end inner_depth at

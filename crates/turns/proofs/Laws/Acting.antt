@@ -53,8 +53,8 @@ module _ {ws : List ℕ} {end : ℕ} {bs : List ℕ} {st : State} {x : Listed} (
       record { alternatives = omega arith; elements = omega arith; options = omega arith }
 
 module _ {ws : List ℕ} {end : ℕ} {places : List ℕ} {c : Cycle} (s : RulesStand ws end places c) {bs : List ℕ} {x : Listed}
-    {k : Corner} (o : CornerAt c.names.now c ws end inner_depth bs x k) {p : Place} where
-  pub optional_called : k ≡ C.Optional p → CalledAt ws end bs c.names.now places x p true
+    {k : Corner} (o : CornerAt c.names.list.now c ws end inner_depth bs x k) {p : Place} where
+  pub optional_called : k ≡ C.Optional p → CalledAt ws end bs c.names.list.now places x p true
   optional_called e =
       let q = rw e at o in
       let i = q.within in
@@ -67,7 +67,7 @@ module _ {ws : List ℕ} {end : ℕ} {places : List ℕ} {c : Cycle} (s : RulesS
             (λ f. absurd (let y : ◌≡◌ {A = ℕ} 0 1 = cc in omega arith)) (λ f. call_in s.hub q);
       }
 
-  pub satellite_called : k ≡ C.Satellite p → CalledAt ws end bs c.names.now places x p false
+  pub satellite_called : k ≡ C.Satellite p → CalledAt ws end bs c.names.list.now places x p false
   satellite_called e =
       let q = rw e at o in
       let i = q.within.0 in
@@ -136,7 +136,7 @@ module _ {ws : List ℕ} {end : ℕ} {names places : List ℕ} {c : Cycle} (limi
   module _ {after : List ℕ} {p : Place} {optional : Bool} {r : Result State Unplanned}
       (s : SteppedTo ws end before after st x p.index (get_or places p.target 0) optional limits r) where
     -- The rule at the member's place.
-    module _ (l : p.target < c.n)
+    module _ (l : p.target < c.names.n)
         (f : (b : Ground ws end names places c) (a : Among (rules_of ws end b.rules b.standing) p.target)
         → Replaced (task_of b (limits_of limits)) (meaning ws end inner_depth before x)
         (step_by inner_depth (meaning ws end inner_depth before x) p.index a.rule optional)) where

@@ -150,8 +150,8 @@ module _ {ws : List ℕ} {end : ℕ} {names places : List ℕ} {c : Cycle} (b : 
     satellite_corner k = replaced_satellite (task_of b limits) (meaning ws end inner_depth bs x) (with_id b.standing a) (corner_is k)
 
 -- The element that is split is a call.
-pub call_in : {ws : List ℕ} {end : ℕ} {c : Cycle} {bs : List ℕ} {x : Listed} {p : Place} → c.hub < c.n
-    → CornerAt c.names.now c ws end inner_depth bs x (C.Optional p) → CallIn (meaning ws end inner_depth bs x).elements p.index
+pub call_in : {ws : List ℕ} {end : ℕ} {c : Cycle} {bs : List ℕ} {x : Listed} {p : Place} → c.hub < c.names.n
+    → CornerAt c.names.list.now c ws end inner_depth bs x (C.Optional p) → CallIn (meaning ws end inner_depth bs x).elements p.index
 call_in {ws} {end} {c} {bs} {x} h k =
     corner_call (grammar_told c) _ _ (meaning ws end inner_depth bs x).elements (k.is (grammar_told c) _ _ (cycle_told c h))
 
@@ -165,7 +165,7 @@ one_tree ws end d {at} {p} {q} {r} {t} s u =
 
 -- The rule at a member's place.
 module _ {ws : List ℕ} {end : ℕ} {names places : List ℕ} {c : Cycle} (b : Ground ws end names places c) {i at : ℕ}
-    (l : i < c.n) (e : at ≡ get_or places i 0) where
+    (l : i < c.names.n) (e : at ≡ get_or places i 0) where
   place : at ≡ get_or b.rules.places i 0
   place = e ∙ ap (λ ps. get_or ps i 0) (sym b.placed)
 

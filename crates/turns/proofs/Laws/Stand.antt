@@ -58,12 +58,12 @@ places_long s =
     (let m = places_length 0 s.rows.found.trees in let c = s.rows.found.count in let f = s.rows.few in omega arith)
 
 -- What a substitution rests on has it.
-module _ {ws : List ℕ} {end : ℕ} {places : List ℕ} {c : Cycle} (b : Ground ws end c.names.now places c) where
-  module _ {i : ℕ} (l : i < c.n) where
+module _ {ws : List ℕ} {end : ℕ} {places : List ℕ} {c : Cycle} (b : Ground ws end c.names.list.now places c) where
+  module _ {i : ℕ} (l : i < c.names.n) where
     place : get_or places i 0 ≡ get_or b.rules.places i 0
     place = ap (λ ps. get_or ps i 0) (sym b.placed)
 
-    stands : RuleStands ws end (get_or places i 0) (get_or c.names.now i 0)
+    stands : RuleStands ws end (get_or places i 0) (get_or c.names.list.now i 0)
     stands =
         record {
           room = place_room b.standing.rows l b.count place;
@@ -96,9 +96,9 @@ all_of P [] f = tt
 all_of P (x ∷ xs) f = (f x (Memᴰ.head refl), all_of P xs λ a m. f a (Memᴰ.tail m))
 
 -- The rule at a member's place.
-module _ {ws : List ℕ} {end : ℕ} {places : List ℕ} {c : Cycle} (s : RulesStand ws end places c) {i : ℕ} (l : i < c.n) where
-  pub member_name : i < length c.names.now
-  member_name = let f = c.told.few in omega arith
+module _ {ws : List ℕ} {end : ℕ} {places : List ℕ} {c : Cycle} (s : RulesStand ws end places c) {i : ℕ} (l : i < c.names.n) where
+  pub member_name : i < length c.names.list.now
+  member_name = let f = c.names.told.few in omega arith
 
   pub member_place : i < length places
   member_place = let f = s.long in omega arith
@@ -110,7 +110,7 @@ module _ {ws : List ℕ} {end : ℕ} {places : List ℕ} {c : Cycle} (s : RulesS
     pub member_found : FoundRule ws end at
     member_found = rw e (let r = (s.stands i l).room in found ws end (get_or places i 0) (omega arith) (s.stands i l).found)
 
-    pub member_named : {name : ℕ} → name ≡ get_or c.names.now i 0 → RuleNamed ws end inner_depth at name
+    pub member_named : {name : ℕ} → name ≡ get_or c.names.list.now i 0 → RuleNamed ws end inner_depth at name
     member_named f = rw (e, f) (s.stands i l).named
 
     pub member_unreferring : bit c.members i ≡ true → (i ≡ c.hub → ⊥) → RuleUnreferring ws end inner_depth at

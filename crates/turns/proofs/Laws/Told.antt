@@ -78,20 +78,20 @@ is_name names n m j l = rw (lt-ltb j n l) refl
 
 module _ (c : Cycle) where
   abbrev pub grammar_told : Grammar
-  grammar_told = record { names = entries c.names.now c.members c.n; nullable = [] }
+  grammar_told = record { names = entries c.names.list.now c.members c.names.n; nullable = [] }
 
-  pub cycle_told : c.hub < c.n → CycleBy grammar_told (those c.names.now c.members c.n) (from 0 c.n) c.names.now c
+  pub cycle_told : c.hub < c.names.n → CycleBy grammar_told (those c.names.list.now c.members c.names.n) (from 0 c.names.n) c.names.list.now c
   unfolding target
   cycle_told h =
       record {
         unknown = λ m w.
-            rw (target, unnamed c.names.now c.members c.n m λ j l. sym (is_name c.names.now c.n m j l) ∙ w.none j) refl;
+            rw (target, unnamed c.names.list.now c.members c.names.n m λ j l. sym (is_name c.names.list.now c.names.n m j l) ∙ w.none j) refl;
         known = λ m t w.
-            rw (target, named_at c.names.now c.members c.n m t w.below λ j l. sym (is_name c.names.now c.n m j l) ∙ w.only j)
+            rw (target, named_at c.names.list.now c.members c.names.n m t w.below λ j l. sym (is_name c.names.list.now c.names.n m j l) ∙ w.only j)
             (ap some (sym (place t w.below)));
-        members = λ t l. rw (place t l) (inside c.names.now c.members c.n t l);
+        members = λ t l. rw (place t l) (inside c.names.list.now c.members c.names.n t l);
         hub = λ t l. rw (place t l, place c.hub h) refl;
       }
     where
-      place : (t : ℕ) → t < c.n → get_or (from 0 c.n) t 0 ≡ t
-      place t l = let e = from_at 0 c.n t l in omega arith
+      place : (t : ℕ) → t < c.names.n → get_or (from 0 c.names.n) t 0 ≡ t
+      place t l = let e = from_at 0 c.names.n t l in omega arith

@@ -1,11 +1,8 @@
 use Rattle.std.proofs.Common.{rules}
 use Rattle.std.proofs.lemmas.Result.{err_from_is_err_and}
 use Rattle.apply.proofs.apply.apply.Goals as goal
-use Rattle.apply.proofs.Laws.Done.{applicables, applicable_standing, judged_refused, judged_none, judged_few}
+use Rattle.apply.proofs.Laws.Done.{applicables, judged_refused, judged_none, judged_few}
 use Rattle.apply.proofs.Laws.Sizes.{entries_after}
-
-pub invariant_of-g : goal.invariant_of-g
-invariant_of-g c = record { standing = applicable_standing c.requires.applicable }
 
 -- src/apply.rt:133:5
 pub returns-in_err-judge-clause-applied_of : goal.returns-in_err-judge-clause-applied_of
@@ -19,8 +16,7 @@ put-requires-clause-buffers c = search (rules, applicables, judged_few, c.in_ok-
 
 -- src/apply.rt:135:8
 pub put-requires-clause-applicable : goal.put-requires-clause-applicable
-put-requires-clause-applicable c =
-    (c.requires.applicable, judged_none c.words_after-n.ensures c.measure-m.ensures c.requires.buffers.2 c.in_ok-judge.ensures)
+put-requires-clause-applicable c = search (rules, judged_none, c.in_ok-judge.ensures)
 
 -- src/apply.rt:135:8
 pub put-requires-clause-words_after : goal.put-requires-clause-words_after

@@ -1,8 +1,8 @@
 use Prim.Native.Nat.{◌≤◌}
 use Rattle.grammar.specs.Numbers.{rule_limit}
-use Rattle.words.specs.Sheet.{text}
+use Rattle.grammar.specs.Words.{words}
 use Rattle.apply.proofs.Laws.Left.{Counting}
 use Rattle.apply.proofs.left.words_left.Given as goal
 
 abbrev pub invariant-loop-i : goal.invariant-loop-i
-invariant-loop-i l = Counting (text l.g.s.now) l.g.s.now.end l.g.rules.now l.row l.from l.until l.i l.total × (l.until ≤ rule_limit)
+invariant-loop-i l = Counting (words l.s) l.end l.rules l.row l.from l.until l.i l.total × (l.until ≤ rule_limit)

@@ -2,4 +2,4 @@ use Rattle.steps.proofs.Laws.Seeking.{Seeking}
 use Rattle.steps.proofs.corner.find_corner.Given as goal
 
 abbrev pub invariant-loop-i : goal.invariant-loop-i
-invariant-loop-i l = Seeking l.c.names.now l.c l.a l.i
+invariant-loop-i l = Seeking l.c.names.list.now l.c l.a l.i

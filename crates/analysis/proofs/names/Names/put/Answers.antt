@@ -1,5 +1,5 @@
 use Rattle.std.proofs.Common.{rules}
-use Rattle.analysis.proofs.names.put_names.Goals as goal
+use Rattle.analysis.proofs.names.Names.put.Goals as goal
 use Rattle.analysis.proofs.Laws.Names.{puts}
 
 pub loop-i-init : goal.loop-i-init
