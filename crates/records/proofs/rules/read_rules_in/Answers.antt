@@ -13,7 +13,7 @@ pub returns-in_err-p : goal.returns-in_err-p
 returns-in_err-p c = let found = c.in_err-p.ensures in rw c.from_residual.ensures (search (rules, reads))
 
 pub word-requires-in-loop-at : goal.word-requires-in-loop-at
-word-requires-in-loop-at c = let room = rule_room _ _ _ _ c.in_ok-p.ensures in omega arith
+word-requires-in-loop-at c = let room = rule_room _ _ _ _ _ c.in_ok-p.ensures in omega arith
 
 pub loop-at-preserved : goal.loop-at-preserved
 loop-at-preserved c = search (rules, reads)
