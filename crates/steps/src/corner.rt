@@ -58,7 +58,7 @@ fn meet_call(c: &Cycle, index: usize, name: u32, bare: bool, quantifier: Quantif
     ensures { CallMet c.now.names.list.now c.now index name bare (quantifier_number quantifier) result }
 {
     let members = c.members;
-    match scan(c.names, c.names.n, name) {
+    match c.names.scan(name) {
         Some(target) if has(members, target) => {
             meet_member(bare, quantifier, Place { index, target }, c.hub)
         }
