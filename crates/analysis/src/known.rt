@@ -1,4 +1,6 @@
 // What is known of the rules while a body is walked.
+ghost use Rattle.std.specs.Prelude.{◌≤◌};
+ghost use Rattle.grammar.specs.Numbers.{rule_limit};
 ghost use Rattle.analysis.specs.Names.{Tabled};
 
 use crate::corners::Corners;
@@ -12,5 +14,6 @@ pub struct Known<'a> {
     pub table: &'a [u8],
     pub nullable: [u64; Row::WORDS],
     pub reading: Corners,
+    ghost few: { names.n ≤ rule_limit },
     ghost tabled: { Tabled names.list.now names.n table.now },
 }

@@ -25,14 +25,13 @@ fn slot(name: u32) -> usize
 pub struct Names<'a> {
     pub list: &'a [u32],
     pub n: usize,
-    ghost few: { n ≤ rule_limit },
     ghost told: { Told list.now n },
 }
 
 impl Names<'_> {
     // Puts their places into the table.
     pub fn put(&self, table: &mut [u8])
-        requires room { slots ≤ length table.old }
+        requires few { (self.now.n ≤ rule_limit) × (slots ≤ length table.old) }
         ensures table_after { table.new ≡ table_with self.now.list.now self.now.n table.old }
         ensures tabled { Tabled self.now.list.now self.now.n table.new }
     {

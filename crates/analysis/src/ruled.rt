@@ -1,5 +1,6 @@
 // A sheet and the rules that stand in it, told apart by ids and by names.
-ghost use Rattle.std.specs.Prelude.{◌≡◌};
+ghost use Rattle.std.specs.Prelude.{◌≡◌, ◌≤◌};
+ghost use Rattle.grammar.specs.Numbers.{rule_limit};
 ghost use Rattle.analysis.specs.Facts.{Standing};
 ghost use Rattle.analysis.specs.One.{standing_prop};
 ghost use Rattle.words.specs.Sheet.{text};
@@ -19,7 +20,7 @@ pub struct Ruled<'a> {
 impl<'a> Ruled<'a> {
     // The names of its rules.
     pub fn names(&self) -> Names<'a>
-        ensures { (result.list.now ≡ self.now.rules.now.names) × (result.n ≡ self.now.rules.now.n) }
+        ensures { (result.list.now ≡ self.now.rules.now.names) × (result.n ≡ self.now.rules.now.n) × (result.n ≤ rule_limit) }
     {
         Names {
             list: &self.rules.names,

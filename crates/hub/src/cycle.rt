@@ -1,4 +1,7 @@
 // A cycle whose corners are looked at.
+ghost use Rattle.std.specs.Prelude.{◌≤◌};
+ghost use Rattle.grammar.specs.Numbers.{rule_limit};
+
 use analysis::names::Names;
 use reach::rows::Row;
 
@@ -10,4 +13,5 @@ pub struct Cycle<'a> {
     pub names: Names<'a>,
     pub members: [u64; Row::WORDS],
     pub nullable: [u64; Row::WORDS],
+    ghost few: { names.n ≤ rule_limit },
 }

@@ -1,4 +1,7 @@
 // A cycle on which steps are made.
+ghost use Rattle.std.specs.Prelude.{◌≤◌};
+ghost use Rattle.grammar.specs.Numbers.{rule_limit};
+
 use analysis::names::Names;
 use reach::rows::Row;
 
@@ -9,4 +12,5 @@ pub struct Cycle<'a> {
     pub names: Names<'a>,
     pub members: [u64; Row::WORDS],
     pub hub: usize,
+    ghost few: { names.n ≤ rule_limit },
 }
