@@ -55,7 +55,7 @@ pub places_long : {ws : List ℕ} {end : ℕ} {rules : Rules} → Standing ws en
 places_long s =
     ap length s.rows.rows.places
     ∙ row_long (places_from 0 s.rows.found.trees)
-    (let m = places_length 0 s.rows.found.trees in let c = s.rows.found.count in let f = s.rows.few in omega arith)
+    (let m = places_length newest 0 s.rows.found.trees in let c = s.rows.found.count in let f = s.rows.few in omega arith)
 
 -- What a substitution rests on has it.
 module _ {ws : List ℕ} {end : ℕ} {places : List ℕ} {c : Cycle} (b : Ground ws end c.names.list.now places c) where
