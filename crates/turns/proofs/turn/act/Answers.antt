@@ -1,6 +1,6 @@
 use Rattle.std.proofs.Common.{rules}
 use Rattle.turns.proofs.turn.act.Goals as goal
-use Rattle.turns.proofs.Laws.Acting.{acting}
+use Rattle.turns.proofs.Laws.Acting.{act_settled, acting}
 
 -- src/turn.rt:234:11
 -- src/turn.rt:237:32
@@ -17,7 +17,7 @@ pub returns-in-Settled : goal.returns-in-Settled
 returns-in-Settled c =
     let z = rw c.listed-x.ensures at c.find_corner.ensures in
     let p = rw c.listed-x.ensures at c.put_settled.ensures in
-    search (rules, acting)
+    act_settled _ z c.requires.shut c.in-Settled.is p
 
 -- src/turn.rt:215:1
 pub returns-in-Blocked : goal.returns-in-Blocked
