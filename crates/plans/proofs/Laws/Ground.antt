@@ -71,7 +71,7 @@ module _ (bs work : List ℕ) {r : Reading} (a : ReadAs (read_lent bs work) (Ok 
     read_preserved = run_words bs r.parts.preserved to ∙ between_read
 
     pub read_rises : rising (words (bytes_between bs r.parts.preserved to)) ≡ true
-    read_rises = ap rising read_preserved ∙ (valid_parts was.tree was.good).preserved
+    read_rises = ap rising read_preserved ∙ (valid_parts newest was.tree was.good).preserved
 
     pub read_kept : KeptAt bs r.parts.preserved to
     read_kept =
