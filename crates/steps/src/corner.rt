@@ -99,7 +99,7 @@ fn meet_item(s: &Sheet, c: &Cycle, index: usize, x: Item) -> Option<Corner>
 }
 
 // The corner of an alternative that is listed. It is looked for in each turn, so that no call is wanted.
-#[inline]
+#[inline(always)]
 pub fn find_corner(a: &Shown, c: &Cycle) -> Corner
     ensures { CornerAt c.now.names.list.now c.now (text a.now.s.now) a.now.s.now.end inner_depth a.now.work.now a.now.x result }
 {
