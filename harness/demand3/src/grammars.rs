@@ -110,6 +110,7 @@ fn element(place: usize, ids: &mut (u32, u32)) -> Element {
         call => Kind::Call {
             name: 1 + call as u32,
             arguments: 0,
+            precedence: 0,
         },
     };
     let mut made = Element::new(kind);
