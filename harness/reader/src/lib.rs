@@ -3,6 +3,7 @@
 pub mod clock;
 pub mod compare;
 pub mod damage;
+pub mod form;
 pub mod grow;
 pub mod numbers;
 pub mod options;
