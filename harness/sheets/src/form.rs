@@ -11,4 +11,9 @@ impl Form {
 
     /// The form of every sheet that is handed in or out today.
     pub const NEWEST: Form = Form::FIRST;
+
+    /// How many words a call's payload has.
+    pub const fn call_words(self) -> usize {
+        if self.precedences { 3 } else { 2 }
+    }
 }
