@@ -1,6 +1,7 @@
 //! Grammars whose rules call each other, in rings, downwards or at random, of few rules and of many.
 
-use reader::grow::each_id;
+use reader::form::Form;
+use reader::grow::{HEAD_WORDS, each_id};
 use reader::random::Random;
 use reader::tree::{Alternative, Element, Payload, Rule, Unit};
 
@@ -11,7 +12,7 @@ const MOST_WORDS: usize = 8_184;
 const RULE_WORDS: usize = 4;
 const ALTERNATIVE_WORDS: usize = 5;
 /// The head and the longest payload without references.
-const ELEMENT_WORDS: usize = 8;
+const ELEMENT_WORDS: usize = HEAD_WORDS + Form::NEWEST.call_words();
 
 /// A unit that a reader must take.
 pub fn unit(random: &mut Random) -> Unit {
@@ -191,7 +192,7 @@ impl Grower<'_> {
         }
         if !self.random.once_in(self.shape.symbols) {
             let called = self.called(at);
-            return Payload::Call(self.names[called], self.random.below(2) as u32);
+            return Payload::Call(self.names[called], self.random.below(2) as u32, 0);
         }
         match self.random.below(9) {
             0 => Payload::Epsilon,

@@ -2,6 +2,7 @@
 
 use sheets::blocks::has_end_of_input;
 use sheets::codec;
+use sheets::form::Form;
 use sheets::generate::{PROFILES, Profile, fold_symbols};
 use sheets::parse::least_counters;
 use sheets::tree::{Alternative, Element, Kind, Rule, Sheet, quantifier};
@@ -24,7 +25,8 @@ fn of_profiles(seed: u64, wanted: impl Fn(&Profile) -> bool) -> Option<Sheet> {
     let many = profiles.len() as u64;
     let mut sheet = profiles[(seed % many) as usize].sheet(seed / many);
     fold_symbols(&mut sheet, seed % 2 == 1);
-    let words = codec::encode(&sheet).len();
+    // In every form the same grammars are small.
+    let words = codec::encode_in(Form::FIRST, &walk::without_precedences(&sheet)).len();
     (words <= MOST_WORDS).then_some(sheet)
 }
 
@@ -110,6 +112,7 @@ fn element(place: usize, ids: &mut (u32, u32)) -> Element {
         call => Kind::Call {
             name: 1 + call as u32,
             arguments: 0,
+            precedence: 0,
         },
     };
     let mut made = Element::new(kind);

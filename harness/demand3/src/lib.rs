@@ -196,11 +196,13 @@ impl Run<'_> {
         let [first, rest @ ..] = &alternative.elements[..] else {
             return false;
         };
-        let own = Kind::Call {
-            name: hub.name,
-            arguments: 0,
+        let is_own = match first.kind {
+            Kind::Call {
+                name, arguments, ..
+            } => name == hub.name && arguments == 0,
+            _ => false,
         };
-        first.kind == own && first.quantifier == 0 && !self.grammars[place + 1].is_empty(rest)
+        is_own && first.quantifier == 0 && !self.grammars[place + 1].is_empty(rest)
     }
 
     /// Of the second sort: no left corner in the cycle that was replaced.

@@ -194,10 +194,14 @@ fn kind(source: &tree::Element) -> ElementKind {
             body: text(&body.references),
         },
         tree::Kind::Predicate(body) => predicate(body),
-        tree::Kind::Call { name, arguments } => ElementKind::RuleCall(RuleCall {
+        tree::Kind::Call {
+            name,
+            arguments,
+            precedence,
+        } => ElementKind::RuleCall(RuleCall {
             name: name.to_string(),
             arguments: (*arguments != 0).then(|| arguments.to_string()),
-            precedence: None,
+            precedence: precedence.checked_sub(1),
         }),
         tree::Kind::Token(name) => ElementKind::Terminal(Terminal::Token(name.to_string())),
         tree::Kind::Other => other(source.carried),

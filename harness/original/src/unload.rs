@@ -74,6 +74,7 @@ fn kind(source: &ElementKind) -> tree::Kind {
         ElementKind::RuleCall(call) => tree::Kind::Call {
             name: word(&call.name),
             arguments: call.arguments.as_deref().map_or(0, word),
+            precedence: call.precedence.map_or(0, precedence_word),
         },
         ElementKind::Terminal(Terminal::Token(name)) => tree::Kind::Token(word(name)),
         ElementKind::Terminal(_) | ElementKind::Range(..) | ElementKind::Set { .. } => {
@@ -110,6 +111,13 @@ pub(crate) fn quantifier(source: Quantifier) -> u32 {
 
 fn word(text: &str) -> u32 {
     text.parse().expect("texts are made from words")
+}
+
+/// The greatest precedence has no word, and no word loads as it.
+fn precedence_word(precedence: u32) -> u32 {
+    precedence
+        .checked_add(1)
+        .expect("precedences are made from words")
 }
 
 fn number(index: usize) -> u32 {

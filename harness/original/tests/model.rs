@@ -1,10 +1,13 @@
 //! Sheets pass through the original's model unchanged, every word of them.
 
+use std::collections::BTreeSet;
+
 use sheets::blocks::ends_in_blocks;
-use sheets::generate::PROFILES;
+use sheets::generate::{PROFILES, give_precedences};
 use sheets::parse::sheet;
-use sheets::tree::Counters;
-use sheets::walk::{self, Sort};
+use sheets::rng::Rng;
+use sheets::tree::{Counters, Kind, Sheet};
+use sheets::walk::{self, Sort, without_precedences};
 
 #[test]
 fn a_sheet_comes_back_from_the_model() {
@@ -19,6 +22,54 @@ fn a_sheet_comes_back_from_the_model() {
             );
         }
     }
+}
+
+fn with_precedences(sheet: &Sheet, seed: u64) -> Sheet {
+    let mut made = sheet.clone();
+    give_precedences(&mut made, &mut Rng::new(1, seed));
+    made
+}
+
+/// Name, arguments and precedence of each call.
+fn calls(sheet: &Sheet) -> BTreeSet<(u32, u32, u32)> {
+    let elements = sheet.rules.iter().flat_map(walk::elements);
+    let of = |kind: &Kind| match *kind {
+        Kind::Call {
+            name,
+            arguments,
+            precedence,
+        } => Some((name, arguments, precedence)),
+        _ => None,
+    };
+    elements.filter_map(|own| of(&own.kind)).collect()
+}
+
+#[test]
+fn a_precedence_comes_back_from_the_model() {
+    for profile in &PROFILES {
+        for seed in 0..20 {
+            let made = with_precedences(&ends_in_blocks(&profile.sheet(seed)), seed);
+            assert_eq!(original::through_the_model(&made), made);
+        }
+    }
+}
+
+/// The original looks at no precedence, and makes none.
+#[test]
+fn precedences_are_copied_and_change_nothing_else() {
+    let mut joined = 0;
+    for profile in PROFILES.iter().filter(|own| !own.about_limits) {
+        for seed in 0..100 {
+            let plain = ends_in_blocks(&profile.sheet(seed));
+            let made = with_precedences(&plain, seed);
+            let (first, second) = (original::run(&plain), original::run(&made));
+            assert_eq!(without_precedences(&second.result), first.result);
+            assert_eq!(second.changed, first.changed);
+            assert!(calls(&second.result).is_subset(&calls(&made)));
+            joined += u64::from(second.changed);
+        }
+    }
+    assert!(joined > 500, "{joined}");
 }
 
 #[test]

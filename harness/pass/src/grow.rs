@@ -151,7 +151,7 @@ fn each_name(rules: &mut [Rule], see: &mut dyn FnMut(&mut u32)) {
 fn each_call(alternatives: &mut [Alternative], see: &mut dyn FnMut(&mut u32)) {
     for element in alternatives.iter_mut().flat_map(|own| &mut own.elements) {
         match &mut element.payload {
-            Payload::Call(name, _) => see(name),
+            Payload::Call(name, ..) => see(name),
             Payload::Block(inner) => each_call(inner, see),
             _ => {}
         }

@@ -87,7 +87,7 @@ fn each_name(alternatives: &mut [Alternative], see: &mut dyn FnMut(&mut u32)) {
             see(name);
         }
         match &mut element.payload {
-            Payload::Call(name, _) | Payload::Token(name) => see(name),
+            Payload::Call(name, ..) | Payload::Token(name) => see(name),
             Payload::Action(_, all) | Payload::Predicate(_, all) => {
                 all.iter_mut().for_each(|(_, name)| see(name));
             }
@@ -115,7 +115,7 @@ fn element(payload: Payload) -> Element {
 }
 
 fn call(name: u32) -> Element {
-    element(Payload::Call(name, 0))
+    element(Payload::Call(name, 0, 0))
 }
 
 fn token(name: u32) -> Element {

@@ -2,6 +2,7 @@
 
 use std::collections::{HashMap, HashSet};
 
+use sheets::form::Form;
 use sheets::tree::{Alternative, Element, Kind, Rule, Semantics, Sheet};
 
 /// Words in front of a rule's alternatives, of an alternative's options, of an element's options.
@@ -72,7 +73,7 @@ fn element_words(element: &Element) -> usize {
     let payload = match &element.kind {
         Kind::Epsilon | Kind::Other | Kind::EndOfInput => 0,
         Kind::Action(own) | Kind::Predicate(own) => body(own),
-        Kind::Call { .. } => 2,
+        Kind::Call { .. } => Form::NEWEST.call_words(),
         Kind::Token(_) => 1,
         Kind::Block(inner) => 1 + alternatives_words(inner),
     };

@@ -1,11 +1,20 @@
 //! Grammars that a reader must take: of every shape, and up to each limit.
 
+use crate::form::Form;
 use crate::random::Random;
 use crate::tree::{Alternative, Element, Payload, Rule, Sheet, Unit};
+
+/// The words in front of an element's payload, without options.
+pub const HEAD_WORDS: usize = 6;
+
+/// None mostly; else the least two words of one, and the last.
+const PRECEDENCES: [u32; 6] = [0, 0, 0, 1, 2, u32::MAX];
 
 /// How far a unit may grow. Beyond the format's own limits it is one that must be refused.
 #[derive(Clone, Copy)]
 pub struct Limits {
+    /// In which words are counted.
+    pub form: Form,
     pub rules: usize,
     pub depth: usize,
     /// Words in front of the trailer.
@@ -14,12 +23,14 @@ pub struct Limits {
 
 impl Limits {
     pub const FORMAT: Limits = Limits {
+        form: Form::NEWEST,
         rules: 128,
         depth: 8,
         words: 8_184,
     };
     /// One more of each, so that a unit may just pass one of them.
     pub const ABOVE: Limits = Limits {
+        form: Form::NEWEST,
         rules: 129,
         depth: 9,
         words: 8_185,
@@ -41,7 +52,7 @@ pub fn unit(random: &mut Random, limits: Limits) -> Unit {
         most: shape.most,
     };
     unit.rules = grower.rules(shape.rules);
-    grower.room = shape.room - (Sheet::of(&unit).words.len() - 8);
+    grower.room = shape.room - (Sheet::of_in(limits.form, &unit).words.len() - 8);
     unit.preserved = grower.preserved(&unit.rules, shape.full);
     number(&mut unit, random);
     unit
@@ -136,8 +147,9 @@ impl Grower<'_> {
     fn elements(&mut self, depth: usize) -> Vec<Element> {
         let count = self.random.within(0, self.most);
         let mut list = Vec::new();
-        // 8 words: the head and the longest payload without references
-        while list.len() < count && self.fits(8) {
+        // A call has the longest payload without references and alternatives.
+        let words = HEAD_WORDS + self.limits.form.call_words();
+        while list.len() < count && self.fits(words) {
             let label = self.random.once_in(5);
             list.push(Element {
                 id: 0,
@@ -159,7 +171,7 @@ impl Grower<'_> {
             0 => Payload::Epsilon,
             1 => Payload::Action(0, self.references()),
             2 => Payload::Predicate(0, self.references()),
-            3 => Payload::Call(self.random.name(), self.random.any()),
+            3 => Payload::Call(self.random.name(), self.random.any(), 0),
             4 => Payload::Token(self.random.name()),
             5 => Payload::EndOfInput,
             _ => Payload::Other,
@@ -280,6 +292,25 @@ fn each_in(alternatives: &mut [Alternative], see: &mut dyn FnMut(usize, &mut u32
                 Payload::Block(inner) => each_in(inner, see),
                 _ => {}
             }
+        }
+    }
+}
+
+/// Gives each call a precedence, nested ones too. The unit then has words in those forms alone that have a place for it.
+pub fn give_precedences(unit: &mut Unit, random: &mut Random) {
+    for rule in &mut unit.rules {
+        give_in(&mut rule.alternatives, random);
+    }
+}
+
+fn give_in(alternatives: &mut [Alternative], random: &mut Random) {
+    for element in alternatives.iter_mut().flat_map(|own| &mut own.elements) {
+        match &mut element.payload {
+            Payload::Call(_, _, precedence) => {
+                *precedence = PRECEDENCES[random.below(PRECEDENCES.len())];
+            }
+            Payload::Block(inner) => give_in(inner, random),
+            _ => {}
         }
     }
 }

@@ -1,8 +1,10 @@
-//! A second reader of sheets, sheets to try readers on, and the comparison of two readers.
+//! A second reader of sheets, sheets to try readers on, the comparison of two readers, and a second account of the conversion.
 
 pub mod clock;
 pub mod compare;
+pub mod convert;
 pub mod damage;
+pub mod form;
 pub mod grow;
 pub mod numbers;
 pub mod options;

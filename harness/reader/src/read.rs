@@ -6,15 +6,19 @@
 
 use std::ops::RangeInclusive;
 
-const BAD_LENGTH: u32 = 1;
+use crate::form::Form;
+
+pub(crate) const BAD_LENGTH: u32 = 1;
 const BAD_TRAILER: u32 = 3;
 const BAD_RECORD: u32 = 4;
 const SHARED: u32 = 5;
 const NOT_BELOW_COUNTER: u32 = 6;
 
-const WORD_BYTES: usize = 4;
-const TRAILER_WORDS: usize = 8;
-const SHEET_BYTES: RangeInclusive<usize> = TRAILER_WORDS * WORD_BYTES..=32_768;
+pub(crate) const WORD_BYTES: usize = 4;
+pub(crate) const TRAILER_WORDS: usize = 8;
+/// In bytes.
+pub(crate) const LONGEST: usize = 32_768;
+const SHEET_BYTES: RangeInclusive<usize> = TRAILER_WORDS * WORD_BYTES..=LONGEST;
 const MAX_RULES: usize = 128;
 const MAX_DEPTH: u32 = 8;
 
@@ -67,6 +71,15 @@ pub struct Parts {
 
 /// The sheet's parts, or the number of its refusal.
 pub fn read(bytes: &[u8]) -> Result<Parts, u32> {
+    read_in(Form::NEWEST, bytes)
+}
+
+pub fn read_in(form: Form, bytes: &[u8]) -> Result<Parts, u32> {
+    read_with_calls(form, bytes).map(|(parts, _calls)| parts)
+}
+
+/// The parts, and for each call, nested ones too, the index of the word behind it.
+pub(crate) fn read_with_calls(form: Form, bytes: &[u8]) -> Result<(Parts, Vec<usize>), u32> {
     // The checks run from the lowest refusal to the highest, so the first one met is the answer.
     let words = words_of(bytes)?;
     let Some((body, trailer)) = words.split_last_chunk::<TRAILER_WORDS>() else {
@@ -78,16 +91,13 @@ pub fn read(bytes: &[u8]) -> Result<Parts, u32> {
     refuse_unless(second <= first, BAD_TRAILER)?;
 
     let (records, preserved) = body.split_at(body.len() - second as usize);
-    let mut walk = Walk {
-        words: records,
-        ..Walk::default()
-    };
+    let mut walk = Walk::new(form, records);
     walk.read_rules()?;
     refuse_unless(is_rising(preserved), BAD_RECORD)?;
 
     refuse_unless(walk.shares_nothing(), SHARED)?;
     refuse_unless(walk.is_below(&counters), NOT_BELOW_COUNTER)?;
-    Ok(Parts {
+    let parts = Parts {
         kind,
         preserved_at: first - second,
         preserved: second,
@@ -95,7 +105,8 @@ pub fn read(bytes: &[u8]) -> Result<Parts, u32> {
         alternatives: walk.ids[ALTERNATIVES].len() as u32,
         elements: walk.ids[ELEMENTS].len() as u32,
         rules: walk.rules,
-    })
+    };
+    Ok((parts, walk.calls))
 }
 
 fn refuse_unless(good: bool, refusal: u32) -> Result<(), u32> {
@@ -122,19 +133,31 @@ fn are_distinct(values: impl Iterator<Item = u32>) -> bool {
     is_rising(&sorted)
 }
 
-/// Reads the records in order and keeps what refusals 5 and 6 need.
+/// Reads the records in order and keeps what refusals 5 and 6 need, and where calls end.
 ///
 /// The words end where the preserved list starts, so a record that runs into the list is cut short.
 /// Every turn of every loop takes a word or refuses, so a huge count ends with the words.
-#[derive(Default)]
 struct Walk<'a> {
+    form: Form,
     words: &'a [u32],
     at: usize,
     rules: Vec<Rule>,
     ids: [Vec<u32>; SORTS],
+    calls: Vec<usize>,
 }
 
-impl Walk<'_> {
+impl<'a> Walk<'a> {
+    fn new(form: Form, words: &'a [u32]) -> Walk<'a> {
+        Walk {
+            form,
+            words,
+            at: 0,
+            rules: Vec::new(),
+            ids: Default::default(),
+            calls: Vec::new(),
+        }
+    }
+
     fn word(&mut self) -> Result<u32, u32> {
         let word = *self.words.get(self.at).ok_or(BAD_RECORD)?;
         self.at += 1;
@@ -198,12 +221,15 @@ impl Walk<'_> {
     fn read_element(&mut self, depth: u32) -> Result<(), u32> {
         self.keep_id(ELEMENTS)?;
         let _carried = self.word()?;
-        let form = self.word()?;
-        refuse_unless(QUANTIFIERS.contains(&(form / QUANTIFIER_STEP)), BAD_RECORD)?;
+        let packed = self.word()?;
+        refuse_unless(
+            QUANTIFIERS.contains(&(packed / QUANTIFIER_STEP)),
+            BAD_RECORD,
+        )?;
         self.read_label()?;
         let options = self.word()?;
         self.read_options(options)?;
-        self.read_payload(form % QUANTIFIER_STEP, depth)
+        self.read_payload(packed % QUANTIFIER_STEP, depth)
     }
 
     /// The name tells whether there is a label: a label's id may be 0, its name may not.
@@ -233,7 +259,12 @@ impl Walk<'_> {
 
     fn read_call(&mut self) -> Result<(), u32> {
         self.word_in(NAMES)?;
-        self.word().map(|_arguments| ())
+        // The arguments, and the precedence where the form has it: any words.
+        for _ in 1..self.form.call_words() {
+            self.word()?;
+        }
+        self.calls.push(self.at);
+        Ok(())
     }
 
     /// An action or a predicate: its own id, then its references.

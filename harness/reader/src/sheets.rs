@@ -1,6 +1,7 @@
 //! The sheets of a run: each made from the run's seed and its own index alone.
 
 use crate::damage;
+use crate::form::Form;
 use crate::grow::{self, Limits};
 use crate::random::Random;
 use crate::tree::Sheet;
@@ -8,22 +9,35 @@ use crate::tree::Sheet;
 /// The sheet number `index` of the run `seed`: one in 16 is raw bytes, whose length goes through 0
 /// to 64; the others are good sheets, sheets just past a limit, and damaged ones.
 pub fn sheet(seed: u64, index: u64) -> Vec<u8> {
+    sheet_in(Form::NEWEST, seed, index)
+}
+
+pub fn sheet_in(form: Form, seed: u64, index: u64) -> Vec<u8> {
     let mut random = Random::of(seed, index);
     if index.is_multiple_of(16) {
         return raw(&mut random, (index / 16 % 65) as usize);
     }
     match random.below(16) {
-        0..=4 => good(&mut random).bytes(),
-        5 => Sheet::of(&grow::unit(&mut random, Limits::ABOVE)).bytes(),
+        0..=4 => good_in(form, &mut random).bytes(),
+        5 => grown(form, Limits::ABOVE, &mut random).bytes(),
         6 => framed(&mut random),
-        7 => glued(&mut random),
-        8 | 9 => blurred(&mut random),
-        _ => edited(&mut random),
+        7 => glued(form, &mut random),
+        8 | 9 => blurred(form, &mut random),
+        _ => edited(form, &mut random),
     }
 }
 
 pub fn good(random: &mut Random) -> Sheet {
-    Sheet::of(&grow::unit(random, Limits::FORMAT))
+    good_in(Form::NEWEST, random)
+}
+
+fn good_in(form: Form, random: &mut Random) -> Sheet {
+    grown(form, Limits::FORMAT, random)
+}
+
+fn grown(form: Form, limits: Limits, random: &mut Random) -> Sheet {
+    let limits = Limits { form, ..limits };
+    Sheet::of_in(form, &grow::unit(random, limits))
 }
 
 fn raw(random: &mut Random, length: usize) -> Vec<u8> {
@@ -42,8 +56,8 @@ fn framed(random: &mut Random) -> Vec<u8> {
 }
 
 /// The rules of two good sheets before one trailer that fits them: nodes share ids as they fall.
-fn glued(random: &mut Random) -> Vec<u8> {
-    let (front, back) = (good(random), good(random));
+fn glued(form: Form, random: &mut Random) -> Vec<u8> {
+    let (front, back) = (good_in(form, random), good_in(form, random));
     let (front, ends) = front.words.split_at(front.words.len() - 8);
     let rules = &front[..front.len() - ends[2] as usize];
     let mut words = [rules, &back.words].concat();
@@ -55,15 +69,15 @@ fn glued(random: &mut Random) -> Vec<u8> {
     words.iter().flat_map(|w| w.to_le_bytes()).collect()
 }
 
-fn blurred(random: &mut Random) -> Vec<u8> {
-    let mut bytes = good(random).bytes();
-    let other = good(random).bytes();
+fn blurred(form: Form, random: &mut Random) -> Vec<u8> {
+    let mut bytes = good_in(form, random).bytes();
+    let other = good_in(form, random).bytes();
     damage::blur(&mut bytes, &other, random);
     bytes
 }
 
-fn edited(random: &mut Random) -> Vec<u8> {
-    let mut sheet = good(random);
+fn edited(form: Form, random: &mut Random) -> Vec<u8> {
+    let mut sheet = good_in(form, random);
     for _ in 0..[1, 1, 1, 2, 3][random.below(5)] {
         damage::edit(&mut sheet, random);
     }

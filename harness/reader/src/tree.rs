@@ -1,5 +1,7 @@
 //! A grammar as a tree, and its words. Each word carries what it is, so that an edit can aim at it.
 
+use crate::form::Form;
+
 /// What a word of a sheet stands for.
 #[derive(Clone, Copy, Debug, PartialEq, Eq)]
 pub enum Field {
@@ -16,7 +18,7 @@ pub enum Field {
     /// The label words of an element without a label.
     NoLabel,
     ReferenceKind,
-    /// Carried numbers, option values, call arguments.
+    /// Carried numbers, option values, arguments and precedences of calls.
     Free,
     Preserved,
     Kind,
@@ -65,7 +67,8 @@ pub enum Payload {
     Epsilon,
     Action(u32, Vec<(u32, u32)>),
     Predicate(u32, Vec<(u32, u32)>),
-    Call(u32, u32),
+    /// Name, arguments, and 0 or one more than the precedence.
+    Call(u32, u32, u32),
     Token(u32),
     Other,
     Block(Vec<Alternative>),
@@ -81,8 +84,13 @@ pub struct Sheet {
 
 impl Sheet {
     pub fn of(unit: &Unit) -> Sheet {
+        Sheet::of_in(Form::NEWEST, unit)
+    }
+
+    /// Panics at a call's precedence where the form has no place for it.
+    pub fn of_in(form: Form, unit: &Unit) -> Sheet {
         let mut sheet = Sheet::default();
-        unit.rules.iter().for_each(|rule| sheet.rule(rule));
+        unit.rules.iter().for_each(|rule| sheet.rule(form, rule));
         for id in &unit.preserved {
             sheet.put(*id, Field::Preserved);
         }
@@ -116,14 +124,14 @@ impl Sheet {
         self.put(n as u32, Field::Count);
     }
 
-    fn rule(&mut self, rule: &Rule) {
+    fn rule(&mut self, form: Form, rule: &Rule) {
         self.put(rule.id, Field::RuleId);
         self.put(rule.name, Field::RuleName);
         self.put(rule.flags, Field::RuleFlags);
-        self.alternatives(&rule.alternatives);
+        self.alternatives(form, &rule.alternatives);
     }
 
-    fn alternatives(&mut self, alternatives: &[Alternative]) {
+    fn alternatives(&mut self, form: Form, alternatives: &[Alternative]) {
         self.count(alternatives.len());
         for alternative in alternatives {
             self.put(alternative.id, Field::Id(0));
@@ -132,7 +140,9 @@ impl Sheet {
             self.count(alternative.options.len());
             self.count(alternative.elements.len());
             self.options(&alternative.options);
-            alternative.elements.iter().for_each(|e| self.element(e));
+            for element in &alternative.elements {
+                self.element(form, element);
+            }
         }
     }
 
@@ -143,7 +153,7 @@ impl Sheet {
         }
     }
 
-    fn element(&mut self, element: &Element) {
+    fn element(&mut self, form: Form, element: &Element) {
         self.put(element.id, Field::Id(1));
         self.put(element.carried, Field::Free);
         let packed = element.payload.kind() + 256 * element.quantifier;
@@ -157,20 +167,29 @@ impl Sheet {
         }
         self.count(element.options.len());
         self.options(&element.options);
-        self.payload(&element.payload);
+        self.payload(form, &element.payload);
     }
 
-    fn payload(&mut self, payload: &Payload) {
+    fn payload(&mut self, form: Form, payload: &Payload) {
         match payload {
             Payload::Epsilon | Payload::Other | Payload::EndOfInput => {}
             Payload::Action(id, references) => self.body(3, *id, references),
             Payload::Predicate(id, references) => self.body(4, *id, references),
-            Payload::Call(name, arguments) => {
+            Payload::Call(name, arguments, precedence) => {
                 self.put(*name, Field::Name);
                 self.put(*arguments, Field::Free);
+                self.precedence(form, *precedence);
             }
             Payload::Token(name) => self.put(*name, Field::Name),
-            Payload::Block(alternatives) => self.alternatives(alternatives),
+            Payload::Block(alternatives) => self.alternatives(form, alternatives),
+        }
+    }
+
+    fn precedence(&mut self, form: Form, precedence: u32) {
+        if form.precedences {
+            self.put(precedence, Field::Free);
+        } else {
+            assert_eq!(precedence, 0, "the form has no place for a precedence");
         }
     }
 

@@ -1,5 +1,6 @@
 //! Trees to words and back, with refusals 1 and 3 to 6 (SPECIFICATION 4).
 
+use crate::form::Form;
 use crate::tree::{
     Alternative, Counters, Element, Kind, Label, OptionDecl, Reference, Rule, Semantics, Sheet,
 };
@@ -27,10 +28,15 @@ pub fn bytes_of(words: &[u32]) -> Vec<u8> {
 }
 
 pub fn encode(sheet: &Sheet) -> Vec<u32> {
+    encode_in(Form::NEWEST, sheet)
+}
+
+/// Panics at a call's precedence where the form has no place for it: such a tree has no words there.
+pub fn encode_in(form: Form, sheet: &Sheet) -> Vec<u32> {
     let mut out = Vec::new();
     for rule in &sheet.rules {
         out.extend([rule.id, rule.name, rule.flags]);
-        put_alternatives(&rule.alternatives, &mut out);
+        put_alternatives(form, &rule.alternatives, &mut out);
     }
     out.extend(&sheet.preserved);
     let first = out.len() as u32;
@@ -41,7 +47,7 @@ pub fn encode(sheet: &Sheet) -> Vec<u32> {
     out
 }
 
-fn put_alternatives(alternatives: &[Alternative], out: &mut Vec<u32>) {
+fn put_alternatives(form: Form, alternatives: &[Alternative], out: &mut Vec<u32>) {
     out.push(alternatives.len() as u32);
     for alternative in alternatives {
         out.extend([
@@ -55,7 +61,7 @@ fn put_alternatives(alternatives: &[Alternative], out: &mut Vec<u32>) {
         ]);
         put_options(&alternative.options, out);
         for element in &alternative.elements {
-            put_element(element, out);
+            put_element(form, element, out);
         }
     }
 }
@@ -66,7 +72,7 @@ fn put_options(options: &[OptionDecl], out: &mut Vec<u32>) {
     }
 }
 
-fn put_element(element: &Element, out: &mut Vec<u32>) {
+fn put_element(form: Form, element: &Element, out: &mut Vec<u32>) {
     let label = element.label.unwrap_or(Label { id: 0, name: 0 });
     out.extend([element.id, element.carried]);
     out.push(element.kind.number() + 256 * element.quantifier);
@@ -75,9 +81,24 @@ fn put_element(element: &Element, out: &mut Vec<u32>) {
     match &element.kind {
         Kind::Epsilon | Kind::Other | Kind::EndOfInput => {}
         Kind::Action(body) | Kind::Predicate(body) => put_semantics(body, out),
-        Kind::Call { name, arguments } => out.extend([*name, *arguments]),
+        Kind::Call {
+            name,
+            arguments,
+            precedence,
+        } => {
+            out.extend([*name, *arguments]);
+            put_precedence(form, *precedence, out);
+        }
         Kind::Token(name) => out.push(*name),
-        Kind::Block(alternatives) => put_alternatives(alternatives, out),
+        Kind::Block(alternatives) => put_alternatives(form, alternatives, out),
+    }
+}
+
+fn put_precedence(form: Form, precedence: u32, out: &mut Vec<u32>) {
+    if form.precedences {
+        out.push(precedence);
+    } else {
+        assert_eq!(precedence, 0, "the form has no place for a precedence");
     }
 }
 
@@ -90,13 +111,21 @@ fn put_semantics(body: &Semantics, out: &mut Vec<u32>) {
 
 /// The tree of a sheet, or the lowest refusal of 1 and 3 to 6 that holds.
 pub fn read(bytes: &[u8]) -> Result<Sheet, Refusal> {
-    let sheet = tree(bytes)?;
+    read_in(Form::NEWEST, bytes)
+}
+
+pub fn read_in(form: Form, bytes: &[u8]) -> Result<Sheet, Refusal> {
+    let sheet = tree_in(form, bytes)?;
     check_ids(&sheet)?;
     Ok(sheet)
 }
 
 /// The tree that stands in the bytes, or the lowest refusal of 1, 3 and 4 that holds; 5 and 6 are not asked.
 pub fn tree(bytes: &[u8]) -> Result<Sheet, Refusal> {
+    tree_in(Form::NEWEST, bytes)
+}
+
+pub fn tree_in(form: Form, bytes: &[u8]) -> Result<Sheet, Refusal> {
     if bytes.len() < 4 * TRAILER || bytes.len() > MOST_BYTES || !bytes.len().is_multiple_of(4) {
         return Err(1);
     }
@@ -107,9 +136,14 @@ pub fn tree(bytes: &[u8]) -> Result<Sheet, Refusal> {
         return Err(3);
     }
     let (records, preserved) = body.split_at(first - second);
+    let rules = Cursor {
+        form,
+        words: records,
+    }
+    .rules();
     let sheet = Sheet {
         kind,
-        rules: Cursor { words: records }.rules().ok_or(4u32)?,
+        rules: rules.ok_or(4u32)?,
         preserved: preserved.to_vec(),
         counters: counters_of(&trailer[3..]),
     };
@@ -146,6 +180,7 @@ fn repeats<T: Ord>(mut list: Vec<T>) -> bool {
 
 /// What is left of the records; `None` from any step is refusal 4.
 struct Cursor<'a> {
+    form: Form,
     words: &'a [u32],
 }
 
@@ -249,12 +284,21 @@ impl Cursor<'_> {
             3 => Kind::Call {
                 name: self.name()?,
                 arguments: self.word()?,
+                precedence: self.precedence()?,
             },
             4 => Kind::Token(self.name()?),
             5 => Kind::Other,
             6 => Kind::Block(self.alternatives(depth + 1)?),
             _ => Kind::EndOfInput,
         })
+    }
+
+    fn precedence(&mut self) -> Option<u32> {
+        if self.form.precedences {
+            self.word()
+        } else {
+            Some(0)
+        }
     }
 
     fn semantics(&mut self) -> Option<Semantics> {

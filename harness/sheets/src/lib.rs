@@ -2,6 +2,7 @@
 
 pub mod blocks;
 pub mod codec;
+pub mod form;
 pub mod generate;
 pub mod names;
 pub mod parse;

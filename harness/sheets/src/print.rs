@@ -133,7 +133,9 @@ impl Printer<'_> {
             Kind::Epsilon => self.out.push('_'),
             Kind::Action(body) => self.semantics("{", body, Sort::Action),
             Kind::Predicate(body) => self.semantics("&{", body, Sort::Predicate),
-            Kind::Call { name, arguments } => {
+            Kind::Call {
+                name, arguments, ..
+            } => {
                 self.name(*name, Place::Rule);
                 if *arguments != 0 {
                     let _ = write!(self.out, "[{arguments}]");

@@ -65,6 +65,8 @@ pub enum Kind {
     Call {
         name: u32,
         arguments: u32,
+        /// 0 without one, else one more than it.
+        precedence: u32,
     },
     Token(u32),
     /// Kind 5: another terminal, a range or a set.

@@ -91,6 +91,24 @@ pub fn edit(list: &mut [Alternative], change: &mut impl FnMut(&mut Element)) {
     }
 }
 
+/// The precedence of every call, nested ones too, in reading order and open to change.
+pub fn precedences(sheet: &mut Sheet, change: &mut impl FnMut(&mut u32)) {
+    for rule in &mut sheet.rules {
+        edit(&mut rule.alternatives, &mut |element| {
+            if let Kind::Call { precedence, .. } = &mut element.kind {
+                change(precedence);
+            }
+        });
+    }
+}
+
+/// The sheet without any.
+pub fn without_precedences(sheet: &Sheet) -> Sheet {
+    let mut made = sheet.clone();
+    precedences(&mut made, &mut |precedence| *precedence = 0);
+    made
+}
+
 /// What a word is that says nothing by its size: a name, by where it stands, or a carried number.
 #[derive(Clone, Copy, Debug, Eq, PartialEq)]
 pub enum Mark {

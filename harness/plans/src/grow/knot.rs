@@ -207,7 +207,7 @@ impl Grower<'_> {
             match self.random.below(3) {
                 0 => corner.label = Some((0, LABELS)),
                 1 => corner.options = vec![(1, 1)],
-                _ => corner.payload = Payload::Call(member, 7),
+                _ => corner.payload = Payload::Call(member, 7, 0),
             }
         }
         if self.one_in(self.mood.nested) {

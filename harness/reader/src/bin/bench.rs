@@ -31,14 +31,14 @@ fn alternative(elements: Vec<Element>) -> Alternative {
 
 /// A rule of three alternatives, as grammars have them: calls, tokens, a label, an action, a block.
 fn rule(n: u32) -> Rule {
-    let call = |i: u32| element(Payload::Call(1 + (n + i) % 100, 0), None);
+    let call = |i: u32| element(Payload::Call(1 + (n + i) % 100, 0, 0), None);
     let token = |i: u32| element(Payload::Token(200 + i), None);
     let nested = vec![alternative(vec![token(1), call(1)])];
     let alternatives = vec![
         alternative(vec![
             call(2),
             token(2),
-            element(Payload::Call(1, 0), Some((0, 300))),
+            element(Payload::Call(1, 0, 0), Some((0, 300))),
         ]),
         alternative(vec![
             token(3),

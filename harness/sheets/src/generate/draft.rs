@@ -12,7 +12,11 @@ pub const LABELS: u32 = 200;
 pub const OPTIONS: u32 = 300;
 
 pub fn call(name: u32) -> Element {
-    Element::new(Kind::Call { name, arguments: 0 })
+    Element::new(Kind::Call {
+        name,
+        arguments: 0,
+        precedence: 0,
+    })
 }
 
 pub fn token(name: u32) -> Element {

@@ -15,6 +15,7 @@ pub fn fold_symbols(sheet: &mut Sheet, third_is_call: bool) {
         Kind::Call {
             name: UNKNOWN,
             arguments: 0,
+            precedence: 0,
         }
     } else {
         Kind::Other

@@ -8,6 +8,7 @@ mod far;
 mod fold;
 mod limits;
 mod number;
+mod precedences;
 mod skeleton;
 mod twist;
 mod wild;
@@ -20,6 +21,7 @@ use skeleton::{Draft, add_cycle};
 use twist::Twist;
 
 pub use fold::fold_symbols;
+pub use precedences::give_precedences;
 
 enum Make {
     /// A cycle that can be joined, with this twist once or twice and seldom others.

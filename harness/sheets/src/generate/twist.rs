@@ -222,6 +222,7 @@ pub fn arguments(draft: &mut Draft, rng: &mut Rng) {
     let made = Element::new(Kind::Call {
         name: member,
         arguments: rng.between(1, 9) as u32,
+        precedence: 0,
     });
     let elements = &mut draft.some_alternative(target, rng).elements;
     let place = if rng.one_in(3) { 0 } else { elements.len() };

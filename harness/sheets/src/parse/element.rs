@@ -76,6 +76,7 @@ impl Parser<'_> {
         Ok(Kind::Call {
             name,
             arguments: self.arguments()?,
+            precedence: 0,
         })
     }
 
