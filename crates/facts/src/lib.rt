@@ -15,7 +15,8 @@ use analysis::rounds::{Marks, Rows, find_rows};
 use analysis::ruled::Ruled;
 use reach::cycles::list_cycles;
 use reach::rows::Row;
-use sheet::{read, refusal_numbers};
+use sheet::read;
+use sheet::refused::refusal_numbers;
 use words::sheet::Sheet;
 use words::words::clear;
 

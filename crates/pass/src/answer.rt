@@ -2,7 +2,7 @@
 ghost use Rattle.std.specs.Prelude.{◌≡◌};
 ghost use Rattle.pass.specs.Handed.{numbers};
 
-use sheet::refusal_numbers;
+use sheet::refused::refusal_numbers;
 use words::numbers::Refusal;
 
 // Plans and steps, and how many bytes of the result and of the trail are taken.

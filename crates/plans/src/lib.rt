@@ -17,7 +17,8 @@ use crate::told::{leave, tell};
 use analysis::ruled::Ruled;
 use facts::reading_of;
 use hub::preserved::Preserved;
-use sheet::{read, refusal_numbers};
+use sheet::read;
+use sheet::refused::refusal_numbers;
 use words::sheet::Sheet;
 
 // The decision for the nth cycle of a sheet, in numbers; 0 is the cycle with the least id. The reading of left corners is the

@@ -4,7 +4,7 @@
 pub mod answer;
 mod counts;
 mod judge;
-mod refused;
+pub mod refused;
 
 ghost use Rattle.std.specs.Prelude.{◌≡◌};
 ghost use Rattle.sheet.specs.Answer.{ReadAs, read_lent, work_after};
@@ -14,7 +14,7 @@ use answer::{examine, is_length};
 pub use answer::{Parts, Reading};
 pub use counts::Sizes;
 use counts::{counted, sheet_numbers};
-pub use refused::refusal_numbers;
+use refused::refusal_numbers;
 use words::numbers::{Refusal, Work};
 use words::words::clear;
 
