@@ -38,7 +38,7 @@ fn rows_are_distinct(rules: Rules, work: &mut [u8]) -> bool
     row_is_distinct(&rules.ids[..n], work) && row_is_distinct(&rules.names[..n], work)
 }
 
-// Whether no two ids of one sort are equal: those that rise are not, the others are collected and parted.
+// Whether no two ids of one sort are equal: those that rise are not, the others are collected and sorted.
 #[tactic(auto, using(ids::proofs::Laws::Lists::words_take))]
 fn sort_is_distinct(s: &Sheet, n: u32, sort: Sort, track: Track, work: &mut [u8]) -> bool
     requires bounds { 4 * s.now.end + 4 ≤ length work.old }
