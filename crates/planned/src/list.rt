@@ -87,7 +87,9 @@ impl Mark {
 }
 
 // A planned alternative: the slot that it fills, where it was taken from last, and where its elements and options are listed.
-// Stays: that it is listed is a clause where the work area is written, as with `Sizes`. Who only reads it takes a `Shown`.
+// Stays: that it is listed is a clause where the work area is written, as with `Sizes`. Of those that only read it, most take a `Shown`.
+// By its parts take it `item`, `option_place` and `option_meets`, which ask less and which writers call; `options_added` (splices), which
+// is of any depth; and `find_corner` (steps), which is slower with a `Shown`.
 #[derive(Clone, Copy, Debug, PartialEq, Eq)]
 pub struct Listed {
     pub slot: u16,
