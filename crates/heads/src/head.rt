@@ -1,7 +1,6 @@
 // The head of a planned alternative: its id, the carried number and the flag of its slot, how many options and elements it has,
 // and its options.
 ghost use Rattle.std.specs.Prelude.{[], ◌∷◌, ◌+◌, ◌*◌, ◌≤◌, length, get_or};
-ghost use Rattle.grammar.specs.Tree.{inner_depth};
 ghost use Rattle.grammar.specs.Encode.{encode_option};
 ghost use Rattle.grammar.specs.Lists.{each};
 ghost use Rattle.planned.specs.Layout.{meaning, options_from};
@@ -28,11 +27,11 @@ fn write_option(s: &Sheet, p: usize, work: &mut [u8], to: usize)
 }
 
 // The options, two words each.
-fn write_options(s: &Sheet, work: &mut [u8], x: Listed, to: usize)
+fn write_options(s: &Sheet, depth: u32, work: &mut [u8], x: Listed, to: usize)
     requires bounds { (compose_at ≤ to) × (4 * (to + 2 * x.no) ≤ length work.old) }
-    requires located { Located work.old x × InList x × ListedIn (text s.now) s.now.end inner_depth work.old x }
+    requires located { Located work.old x × InList x × ListedIn (text s.now) s.now.end depth work.old x }
     ensures { Wrote work.old work.new to
-        (each encode_option (options_from (text s.now) s.now.end inner_depth work.old x.o x.no)) }
+        (each encode_option (options_from (text s.now) s.now.end depth work.old x.o x.no)) }
 {
     for i in 0..x.no {
         let p = option_place(work, x, i);
@@ -51,15 +50,15 @@ fn write_fixed(s: &Sheet, slot: usize, id: u32, no: u32, ne: u32, work: &mut [u8
     write_words(work, to, &[id, carried, flag, no, ne]);
 }
 
-pub fn write_head(s: &Sheet, work: &mut [u8], x: Listed, id: u32, to: usize)
+pub fn write_head(s: &Sheet, depth: u32, work: &mut [u8], x: Listed, id: u32, to: usize)
     requires bounds { (compose_at ≤ to) × (4 * (to + 5 + 2 * x.no) ≤ length work.old) }
-    requires located { Located work.old x × InList x × ListedIn (text s.now) s.now.end inner_depth work.old x }
+    requires located { Located work.old x × InList x × ListedIn (text s.now) s.now.end depth work.old x }
     ensures { Wrote work.old work.new to
-        (head_words inner_depth (meaning (text s.now) s.now.end inner_depth work.old x) id) }
+        (head_words depth (meaning (text s.now) s.now.end depth work.old x) id) }
 {
     let slot = usize::from(place(x.slot));
     let no = x.no as u32;
     let ne = x.ne as u32;
     write_fixed(s, slot, id, no, ne, work, to);
-    write_options(s, work, x, to + 5);
+    write_options(s, depth, work, x, to + 5);
 }

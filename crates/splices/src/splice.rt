@@ -16,6 +16,7 @@ use planned::halves::move_halves;
 use planned::hand::place;
 use planned::list::{Cursor, Listed, Sizes};
 use planned::record::put_head;
+use words::numbers::Block;
 use words::sheet::Sheet;
 
 // The elements in hand, with the n from `at` on in place of the one at an index, listed from half `to` on; returned is where
@@ -39,7 +40,7 @@ fn put_elements(
     let back = mid + count as usize;
     let rest = h.ne - next;
     move_halves(work, h.e, to, index);
-    let r = put_places(s, count, at, work, mid);
+    let r = put_places(s, Block::DEPTH, count, at, work, mid);
     move_halves(work, h.e + next, back, rest);
     r
 }
@@ -75,10 +76,10 @@ fn put_parts(
     ensures { PartsPut (text s.now) s.now.end inner_depth h index at work.old work.new
         e to result.at result.ne result.back }
 {
-    let p = parts_at(s, at);
+    let p = parts_at(s, Block::DEPTH, at);
     let ne = h.ne - 1 + p.ne;
     let next = put_elements(s, work, h, index, p.count, p.first, e);
-    let back = put_options(s, work, h, at, to);
+    let back = put_options(s, Block::DEPTH, work, h, at, to);
     Ends { at: next, ne, back }
 }
 

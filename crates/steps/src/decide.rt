@@ -87,7 +87,7 @@ fn splice_one(h: &Shown, quiet: bool, at: usize) -> Result<usize, Clause>
     ensures { OneAt (text h.now.s.now) h.now.s.now.end inner_depth at h.now.work.now h.now.x quiet result }
 {
     collision(h.s, h.work, quiet, at)?;
-    options_added(h, at).ok_or(Clause::OptionCollision)
+    options_added(h.s, Block::DEPTH, h.work, h.x, at).ok_or(Clause::OptionCollision)
 }
 
 // One alternative more, with so many elements and options.

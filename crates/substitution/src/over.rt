@@ -63,7 +63,7 @@ fn look_at(task: &Task, work: &mut [u8], at: usize) -> Result<(), Unplanned>
     ensures { LookedAt (text task.now.s.now) task.now.s.now.end task.now.c.names.list.now task.now.places.now task.now.c task.now.budget at
         work.old work.new result }
 {
-    let h = hub_in_hand(task.s, at, work);
+    let h = hub_in_hand(task.s, Block::DEPTH, at, work);
     look_hand(task, work, h)
 }
 

@@ -46,7 +46,7 @@ fn take_hub(s: &Sheet, work: &mut [u8], st: State) -> Taken
     requires shut { Shut (Ready (text s.now) s.now.end work.old st 0 0 0) }
     ensures { TakenFrom (text s.now) s.now.end work.old work.new st result }
 {
-    let x = hub_in_hand(s, st.at, work);
+    let x = hub_in_hand(s, Block::DEPTH, st.at, work);
     let at = alternative_end(s, Block::DEPTH, st.at);
     let left = st.left - 1;
     Taken {

@@ -17,7 +17,7 @@ use copies::pen::{Drawing, Reason, fresh};
 use heads::head::write_head;
 use heads::read::read_here;
 use planned::list::{Cursor, Listed, Mark, Sizes};
-use words::numbers::Sort;
+use words::numbers::{Block, Sort};
 use words::sheet::Sheet;
 use words::words::word;
 
@@ -38,7 +38,7 @@ fn begin(d: &mut Drawing<'_>, s: &Sheet, x: Listed, id: u32)
     ensures same_entries { d.old.trail.now ≡ d.new.trail.now }
     ensures drawn { HeadDrawn (text s.now) s.now.end inner_depth d.old.out.now x id d.new.out.now d.old.pen d.new.pen }
 {
-    write_head(s, d.out, x, id, d.pen.to);
+    write_head(s, Block::DEPTH, d.out, x, id, d.pen.to);
     d.pen.to += 5 + 2 * x.no;
 }
 
