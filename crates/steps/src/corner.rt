@@ -3,13 +3,14 @@ ghost use Rattle.std.specs.Prelude.{◌≡◌, ◌+◌, ◌*◌, ◌<◌, ◌≤
 ghost use Rattle.grammar.specs.Tree.{inner_depth};
 ghost use Rattle.grammar.specs.Words.{words};
 ghost use Rattle.grammar.specs.Found.{FoundElement};
+ghost use Rattle.planned.specs.List.{Located, ListedIn};
 ghost use Rattle.steps.specs.Corner.{bare_at, quantifier_at, met_member, CallMet, ItemMet, CornerAt};
 ghost use Rattle.words.specs.Kinds.{quantifier_number};
 ghost use Rattle.words.specs.Sheet.{text};
 
 use crate::cycle::Cycle;
-use planned::list::Item;
-use planned::shown::Shown;
+use planned::list::{Item, Listed};
+use planned::read::item;
 use reach::rows::has;
 use words::numbers::{Block, Kind, Quantifier};
 use words::sheet::Sheet;
@@ -98,13 +99,14 @@ fn meet_item(s: &Sheet, c: &Cycle, index: usize, x: Item) -> Option<Corner>
     }
 }
 
-// The corner of an alternative that is listed. It is looked for in each turn, so that no call is wanted.
-#[inline(always)]
-pub fn find_corner(a: &Shown, c: &Cycle) -> Corner
-    ensures { CornerAt c.now.names.list.now c.now (text a.now.s.now) a.now.s.now.end inner_depth a.now.work.now a.now.x result }
+// The corner of an alternative that is listed.
+// Stays: sheet, work area and list entry are no `Shown` here: tried, and a list that is stopped by refusal 7 took a sixth longer.
+pub fn find_corner(s: &Sheet, work: &[u8], x: Listed, c: &Cycle) -> Corner
+    requires { Located work.now x × ListedIn (text s.now) s.now.end inner_depth work.now x }
+    ensures { CornerAt c.now.names.list.now c.now (text s.now) s.now.end inner_depth work.now x result }
 {
-    for i in 0..a.x.ne {
-        if let Some(met) = meet_item(a.s, c, i, a.item(i)) {
+    for i in 0..x.ne {
+        if let Some(met) = meet_item(s, c, i, item(work, x, i)) {
             return met;
         }
     }

@@ -12,7 +12,6 @@ ghost use Rattle.words.specs.Sheet.{text};
 use crate::turning::Done;
 use ends::ends::alternative_end;
 use planned::list::Listed;
-use planned::shown::Shown;
 use splices::bring::hub_in_hand;
 use steps::corner::{Corner, Place, find_corner};
 use steps::decide::Clause;
@@ -47,8 +46,7 @@ fn look_hand(task: &Task, work: &mut [u8], h: Listed) -> Result<(), Unplanned>
     ensures { HandLooked (text task.now.s.now) task.now.s.now.end task.now.c.names.list.now task.now.places.now task.now.c task.now.budget
         work.old work.new h result }
 {
-    let s = task.s;
-    match find_corner(&Shown { s, work, x: h }, &task.c) {
+    match find_corner(task.s, work, h, &task.c) {
         Corner::Settled => Ok(()),
         Corner::Blocked => Err(Unplanned::Declined(stuck(task.budget))),
         Corner::Optional(p) => Err(look_step(task, work, h, p, Step::Split)),

@@ -15,7 +15,6 @@ use crate::taken::{Alternative, Taken};
 use crate::task::Task;
 use planned::hand::{into_hand, push_split};
 use planned::list::{Listed, Sizes};
-use planned::shown::Shown;
 use splices::splice::{Size, push_splice};
 use steps::corner::{Corner, Place, find_corner};
 use steps::decide::Clause;
@@ -185,7 +184,7 @@ fn act(task: &Task, work: &mut [u8], t: Taken) -> Result<State, Unplanned>
 {
     let x = t.x.listed();
     let st = t.st;
-    match find_corner(&Shown { s: task.s, work, x }, &task.c) {
+    match find_corner(task.s, work, x, &task.c) {
         Corner::Settled => Ok(put_settled(work, st, x)),
         Corner::Blocked => Err(Unplanned::Declined(stuck(st.budget))),
         Corner::Optional(p) => step_at(task, work, t, p, Step::Split),

@@ -6,14 +6,15 @@ use native.Mathlib.Omega.{arith}
 use native.Mathlib.Numerals.{add-one}
 use mathlib.Core.Bool.{Bool}
 use lib.ListN.{get_or, drop}
-use Rattle.grammar.specs.Tree.{Element, Block, inner_depth}
+use Rattle.grammar.specs.Tree.{Element, Block}
+use Rattle.grammar.specs.Found.{FoundElement}
 use Rattle.reference.specs.Analysis.{Grammar}
 use Rattle.reference.specs.Substitute.{PlannedCorner, optional, satellite, blocked, settled, further, planned_corner}
-use Rattle.planned.specs.Laws.Items.{item_found}
-use Rattle.planned.specs.Shown.{meant, ItemOf}
-use Rattle.planned.specs.Laws.Shown.{none_left}
-use Rattle.planned.specs.declared.shown.Shown.{Shown}
-use Rattle.words.specs.Sheet.{text}
+use Rattle.planned.specs.Layout.{meaning}
+use Rattle.planned.specs.List.{ListedIn}
+use Rattle.planned.specs.Reading.{ItemIs}
+use Rattle.planned.specs.Laws.Parts.{no_steps_left}
+use Rattle.planned.specs.declared.list.Listed.{Listed}
 use Rattle.std.specs.Prelude.{Option, None, Some}
 use Rattle.steps.specs.Corner.{CycleBy, corner_by, CornerIn, met_corner_by, met_corner, MetIn, ItemMet, CornerAt}
 use Rattle.steps.specs.declared.cycle.Cycle.{Cycle}
@@ -63,57 +64,59 @@ met_within c Blocked l m = tt
 met_within c (Optional p) l m = record { index = let e = m.0 in omega arith; rule = m.1; member = m.2 }
 met_within c (Satellite p) l m = (record { index = let e = m.0 in omega arith; rule = m.1; member = m.2 }, m.3)
 
-abbrev CornerOf : List ℕ → Cycle → Shown → Corner → Type 0
-CornerOf names c a = CornerAt names c (text a.s.now) a.s.now.end inner_depth a.work.now a.x
-
-module _ (names : List ℕ) (c : Cycle) (a : Shown) where
-  abbrev es : List (Element (Block inner_depth))
-  es = (meant a).elements
+module _ (names : List ℕ) (c : Cycle) (ws : List ℕ) (end d : ℕ) (bs : List ℕ) (x : Listed) where
+  abbrev es : List (Element (Block d))
+  es = (meaning ws end d bs x).elements
 
   -- The elements in front of i are silent.
   pub record Seeking (i : ℕ) : Type 0 where
     pub is : (g : Grammar) (cycle ids : List ℕ) → CycleBy g cycle ids names c
         → planned_corner g cycle (get_or ids c.hub 0) es ≡ shifted i (planned_corner g cycle (get_or ids c.hub 0) (drop i es))
-    pub within : i ≤ a.x.ne
+    pub within : i ≤ x.ne
 
   pub seek_none : Seeking 0
   unfolding shifted
   seek_none = record { is = λ g cycle ids b. refl; within = omega arith }
 
-module _ {names : List ℕ} {c : Cycle} {a : Shown} {i : ℕ} (s : Seeking names c a i) where
-  pub seek_end : a.x.ne ≤ i → CornerOf names c a Settled
+module _ {names : List ℕ} {c : Cycle} {ws : List ℕ} {end d : ℕ} {bs : List ℕ} {x : Listed} {i : ℕ}
+    (s : Seeking names c ws end d bs x i) where
+  pub seek_end : x.ne ≤ i → CornerAt names c ws end d bs x Settled
   unfolding planned_corner
   seek_end h =
       record {
         is = λ g cycle ids b.
             s.is g cycle ids b
             ∙ ap (λ zs. shifted i (planned_corner g cycle (get_or ids c.hub 0) zs))
-            (none_left a i h)
+            (no_steps_left ws end d bs x i h)
             ∙ shift_settled i;
         within = tt;
       }
 
-  module _ {at : ℕ} {made : Bool} (l : i < a.x.ne) (u : ItemOf a i at made) where
+  module _ {at : ℕ} {made : Bool} (l : i < x.ne) (f : ListedIn ws end d bs x) (t : ItemIs bs x i at made) where
     -- What is met at the element decides.
-    met : {m : Option Corner} → ItemMet names c (text a.s.now) a.s.now.end inner_depth i at made m → (g : Grammar) (cycle ids : List ℕ) → CycleBy g cycle ids names c
-        → planned_corner g cycle (get_or ids c.hub 0) (es names c a)
-        ≡ shifted i (met_corner ids m (planned_corner g cycle (get_or ids c.hub 0) (drop (i + 1) (es names c a))))
+    met : {m : Option Corner} → ItemMet names c ws end d i at made m → (g : Grammar) (cycle ids : List ℕ) → CycleBy g cycle ids names c
+        → planned_corner g cycle (get_or ids c.hub 0) (es names c ws end d bs x)
+        ≡ shifted i (met_corner ids m (planned_corner g cycle (get_or ids c.hub 0) (drop (i + 1) (es names c ws end d bs x))))
     met m g cycle ids b =
+        let u = t.is ws end d f in
         s.is g cycle ids b
         ∙ ap (λ zs. shifted i (planned_corner g cycle (get_or ids c.hub 0) zs)) (u.here u.found.tree u.found.next u.found.spans)
         ∙ ap (shifted i) (m.is g cycle ids b u.found.tree u.found.next u.found.spans _)
 
-    pub seek_silent : {k : Option Corner} → ItemMet names c (text a.s.now) a.s.now.end inner_depth i at made k → k ≡ None
-        → Seeking names c a (i + 1)
+    pub seek_silent : {k : Option Corner} → ItemMet names c ws end d i at made k → k ≡ None → Seeking names c ws end d bs x (i + 1)
     unfolding shifted
     seek_silent w e =
         let m = rw e at w in
         record { is = λ g cycle ids b. met m g cycle ids b ∙ rw (add-one i) refl; within = omega arith }
 
-    pub seek_met : {k : Option Corner} {r : Corner} → ItemMet names c (text a.s.now) a.s.now.end inner_depth i at made k → k ≡ Some r
-        → CornerOf names c a r
+    pub seek_met : {k : Option Corner} {r : Corner} → ItemMet names c ws end d i at made k → k ≡ Some r → CornerAt names c ws end d bs x r
     seek_met {r = r} w e =
-        let m : ItemMet names c (text a.s.now) a.s.now.end inner_depth i at made (Some r) = rw e at w in
+        let m : ItemMet names c ws end d i at made (Some r) = rw e at w in
         record { is = λ g cycle ids b. met m g cycle ids b ∙ shift_met c ids i r m.member; within = met_within c r l m.member }
+
+-- The element stands in the sheet.
+pub item_found : {ws : List ℕ} {end d : ℕ} {bs : List ℕ} {x : Listed} {i at : ℕ} {made : Bool} → ListedIn ws end d bs x → ItemIs bs x i at made
+    → FoundElement ws end d at
+item_found {ws} {end} {d} f t = (t.is ws end d f).found
 
 pub ruleset seeking = (item_found, seek_none, seek_end, seek_silent, seek_met)
