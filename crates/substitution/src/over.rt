@@ -82,7 +82,7 @@ fn look_all(task: &Task, work: &mut [u8], at: usize) -> Result<Option<Done>, Unp
     Ok(None)
 }
 
-// The hub of a cycle.
+// The hub of a cycle. The task may have any limits, such as the standard ones, since none of them is asked.
 pub fn unstored(task: &Task, work: &mut [u8]) -> Result<Option<Done>, Unplanned>
     requires bounds { work_bytes ≤ length work.old }
     ensures { Unstored (text task.now.s.now) task.now.s.now.end task.now.c.names.list.now task.now.places.now task.now.c task.now.budget
