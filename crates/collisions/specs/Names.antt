@@ -1,6 +1,7 @@
 -- Two sets of names, of labels and of what actions and predicates refer to: places of the sheet in the order of the words that
 -- stand there, in the work area behind the planned list. Each has a half: a place, and a bit for each set.
-use Rattle.std.specs.Prelude.{ℕ, zero, suc, ◌+◌, ◌-◌, ◌*◌, ◌/◌, ◌%◌, ◌<◌, ◌≤◌, ◌≡◌, ◌⊎◌, List, Bool, false, ◌&&◌, ◌||◌, length, get_or, eqb}
+use Rattle.std.specs.Prelude.{ℕ, zero, suc, ◌+◌, ◌-◌, ◌*◌, ◌/◌, ◌%◌, ◌<◌, ◌≤◌, ◌≡◌, ◌⊎◌}
+use Rattle.std.specs.Prelude.{List, Bool, false, ◌&&◌, ◌||◌, length, get_or, eqb}
 use Rattle.grammar.specs.Numbers.{most_words, work_bytes}
 use Rattle.grammar.specs.Lists.{member}
 use Rattle.planned.specs.Layout.{half, hand_end}

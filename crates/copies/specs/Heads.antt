@@ -1,5 +1,6 @@
 -- What is copied of one record: an element's head, a leaf's payload, an alternative's head.
-use Rattle.std.specs.Prelude.{ℕ, ◌+◌, ◌-◌, ◌*◌, ◌%◌, ◌<◌, ◌≤◌, ◌^◌, ◌≡◌, List, [], ◌∷◌, Bool, true, false, length, get_or, take, drop}
+use Rattle.std.specs.Prelude.{ℕ, ◌+◌, ◌-◌, ◌*◌, ◌%◌, ◌<◌, ◌≤◌, ◌^◌, ◌≡◌}
+use Rattle.std.specs.Prelude.{List, [], ◌∷◌, Bool, true, false, length, get_or, take, drop}
 use Rattle.grammar.specs.Numbers.{kind_end, action_kind, predicate_kind}
 use Rattle.grammar.specs.Tree.{Label, ElementHead, Leaf}
 use Rattle.grammar.specs.Stands.{Spans}

@@ -1,5 +1,6 @@
 -- Functions on lists. Sets are lists here, and only membership in them is asked.
-use Rattle.std.specs.Prelude.{ℕ, zero, suc, ◌+◌, ◌⊎◌, List, [], ◌∷◌, ◌++◌, Bool, true, false, ◌&&◌, ◌||◌, not, length, leb, ltb, eqb}
+use Rattle.std.specs.Prelude.{ℕ, zero, suc, ◌+◌, ◌⊎◌}
+use Rattle.std.specs.Prelude.{List, [], ◌∷◌, ◌++◌, Bool, true, false, ◌&&◌, ◌||◌, not, length, leb, ltb, eqb}
 use Rattle.std.proofs.Math.Option.{Option, none, some}
 
 abbrev pub is_empty : {A : Type 0} → List A → Bool

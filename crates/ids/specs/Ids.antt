@@ -1,5 +1,6 @@
 -- Walks that see the ids of a tree, in the order in which they stand; and the one that collects those of one sort.
-use Rattle.std.specs.Prelude.{ℕ, refl, ◌+◌, ◌%◌, ◌≤◌, ◌≡◌, List, [], ◌∷◌, ◌++◌, ◌&&◌, not, length, get_or, take, eqb, Option, Some, None}
+use Rattle.std.specs.Prelude.{ℕ, refl, ◌+◌, ◌%◌, ◌≤◌, ◌≡◌}
+use Rattle.std.specs.Prelude.{List, [], ◌∷◌, ◌++◌, ◌&&◌, not, length, get_or, take, eqb, Option, Some, None}
 use Rattle.grammar.specs.Tree.{ElementHead, Rule}
 use Rattle.grammar.specs.Lists.{only}
 use Rattle.grammar.specs.Numbers.{alternative_sort, element_sort, label_sort, action_sort, predicate_sort, action_kind, predicate_kind}

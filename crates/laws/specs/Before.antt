@@ -1,6 +1,7 @@
 -- The definition as it was before there was end of input: the two tests of a leaf that ask for it, without that question, and
 -- all that rests on them. What does not rest on them is the definition's own.
-use Rattle.std.specs.Prelude.{ℕ, zero, suc, ◌+◌, ◌%◌, List, [], ◌∷◌, ◌++◌, map, Bool, true, false, ◌&&◌, ◌||◌, not, length, drop, eqb}
+use Rattle.std.specs.Prelude.{ℕ, zero, suc, ◌+◌, ◌%◌}
+use Rattle.std.specs.Prelude.{List, [], ◌∷◌, ◌++◌, map, Bool, true, false, ◌&&◌, ◌||◌, not, length, drop, eqb}
 use Rattle.std.proofs.Math.Option.{none, some}
 use Rattle.grammar.specs.Tree.{Leaf, Element, leaf, block, Block, RuleOf, Rule, body_depth, Counters, Sheet}
 use Rattle.grammar.specs.Lists.{each, member, meet, all, any, keep, sorted, rounds}

@@ -7,7 +7,7 @@ ghost use Rattle.listed.specs.Ready.{Held, Recorded, JoinedPut, most_text};
 use crate::entries::list_entries;
 use crate::rules::list_rules;
 use crate::text::Text;
-use sheet::answer::rules_end;
+use sheet::trailer::Trailer;
 use words::sheet::Sheet;
 
 // The line of a refusal.
@@ -26,7 +26,11 @@ pub fn list_joined(res: &[u8], trail: &[u8], plans: u32, steps: u32, text: &mut 
     requires { Held res.now (length res.now / 4) × Recorded trail.now (length trail.now / 16) }
     ensures { JoinedPut res.now trail.now (length res.now / 4) (length trail.now / 16) plans steps text.old text.new result }
 {
-    let end = rules_end(res, res.len() / 4 - Sheet::TRAILER_WORDS);
+    let trailer = Trailer {
+        bytes: res,
+        at: res.len() / 4 - Sheet::TRAILER_WORDS,
+    };
+    let end = trailer.rules_end();
     let mut out = Text { bytes: text, n: 0 };
     out.line(b"ok", &[plans, steps]);
     let s = Sheet { bytes: res, end };

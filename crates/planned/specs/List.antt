@@ -1,5 +1,6 @@
 -- When the work area holds a planned list, and what is asked of an alternative that is listed there.
-use Rattle.std.specs.Prelude.{ℕ, zero, suc, ◌+◌, ◌-◌, ◌%◌, ◌<◌, ◌≤◌, ◌≡◌, ◌⊎◌, List, ◌∷◌, Bool, true, length, get_or, drop}
+use Rattle.std.specs.Prelude.{ℕ, zero, suc, ◌+◌, ◌-◌, ◌%◌, ◌<◌, ◌≤◌, ◌≡◌, ◌⊎◌}
+use Rattle.std.specs.Prelude.{List, ◌∷◌, Bool, true, length, get_or, drop}
 use Rattle.grammar.specs.Numbers.{work_bytes, most_words, call_kind, kind_end}
 use Rattle.grammar.specs.Tree.{Element, Block}
 use Rattle.grammar.specs.Found.{FoundElement, FoundAlternative, ElementSpans}

@@ -1,5 +1,6 @@
 -- Sets of rules as rows of bits: what is in a row, and rows with given bits.
-use Rattle.std.specs.Prelude.{ℕ, ◌/◌, ◌%◌, ◌^◌, ◌<◌, ◌≤◌, ◌≡◌, List, [], Bool, true, false, ◌&&◌, ◌||◌, not, length, get_or, eqb, ltb}
+use Rattle.std.specs.Prelude.{ℕ, ◌/◌, ◌%◌, ◌^◌, ◌<◌, ◌≤◌, ◌≡◌}
+use Rattle.std.specs.Prelude.{List, [], Bool, true, false, ◌&&◌, ◌||◌, not, length, get_or, eqb, ltb}
 use Rattle.grammar.specs.Numbers.{rule_limit}
 use Rattle.grammar.specs.Lists.{member}
 

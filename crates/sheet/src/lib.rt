@@ -5,6 +5,7 @@ pub mod answer;
 mod counts;
 mod judge;
 pub mod refused;
+pub mod trailer;
 
 ghost use Rattle.std.specs.Prelude.{◌≡◌};
 ghost use Rattle.sheet.specs.Answer.{ReadAs, read_lent, work_after};

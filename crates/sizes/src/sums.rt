@@ -3,8 +3,7 @@ use crate::tally::Tally;
 use std::ops::Add;
 
 // How many fresh ids of each sort, and how many words.
-// Stays: the fields are by sort, as those of `Counters` (writing), which says why. How large the numbers may be is a clause, since what
-// is added and what is judged have other bounds.
+// Stays: how large the numbers may be is a clause, since what is added and what is judged have other bounds.
 #[derive(Clone, Copy, Debug, Default, PartialEq, Eq)]
 pub struct Measure {
     pub tally: Tally,

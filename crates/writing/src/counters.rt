@@ -5,7 +5,7 @@ ghost use Rattle.writing.specs.Taken.{following, Took};
 use words::numbers::Sort;
 
 // Stays: SPECIFICATION 17.3 has a struct of the five counters, and the definition's has these names. A type that is generic in what it
-// has of each sort, for `Tally` and `Measure` (sizes) and `Survey` (ids) too, would be opened by each law that sets them beside these.
+// has of each sort, for `Tally` (sizes) and `Survey` (ids) too, would be opened by each law that sets them beside these.
 #[derive(Clone, Copy, Debug, PartialEq, Eq)]
 pub struct Counters {
     pub alternative: u32,

@@ -1,6 +1,7 @@
 -- The format of a sheet (SPECIFICATION 2.2 to 2.15 and 2.19), told a second time by its numbers: the words of each record where they
 -- stand, and what is good in a sheet.
-use Rattle.std.specs.Prelude.{ℕ, zero, suc, ◌+◌, ◌*◌, ◌%◌, ◌≤◌, ◌≡◌, ◌↔◌, List, [], ◌∷◌, ◌++◌, map, true, false, length, eqb}
+use Rattle.std.specs.Prelude.{ℕ, zero, suc, ◌+◌, ◌*◌, ◌%◌, ◌≤◌, ◌≡◌, ◌↔◌}
+use Rattle.std.specs.Prelude.{List, [], ◌∷◌, ◌++◌, map, true, false, length, eqb}
 use Rattle.grammar.specs.Lists.{each, only, AllOf}
 use Rattle.grammar.specs.Form.{newest}
 use Rattle.grammar.specs.Tree.{OptionDecl, Reference, Label, unlabelled, labelled, ElementHead, Call, Leaf, epsilon, action, predicate}

@@ -1,7 +1,8 @@
 -- What is promised of a whole call (SPECIFICATION 3.1 to 3.6, 4.1 to 4.6, 4.20): the number, the four values, and what stands
 -- in the three buffers at exit, row by row: 13. The rows exclude each other, so that each is given exactly where its condition
 -- holds.
-use Rattle.std.specs.Prelude.{ℕ, ◌≤◌, ◌-◌, ◌*◌, ◌%◌, ◌≡◌, ◌⊎◌, List, [], ◌∷◌, map, true, false, length, take, drop, replicate}
+use Rattle.std.specs.Prelude.{ℕ, ◌≤◌, ◌-◌, ◌*◌, ◌%◌, ◌≡◌, ◌⊎◌}
+use Rattle.std.specs.Prelude.{List, [], ◌∷◌, map, true, false, length, take, drop, replicate}
 use Rattle.grammar.specs.Lists.{each, total}
 use Rattle.grammar.specs.Tree.{Rule, Sheet}
 use Rattle.grammar.specs.Words.{words, bytes}

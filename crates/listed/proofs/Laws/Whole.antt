@@ -1,5 +1,5 @@
 -- The parts of a text, put together.
-use Prim.Native.Nat.{ℕ, ◌+◌, ◌-◌, ◌*◌, ◌≤◌}
+use Prim.Native.Nat.{ℕ, ◌+◌, ◌-◌, ◌≤◌}
 use mathlib.Core.Path.{◌≡◌}
 use mathlib.Core.List.{List, [], ◌∷◌, ◌++◌}
 use native.Mathlib.Omega.{arith}
@@ -49,9 +49,6 @@ parts {result} {n} h =
 module _ {result : List ℕ} {n : ℕ} (h : Held result n) where
   pub held_trailer : trailer_words ≤ n
   held_trailer = let p = (parts h).long in omega arith
-
-  pub held_word : 4 * (n - trailer_words + 2) + 4 ≤ length result
-  held_word = let p = (parts h).long in let r = h.room in omega arith
 
   pub held_preserved : get_or (words result) (n - trailer_words + 2) 0 ≤ n - trailer_words
   held_preserved = let p = parts h in let c = p.counted in let l = p.long in omega arith

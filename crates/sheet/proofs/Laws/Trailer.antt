@@ -31,6 +31,9 @@ not_ok : {A B : Type 0} (r : Result A B) → None ≡ result_ok r → is_ok r �
 not_ok (Ok b) e = absurd (let z : ◌≡◌ {A = ℕ} 0 1 = cc in omega arith)
 not_ok (Err b) e = refl
 
+pub in_front : {t n : ℕ} → t + trailer_words ≡ n → t ≡ n - trailer_words
+in_front e = omega arith
+
 module _ (bs : List ℕ) {t : ℕ} (e : t ≡ length bs / 4 - trailer_words) where
   pub here : length (words bs) - trailer_words ≡ t
   here = rw length_words (sym e)

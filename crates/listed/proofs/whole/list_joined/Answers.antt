@@ -1,12 +1,15 @@
 use Rattle.std.proofs.Common.{arith, rules}
 use Rattle.listed.proofs.whole.list_joined.Goals as goal
-use Rattle.listed.proofs.Laws.Whole.{held_trailer, held_word, held_preserved, rules_end, listings, joined_put}
+use Rattle.listed.proofs.Laws.Whole.{held_trailer, held_preserved, rules_end, listings, joined_put}
 
-pub overflow_sub-res : goal.overflow_sub-res
-overflow_sub-res c = held_trailer c.requires.0
+pub overflow_sub-trailer : goal.overflow_sub-trailer
+overflow_sub-trailer c = held_trailer c.requires.0
+
+pub invariant_of-trailer : goal.invariant_of-trailer
+invariant_of-trailer c = record { last = let held = held_trailer c.requires.0 in omega arith }
 
 pub rules_end-end-requires : goal.rules_end-end-requires
-rules_end-end-requires c = (held_word c.requires.0, held_preserved c.requires.0)
+rules_end-end-requires c = held_preserved c.requires.0
 
 pub invariant_of-s : goal.invariant_of-s
 invariant_of-s c =

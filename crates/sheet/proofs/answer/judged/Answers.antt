@@ -5,7 +5,7 @@ use Rattle.sheet.proofs.Laws.Answer.{ids_refused, sheet_read}
 pub returns-in_err-judge : goal.returns-in_err-judge
 returns-in_err-judge c =
     let p = err_from_is_err_and c.from_residual.result c.from_residual.ensures.1 in
-    rw (p.1, p.2) (ids_refused _ c.requires.lent.1 c.counters_at-counters.ensures c.in_err-judge.ensures)
+    rw (p.1, p.2) (ids_refused _ c.requires.lent.1 c.counters-counters.ensures c.in_err-judge.ensures)
 
 pub returns : goal.returns
-returns c = sheet_read _ c.requires.lent.1 c.counters_at-counters.ensures c.in_ok-judge.ensures c.requires.kind_is c.word.ensures
+returns c = sheet_read _ c.requires.lent.1 c.counters-counters.ensures c.in_ok-judge.ensures c.requires.kind_is c.count.ensures
