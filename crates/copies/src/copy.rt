@@ -33,7 +33,7 @@ impl Drawing<'_> {
             }
             _ => {
                 let there = leaf_end(s, depth, e.at, head);
-                self.copy_leaf(s, head.kind, head.payload, there);
+                self.copy_leaf(s, head, there);
                 there
             }
         }

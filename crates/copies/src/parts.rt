@@ -13,6 +13,7 @@ use crate::pen::{Drawing, Given, Pen, Reason, fresh, write_words};
 use planned::list::Item;
 use words::numbers::{Kind, Sort};
 use words::sheet::Sheet;
+use words::walk::Head;
 use words::words::word;
 use writing::copy::{copy_words, write};
 
@@ -114,14 +115,16 @@ impl Drawing<'_> {
     }
 
     // The payload of an element that is no block, up to where it ends.
-    pub fn copy_leaf(&mut self, s: &Sheet, kind: Kind, at: usize, there: usize)
-        requires { (there ≤ s.now.end) × LeafRoom (kind_number kind) at there self.old.out.now self.old.trail.now self.old.pen }
+    pub fn copy_leaf(&mut self, s: &Sheet, head: Head, there: usize)
+        requires { (there ≤ s.now.end)
+            × LeafRoom (kind_number head.kind) head.payload there self.old.out.now self.old.trail.now self.old.pen }
         ensures same_out { self.old.out.ghost_name ≡ self.new.out.ghost_name }
         ensures same_trail { self.old.trail.ghost_name ≡ self.new.trail.ghost_name }
-        ensures copied { LeafCopied (text s.now) s.now.end (kind_number kind) at there self.old.out.now self.new.out.now
+        ensures copied { LeafCopied (text s.now) s.now.end (kind_number head.kind) head.payload there self.old.out.now self.new.out.now
             self.old.trail.now self.new.trail.now self.old.pen self.new.pen }
     {
-        match kind {
+        let at = head.payload;
+        match head.kind {
             Kind::Action => self.copy_marked(s, at, there, Sort::Action),
             Kind::Predicate => self.copy_marked(s, at, there, Sort::Predicate),
             _ => {
