@@ -1,3 +1,2 @@
 -- The laws that the crates above cite.
 pub mod Held
-pub mod Entries

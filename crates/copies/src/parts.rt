@@ -116,7 +116,8 @@ impl Drawing<'_> {
 
     // The payload of an element that is no block, up to where it ends.
     pub fn copy_leaf(&mut self, s: &Sheet, head: Head, there: usize)
-        requires { (there ≤ s.now.end) × LeafRoom (kind_number head.kind) head.payload there self.old.out.now self.old.trail.now self.old.pen }
+        requires { (there ≤ s.now.end)
+            × LeafRoom (kind_number head.kind) head.payload there self.old.out.now self.old.trail.now self.old.pen }
         ensures same_out { self.old.out.ghost_name ≡ self.new.out.ghost_name }
         ensures same_trail { self.old.trail.ghost_name ≡ self.new.trail.ghost_name }
         ensures copied { LeafCopied (text s.now) s.now.end (kind_number head.kind) head.payload there self.old.out.now self.new.out.now

@@ -1,2 +1,2 @@
-// What is proved of reach and cycles in `reference`, of derivation nothing, for `laws` and for code: laws only, in specs/.
+// What is proved of reach, cycles and entries in `reference`, of derivation nothing, for `laws` and for code: laws only, in specs/.
 #![tactic(auto)]

@@ -2,7 +2,7 @@
 ghost use Rattle.std.specs.Prelude.{◌≡◌, ◌*◌, ◌≤◌, length, map, take};
 ghost use Rattle.grammar.specs.Words.{words};
 ghost use Rattle.grammar.specs.Lists.{rising, distinct};
-ghost use Rattle.ids.specs.Chunks.{chunk_word};
+ghost use Rattle.words.specs.Words.{chunk_word};
 
 use words::words::put_word;
 

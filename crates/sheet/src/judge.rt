@@ -20,7 +20,7 @@ use words::sheet::Sheet;
 use writing::counters::Counters;
 
 // Whether no two numbers of a row are equal.
-#[tactic(auto, using(ids::proofs::Laws::Lists::words_take))]
+#[tactic(auto, using(grammar::specs::Laws::Words::words_take))]
 fn row_is_distinct(row: &[u32], work: &mut [u8]) -> bool
     requires { 4 * length row.now ≤ length work.old }
     ensures { result ≡ distinct row.now }
@@ -39,7 +39,7 @@ fn rows_are_distinct(rules: Rules, work: &mut [u8]) -> bool
 }
 
 // Whether no two ids of one sort are equal: those that rise are not, the others are collected and sorted.
-#[tactic(auto, using(ids::proofs::Laws::Lists::words_take))]
+#[tactic(auto, using(grammar::specs::Laws::Words::words_take))]
 fn sort_is_distinct(s: &Sheet, n: u32, sort: Sort, track: Track, work: &mut [u8]) -> bool
     requires bounds { 4 * s.now.end + 4 ≤ length work.old }
     requires found_rules { FoundRules (text s.now) s.now.end n 0 × RisesApart (text s.now) s.now.end n (sort_number sort) track.falls }

@@ -19,6 +19,7 @@ use Rattle.grammar.specs.Encode.{encode, encode_rules}
 use Rattle.reference.specs.Numbers.{most_entries, entry_words}
 use Rattle.reference.specs.Apply.{Fresh}
 use Rattle.reference.specs.Run.{sheet_with, are_words, is_short, refusal_of}
+use Rattle.graph.specs.Entries.{entries_long}
 use Rattle.writing.specs.Wrote.{Wrote}
 use Rattle.writing.specs.Taken.{counters_of}
 use Rattle.writing.specs.Laws.Wrote.{wrote_stands, wrote_slice}
@@ -40,7 +41,6 @@ use Rattle.apply.specs.Laws.Held.{encode_long, held_kind, held_preserved, held_s
 use Rattle.apply.specs.Applied.{Applicable, after_of, Done, AppliedOf, WordsAfter, EntriesAfter, RefusedBy}
 use Rattle.words.specs.declared.numbers.Refusal.{Refusal}
 use Rattle.apply.proofs.Laws.Sizes.{refused_by}
-use Rattle.apply.specs.Laws.Entries.{entries_long}
 
 -- What refusal 0 says.
 record Good (kind : ℕ) (preserved : List ℕ) (f : Fresh (List Rule)) (recorded : ℕ) : Type 0 where

@@ -1,5 +1,6 @@
 -- Words and bytes: each way round is the identity, where a word stands in bytes, and what it is to write one.
-use Rattle.std.specs.Prelude.{ℕ, zero, suc, ◌+◌, ◌*◌, ◌/◌, ◌%◌, ◌≤◌, ◌<◌, ◌≡◌, refl, List, [], ◌∷◌, length, get_or, set}
+use Rattle.std.specs.Prelude.{ℕ, zero, suc, ◌+◌, ◌-◌, ◌*◌, ◌/◌, ◌%◌, ◌≤◌, ◌<◌, ◌≡◌, refl}
+use Rattle.std.specs.Prelude.{List, [], ◌∷◌, length, get_or, set, take, drop}
 use Rattle.std.proofs.Common.{ap, ap₂, arith}
 use mathlib.Core.List.{Memᴰ}
 use Rattle.grammar.specs.Numbers.{word_end}
@@ -70,6 +71,31 @@ get_d_words (a ∷ b ∷ []) i h = absurd (omega arith)
 get_d_words (a ∷ b ∷ c ∷ []) i h = absurd (omega arith)
 get_d_words (a ∷ b ∷ c ∷ d ∷ bs) zero h = refl
 get_d_words (a ∷ b ∷ c ∷ d ∷ bs) (suc i) h = rw (four_more i 1, four_more i 2, four_more i 3, four i) (get_d_words bs i (omega arith))
+
+-- The words of the first bytes are the first words, and so behind them and in between.
+pub words_take : (bs : List ℕ) (n : ℕ) → words (take (4 * n) bs) ≡ take n (words bs)
+unfolding words
+words_take bs zero = refl
+words_take [] (suc n) = rw (four n)
+words_take (a ∷ []) (suc n) = rw (four n)
+words_take (a ∷ b ∷ []) (suc n) = rw (four n)
+words_take (a ∷ b ∷ c ∷ []) (suc n) = rw (four n)
+words_take (a ∷ b ∷ c ∷ d ∷ bs) (suc n) = rw (four n) (ap {B = List ℕ} (λ l. word_of a b c d ∷ l) (words_take bs n))
+
+pub words_drop : (bs : List ℕ) (n : ℕ) → words (drop (4 * n) bs) ≡ drop n (words bs)
+unfolding words
+words_drop bs zero = refl
+words_drop [] (suc n) = rw (four n)
+words_drop (a ∷ []) (suc n) = rw (four n)
+words_drop (a ∷ b ∷ []) (suc n) = rw (four n)
+words_drop (a ∷ b ∷ c ∷ []) (suc n) = rw (four n)
+words_drop (a ∷ b ∷ c ∷ d ∷ bs) (suc n) = rw (four n) (words_drop bs n)
+
+pub words_between : (bs : List ℕ) (from to : ℕ)
+    → words (take (4 * to - 4 * from) (drop (4 * from) bs)) ≡ take (to - from) (drop from (words bs))
+words_between bs from to =
+    let e : 4 * to - 4 * from ≡ 4 * (to - from) = omega arith in
+    rw (e, ← words_drop bs from) (words_take (drop (4 * from) bs) (to - from))
 
 -- To write the four bytes of a word is to write the word.
 pub words_set : (bs : List ℕ) (i a b c d : ℕ) → 4 * i + 4 ≤ length bs

@@ -1,8 +1,8 @@
 -- Words that rise, searched; and the row of the rules that are in them.
-use Rattle.std.proofs.Common.{ℕ, zero, suc, ◌-◌, ◌*◌, ◌/◌, ◌<◌, ◌≤◌, ◌≡◌, refl, sym, ap, ap₂, ◌∙◌, subst, arith, List, [], ◌∷◌, map, length, get_or, take, drop}
+use Rattle.std.proofs.Common.{ℕ, zero, suc, ◌/◌, ◌<◌, ◌≤◌, ◌≡◌, sym, ap, ◌∙◌, subst, arith}
+use Rattle.std.proofs.Common.{List, [], ◌∷◌, map, length, get_or}
 use mathlib.Core.List.{Memᴰ}
 use Rattle.std.specs.Prelude.{Bool, true, Result, Ok, Err, is_ok}
-use Rattle.std.specs.Int.{w32, from_le_bytes}
 use Rattle.std.specs.Ordering.{nat_cmp}
 use Rattle.std.specs.List.Sorted.{IsSearchInRange, IsBinarySearchResult}
 use Rattle.std.specs.Simd.{first_chunks}
@@ -11,14 +11,15 @@ use Rattle.std.proofs.lemmas.List.Sorted.{searched}
 use lib.ListN.{length-map}
 use lib.Dec.{ltb}
 use borrow.Author.Tests.{ltb-true, ltb-false}
-use Rattle.grammar.specs.Words.{word_of, words}
+use Rattle.grammar.specs.Words.{words}
 use Rattle.grammar.specs.Lists.{member, rising}
 use Rattle.grammar.specs.Laws.Lists.{in_member, member_in}
 use Rattle.grammar.specs.Laws.Parse.{either}
 use Rattle.graph.specs.Order.{Rising, true_rising}
+use Rattle.words.specs.Words.{chunk_word}
+use Rattle.words.specs.Laws.Words.{chunk_words}
 use Rattle.reach.specs.Rows.{bit, RowOf, Collected}
 use Rattle.reach.proofs.Laws.Graph.{at_in, in_at}
-use Rattle.hub.specs.Preserved.{between, bytes_between}
 use Rattle.hub.proofs.Laws.Grounds.{row_of}
 
 -- Of rising numbers the later is the larger.
@@ -27,51 +28,6 @@ rising_at [] h i j l m = absurd (omega arith)
 rising_at (x ∷ xs) h i zero l m = absurd (omega arith)
 rising_at (x ∷ xs) h zero (suc j) l m = h.0 (get_or xs j 0) (at_in 0 xs j (omega arith))
 rising_at (x ∷ xs) h (suc i) (suc j) l m = rising_at xs h.1 i j (omega arith) (omega arith)
-
--- The number of four bytes, as the library has it.
-abbrev pub chunk_word : List ℕ → ℕ
-chunk_word y = from_le_bytes w32 y
-
--- Bytes four by four are their words.
-chunk_words : (k : ℕ) (bs : List ℕ) → k ≡ length bs / 4 → map chunk_word (first_chunks 4 k bs) ≡ words bs
-unfolding words
-chunk_words zero [] e = refl
-chunk_words zero (a ∷ []) e = refl
-chunk_words zero (a ∷ b ∷ []) e = refl
-chunk_words zero (a ∷ b ∷ c ∷ []) e = refl
-chunk_words zero (a ∷ b ∷ c ∷ d ∷ bs) e = absurd (omega arith)
-chunk_words (suc k) [] e = absurd (omega arith)
-chunk_words (suc k) (a ∷ []) e = absurd (omega arith)
-chunk_words (suc k) (a ∷ b ∷ []) e = absurd (omega arith)
-chunk_words (suc k) (a ∷ b ∷ c ∷ []) e = absurd (omega arith)
-chunk_words (suc k) (a ∷ b ∷ c ∷ d ∷ bs) e = ap₂ ◌∷◌ (omega arith) (chunk_words k bs (omega arith))
-
-four : (n : ℕ) → 4 * suc n ≡ suc (suc (suc (suc (4 * n))))
-four n = omega arith
-
-words_drop : (n : ℕ) (bs : List ℕ) → words (drop (4 * n) bs) ≡ drop n (words bs)
-unfolding words
-words_drop zero bs = refl
-words_drop (suc n) [] = rw (four n) refl
-words_drop (suc n) (a ∷ []) = rw (four n) refl
-words_drop (suc n) (a ∷ b ∷ []) = rw (four n) refl
-words_drop (suc n) (a ∷ b ∷ c ∷ []) = rw (four n) refl
-words_drop (suc n) (a ∷ b ∷ c ∷ d ∷ bs) = rw (four n) (words_drop n bs)
-
-words_take : (n : ℕ) (bs : List ℕ) → words (take (4 * n) bs) ≡ take n (words bs)
-unfolding words
-words_take zero bs = refl
-words_take (suc n) [] = rw (four n) refl
-words_take (suc n) (a ∷ []) = rw (four n) refl
-words_take (suc n) (a ∷ b ∷ []) = rw (four n) refl
-words_take (suc n) (a ∷ b ∷ c ∷ []) = rw (four n) refl
-words_take (suc n) (a ∷ b ∷ c ∷ d ∷ bs) = rw (four n) (ap {B = List ℕ} (λ l. word_of a b c d ∷ l) (words_take n bs))
-
--- Those of a part of the bytes are that part of the words.
-pub run_words : (bs : List ℕ) (from to : ℕ) → words (bytes_between bs from to) ≡ between (words bs) from to
-run_words bs from to =
-    let e : 4 * to - 4 * from ≡ 4 * (to - from) = omega arith in
-    rw e (words_take (to - from) (drop (4 * from) bs) ∙ ap (take (to - from)) (words_drop from bs))
 
 -- What a search by a key finds among elements whose keys rise.
 module _ {X : Type 0} (key : X → ℕ) (d : X) (xs : List X) (rises : rising (map key xs) ≡ true) (id : ℕ) where

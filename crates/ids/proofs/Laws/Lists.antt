@@ -1,13 +1,13 @@
--- A row of numbers as words, and the words of a part of the bytes.
-use Prim.Native.Nat.{ℕ, zero, suc, ◌+◌, ◌-◌, ◌*◌, ◌<◌, ◌≤◌}
-use mathlib.Core.Path.{◌≡◌, refl, sym, ap, ◌∙◌}
-use mathlib.Core.List.{List, [], ◌∷◌}
+-- A row of numbers as words.
+use Prim.Native.Nat.{ℕ, ◌+◌, ◌*◌, ◌<◌, ◌≤◌}
+use mathlib.Core.Path.{◌≡◌, refl, sym, ◌∙◌}
+use mathlib.Core.List.{List}
 use native.Mathlib.Omega.{arith}
 use native.Mathlib.Numerals.{add-one}
-use lib.ListN.{length, get_or, set, take, drop, length-drop}
+use lib.ListN.{length, get_or, set, take}
 use lib.Seq.{take-suc, take-suc-set, take-length}
-use Rattle.grammar.specs.Words.{words, word_of}
-use Rattle.grammar.specs.Laws.Words.{length_words, four}
+use Rattle.grammar.specs.Words.{words}
+use Rattle.grammar.specs.Laws.Words.{length_words}
 
 -- a row copied: the first `i` words are its first `i` numbers
 pub record Copying (row before s : List ℕ) (i : ℕ) : Type 0 where
@@ -42,29 +42,3 @@ module _ {row before s : List ℕ} {i : ℕ} (c : Copying row before s i) where
       rw e at c.is ∙ take-length row
 
 pub ruleset copies = (none_copied, more_copied, all_copied)
-
--- the words of the first bytes are the first words
-pub words_take : (bs : List ℕ) (n : ℕ) → 4 * n ≤ length bs → words (take (4 * n) bs) ≡ take n (words bs)
-unfolding words
-words_take bs zero h = refl
-words_take [] (suc n) h = absurd (omega arith)
-words_take (a ∷ []) (suc n) h = absurd (omega arith)
-words_take (a ∷ b ∷ []) (suc n) h = absurd (omega arith)
-words_take (a ∷ b ∷ c ∷ []) (suc n) h = absurd (omega arith)
-words_take (a ∷ b ∷ c ∷ d ∷ bs) (suc n) h = rw (four n) (ap {B = List ℕ} (λ l. word_of a b c d ∷ l) (words_take bs n (omega arith)))
-
-pub words_drop : (bs : List ℕ) (n : ℕ) → words (drop (4 * n) bs) ≡ drop n (words bs)
-unfolding words
-words_drop bs zero = refl
-words_drop [] (suc n) = rw (four n)
-words_drop (a ∷ []) (suc n) = rw (four n)
-words_drop (a ∷ b ∷ []) (suc n) = rw (four n)
-words_drop (a ∷ b ∷ c ∷ []) (suc n) = rw (four n)
-words_drop (a ∷ b ∷ c ∷ d ∷ bs) (suc n) = rw (four n) (words_drop bs n)
-
--- the words of the bytes from one place up to another
-pub words_between : (bs : List ℕ) (a b : ℕ) → a ≤ b → 4 * b ≤ length bs
-    → words (take (4 * b - 4 * a) (drop (4 * a) bs)) ≡ take (b - a) (drop a (words bs))
-words_between bs a b h g =
-    let z : 4 * b - 4 * a ≡ 4 * (b - a) = omega arith in
-    rw (z, ← words_drop bs a) (words_take (drop (4 * a) bs) (b - a) (let l = length-drop (4 * a) bs in omega arith))

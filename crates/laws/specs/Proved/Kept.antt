@@ -17,6 +17,7 @@ use Rattle.reference.specs.Substitute.{Limits}
 use Rattle.reference.specs.Run.{Stage, ended, eliminate_mutual_left_recursion, sheet_after, steps_of, encode_entry, entries_of, Outcome}
 use Rattle.reference.specs.Run.{filled}
 use Rattle.reference.specs.Run.{Answer, refusal, answer, answer_to, are_lent, untouched, delivered, outcome}
+use Rattle.graph.specs.Entries.{entries_long}
 use Rattle.grammar.specs.Reading.{is_length}
 use Rattle.laws.specs.Demands.Refusals.{RefusedSo}
 use Rattle.laws.specs.Proved.Refusals.{refused_so_lem}
@@ -28,7 +29,7 @@ use Rattle.laws.specs.Demands.Table.{bad_length, not_lent, not_read, not_ended, 
 use Rattle.laws.specs.Demands.Kept.{same_bytes, OwnResult, Kept, KeptRust, Bought, EveryCall}
 use Rattle.laws.specs.Running.Leaves.{Told}
 use Rattle.laws.specs.Running.Stages.{valid_told}
-use Rattle.laws.specs.Validity.Result.{good_of, run_room, entries_length}
+use Rattle.laws.specs.Validity.Result.{good_of, run_room}
 use Rattle.laws.specs.BothReadings.Readings.{demand3_textbook_lem, demand3_rust_lem}
 use Rattle.laws.specs.BothReadings.Later.{later_rust_lem}
 use Rattle.laws.specs.BothReadings.SameRun.{sheet_same}
@@ -115,7 +116,7 @@ module _ (limits : Limits) (bs : List ℕ) (b : AreBytes bs) (result trail work 
         let (v, f) = accepted_valid newest bs b s x.reads in
         let same = trail_words_lem ts in
         let lengths = ap length same in
-        let entries = entries_length limits c (entries_of ts) in
+        let entries = entries_long (entries_of ts) in
         let count = trail_entries ts in
         let size : o.trail_length ≡ 4 * length (trail_words ts) = let h = d.trail_length in omega arith in
         ap (λ n. words (take n o.trail)) size ∙ ap words (d.trail_holds.front ∙ ap bytes (sym same))

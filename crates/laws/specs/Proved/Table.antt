@@ -28,6 +28,7 @@ use Rattle.reference.specs.Run.{inner_depth, Stage, Run, ended, stopped, elimina
 use Rattle.reference.specs.Run.{encode_entry, Outcome, refusal, answer_run, answer_reading, answer_to, filled, are_lent, untouched}
 use Rattle.reference.specs.Run.{delivered}
 use Rattle.reference.specs.Run.{outcome}
+use Rattle.graph.specs.Entries.{entries_long}
 use Rattle.grammar.specs.Numbers.{least_bytes, most_bytes, result_bytes, trail_bytes, work_bytes, most_words}
 use Rattle.grammar.specs.Numbers.{short_buffer, bad_trailer, shared_number, id_past_counter}
 use Rattle.laws.specs.Demands.Table.{GoodLength, Lent, Fails, trailer, records, equal_ids, high_ids, Passes, zeros, Holds, trail_words}
@@ -35,7 +36,7 @@ use Rattle.laws.specs.Demands.Table.{Delivered, cleared, Row, bad_length, not_le
 use Rattle.laws.specs.Running.Refused.{Refused, for_ids, for_length, is_refused}
 use Rattle.laws.specs.Running.Stages.{sheet_ends}
 use Rattle.laws.specs.Running.Stopped.{StopsAt, by_search, by_plan, sheet_stops}
-use Rattle.laws.specs.Validity.Result.{stages_short, stages_words, entries_length}
+use Rattle.laws.specs.Validity.Result.{stages_short, stages_words}
 
 -- The tests of length and buffers.
 pub good_length_lem : (bs : List ℕ) → is_length (length bs) ≡ true → GoodLength bs
@@ -164,7 +165,7 @@ module _ (limits : Limits) (corners : Corners) (bs result trail work : List ℕ)
     trail_fits =
         let h = stages_short limits corners s.kind s.preserved (sheet_ends limits corners s ts u).0 (omega arith) in
         let n = ap length (trail_words_lem ts) in
-        let m = entries_length limits corners (entries_of ts) in
+        let m = entries_long (entries_of ts) in
         omega (arith, l.for_trail)
 
     ended_delivered : Delivered result trail work s ts (delivered result trail work (answer_run s (ended ts)))
@@ -175,7 +176,7 @@ module _ (limits : Limits) (corners : Corners) (bs result trail work : List ℕ)
           plans = refl;
           steps = refl;
           result_length = refl;
-          trail_length = let m = entries_length limits corners (entries_of ts) in let n = trail_entries ts in omega arith;
+          trail_length = let m = entries_long (entries_of ts) in let n = trail_entries ts in omega arith;
           result_holds = holds (encode (sheet_after s ts)) result result_fits;
           trail_holds =
               subst (λ ws. Holds (trail_words ts) trail (filled (bytes ws) trail)) (sym (trail_words_lem ts))

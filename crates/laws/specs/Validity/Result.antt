@@ -1,5 +1,5 @@
 -- The run: every grammar on the way is valid, the result fits, and all entries are one trail.
-use Rattle.std.specs.Prelude.{ℕ, ◌≤◌, ◌<◌, ◌+◌, ◌*◌, ◌≡◌, ◌&&◌, length, leb, ltb}
+use Rattle.std.specs.Prelude.{ℕ, ◌≤◌, ◌<◌, ◌+◌, ◌≡◌, ◌&&◌, length, leb, ltb}
 use Rattle.std.proofs.Math.Path.{refl}
 use Rattle.std.proofs.Common.{sym, subst, leb-true, le-leb, ltb-true}
 use mathlib.Core.List.Memᴰ
@@ -23,10 +23,11 @@ use Rattle.grammar.specs.Numbers.{most_words}
 use Rattle.grammar.specs.Numbers.{word_end}
 use Rattle.reference.specs.Substitute.{Limits}
 use Rattle.reference.specs.Plan.{CyclePlan}
-use Rattle.reference.specs.Apply.{unchanged, apply_plan, Entry}
+use Rattle.reference.specs.Apply.{unchanged, apply_plan}
 use Rattle.reference.specs.Run.{inner_depth, Stage, planned, find_plan, ended, sheet_with, refusal_of}
 use Rattle.reference.specs.Run.{eliminate_mutual_left_recursion}
 use Rattle.reference.specs.Run.{sheet_after, entries_of, encode_entry}
+use Rattle.graph.specs.Entries.{entries_long}
 use Rattle.laws.specs.Lists.Lookup.{all_in}
 use Rattle.laws.specs.Demands.Answers.{ReadsBack, GoodAnswer}
 use Rattle.laws.specs.Lists.Count.{distinct_count, count_distinct, below_count, count_below}
@@ -245,16 +246,11 @@ module _ (limits : Limits) (corners : Corners) where
       let l = stages_short s.kind s.preserved (sheet_ends limits corners s ss e).0 (omega arith) in
       (omega arith, λ w m. trail_words_lem (run_trail s e g) (counters_fit (sheet_after s ss) (run_good s e g).fitting) m)
 
-  pub entries_length : (es : List Entry) → length (each encode_entry es) ≡ 4 * length es
-  unfolding encode_entry
-  entries_length [] = refl
-  entries_length (e ∷ es) = let h = entries_length es in omega arith
-
   -- The words of its answer.
   pub run_answer : (s : Sheet) → Good s → {ss : List Stage} → eliminate_mutual_left_recursion limits corners s ≡ ended ss
       → GoodAnswer (sheet_after s ss) (encode (sheet_after s ss)) (each encode_entry (entries_of ss))
   run_answer s g {ss} k =
       let r = run_room s k g in
-      let l = entries_length (entries_of ss) in
+      let l = entries_long (entries_of ss) in
       let n = r.0 in
       record { is_encoding = refl; reads_back = good_reads (run_good s k g); short = omega arith; are_words = r.1 }

@@ -7,9 +7,8 @@ use lib.ListN.{length, take, drop}
 use lib.Seq.{length-take-le, take-take}
 use Rattle.grammar.specs.Words.{words}
 use Rattle.grammar.specs.Stands.{Stands}
-use Rattle.grammar.specs.Laws.Words.{length_words}
+use Rattle.grammar.specs.Laws.Words.{length_words, words_take}
 use Rattle.grammar.specs.Laws.Stands.{stands_length, stands_slice, slice_stands}
-use Rattle.ids.proofs.Laws.Lists.{words_take}
 use Rattle.listed.specs.Ready.{Held, Recorded}
 
 -- Words that stand from the first on, in as many words as they may end at.
@@ -23,7 +22,7 @@ front ws {xs} n q h s =
 
 -- The first n words of some bytes.
 pub stands_front : (bs : List ℕ) {xs : List ℕ} (n q : ℕ) → 4 * n ≤ length bs → Stands (words bs) n xs 0 q → Stands (words (take (4 * n) bs)) n xs 0 q
-stands_front bs n q h s = rw (words_take bs n h) (front (words bs) n q (omega (arith, length_words bs)) s)
+stands_front bs n q h s = rw (words_take bs n) (front (words bs) n q (omega (arith, length_words bs)) s)
 
 unfoldable pub held_front : {result : List ℕ} {n : ℕ} → Held result n → Held (take (4 * n) result) (length (take (4 * n) result) / 4)
 held_front {result} {n} h =

@@ -33,6 +33,7 @@ use Rattle.reference.specs.Run as R
 use Rattle.reference.specs.Run.{Run, ended, stopped, eliminate_mutual_left_recursion, sheet_after, entries_of, are_lent, filled}
 use Rattle.reference.specs.Run.{outcome}
 use Rattle.reference.specs.Run.{answer_to, answer_reading, answer_run, delivered, untouched, refused_with, refusal, answer}
+use Rattle.graph.specs.Entries.{entries_long}
 use Rattle.laws.specs.Demands.Answers.{Answered}
 use Rattle.laws.specs.Demands.Refusals.{RefusedSo, by_reader, by_run, Stops, too_large, no_id_left, too_long}
 use Rattle.laws.specs.Proved.All.{theorems}
@@ -44,7 +45,6 @@ use Rattle.words.specs.declared.numbers.Refusal.{Refusal}
 use Rattle.pass.specs.declared.answer.Totals.{Totals}
 use Rattle.pass.specs.Handed.{outcome_of, Handed}
 use Rattle.listing.specs.Told.{refusal_in, Answers, Lent}
-use Rattle.apply.specs.Laws.Entries.{entries_long}
 
 -- The listing of bytes, by their answer.
 module _ (bs : List ℕ) where

@@ -6,9 +6,8 @@ use native.Mathlib.Omega.{arith}
 use lib.ListN.{length, take, replicate}
 use lib.Seq.{length-take-le}
 use Rattle.grammar.specs.Words.{words, bytes}
-use Rattle.grammar.specs.Laws.Words.{AreBytes, length_words, length_bytes, bytes_words}
+use Rattle.grammar.specs.Laws.Words.{AreBytes, length_words, length_bytes, words_take, bytes_words}
 use Rattle.grammar.specs.Laws.Stands.{stands_slice, stands_length}
-use Rattle.ids.proofs.Laws.Lists.{words_take}
 use Rattle.reference.specs.Run.{filled}
 use Rattle.run.specs.Ended.{Front}
 use Rattle.pass.specs.Handed.{ClearedFrom}
@@ -27,7 +26,7 @@ front_bytes {bs} {ws} {n} h f =
     let m : length ws ≡ n = omega arith in
     let s : take n (words bs) ≡ ws = rw m at (stands_slice (omega arith) f.stands) in
     let k = length-take-le (4 * n) bs r in
-    sym (bytes_words (take (4 * n) bs) (take_bytes bs (4 * n) h) (omega arith)) ∙ ap bytes (words_take bs n r ∙ s)
+    sym (bytes_words (take (4 * n) bs) (take_bytes bs (4 * n) h) (omega arith)) ∙ ap bytes (words_take bs n ∙ s)
 
 -- Cleared behind the words, or from the front on.
 pub front_filled : {bs after ws : List ℕ} {n at : ℕ} (buffer : List ℕ) → AreBytes bs → Front bs ws n → at ≡ 4 * n

@@ -14,11 +14,10 @@ use Rattle.grammar.specs.Words.{words}
 use Rattle.grammar.specs.Lists.{rising}
 use Rattle.grammar.specs.Encode.{encode, encode_rules}
 use Rattle.grammar.specs.Reading.{sheet}
-use Rattle.grammar.specs.Laws.Words.{length_words}
+use Rattle.grammar.specs.Laws.Words.{length_words, words_between}
 use Rattle.grammar.specs.Laws.Whole.{words_sound, reads_sheet, valid_parts}
 use Rattle.grammar.specs.Laws.Trailer.{trailing, encode_split}
 use Rattle.hub.specs.Preserved.{between, bytes_between}
-use Rattle.hub.proofs.Laws.Preserved.{run_words}
 use Rattle.sheet.specs.Answer.{read_lent, numbers_in, answer_of, parts_of, ReadAs, Lent}
 use Rattle.sheet.specs.declared.answer.Reading.{Reading}
 use Rattle.std.specs.Prelude.{Ok}
@@ -68,7 +67,7 @@ module _ (bs work : List ℕ) {r : Reading} (a : ReadAs (read_lent bs work) (Ok 
         kept_between was.tree (encoded (taken bs work was.tree was.is)) read_end (e ∙ ap (λ k. r.parts.preserved + k) read_count)
 
     pub read_preserved : words (bytes_between bs r.parts.preserved to) ≡ was.tree.preserved
-    read_preserved = run_words bs r.parts.preserved to ∙ between_read
+    read_preserved = words_between bs r.parts.preserved to ∙ between_read
 
     pub read_rises : rising (words (bytes_between bs r.parts.preserved to)) ≡ true
     read_rises = ap rising read_preserved ∙ (valid_parts newest was.tree was.good).preserved

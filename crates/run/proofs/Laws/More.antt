@@ -23,6 +23,7 @@ use Rattle.reference.specs.Substitute as R
 use Rattle.reference.specs.Numbers.{entry_words}
 use Rattle.reference.specs.Apply.{fresh_each, apply_alternative, apply_plan}
 use Rattle.reference.specs.Run.{Stage, sheet_with, refusal_of, entries_of, encode_entry, answer_run}
+use Rattle.graph.specs.Entries.{entries_long}
 use Rattle.laws.specs.Running.Midway.{Midway, SoFar, NextPlan, stage_from, midway_so_far, midway_next}
 use Rattle.laws.specs.Running.Midway.{midway_more, midway_refused, steps_fit}
 use Rattle.laws.specs.Running.Stages.{entries_last, steps_last}
@@ -36,7 +37,6 @@ use Rattle.apply.specs.Applied.{AppliedAs, AppliedOf, Done}
 use Rattle.apply.specs.Laws.Held.{held_long, held_room, held_standing}
 use Rattle.apply.specs.declared.apply.Applied.{Applied}
 use Rattle.apply.specs.Judged.{number_in}
-use Rattle.apply.specs.Laws.Entries.{entries_long}
 use Rattle.words.specs.Refusal.{refusal_number}
 use Rattle.words.specs.declared.numbers.Refusal.{Refusal}
 use Rattle.words.specs.declared.numbers.Refusal.TheVariants.{BadLength, ShortBuffer, BadTrailer, BadRecord, SharedNumber}

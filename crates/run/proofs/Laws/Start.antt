@@ -14,6 +14,7 @@ use Rattle.grammar.specs.Encode.{encode}
 use Rattle.grammar.specs.Valid.{fits_in}
 use Rattle.grammar.specs.Lists.{rising, total}
 use Rattle.grammar.specs.Words.{words}
+use Rattle.grammar.specs.Laws.Words.{words_between}
 use Rattle.grammar.specs.Laws.Stands.{stands_none}
 use Rattle.grammar.specs.Corners.{Corners}
 use Rattle.reference.specs.Substitute as R
@@ -27,7 +28,6 @@ use Rattle.records.specs.declared.rules.Rules.{Rules}
 use Rattle.reach.specs.Rows.{RowOf}
 use Rattle.analysis.specs.Facts.{Standing, FactsFound}
 use Rattle.hub.specs.Preserved.{bytes_between}
-use Rattle.hub.proofs.Laws.Preserved.{run_words}
 use Rattle.plan.specs.declared.ground.Ground.{Ground}
 use Rattle.plan.specs.Ground.{KeptAt, KeptOf}
 use Rattle.apply.specs.declared.apply.Applied.{Applied}
@@ -52,7 +52,7 @@ module _ {result : List ℕ} {end to : ℕ} {rules : Rules} {counters : Counters
   begun_kept = held_kept x.held x.is_valid
 
   pub begun_rises : rising (words (bytes_between result end to)) ≡ true
-  begun_rises = ap rising (run_words result end to) ∙ begun_kept.rises
+  begun_rises = ap rising (words_between result end to) ∙ begun_kept.rises
 
   unfoldable pub begun_standing : Standing (words result) end rules
   begun_standing = held_standing x.held x.is_valid x.rows
@@ -74,7 +74,7 @@ module _ (limits : R.Limits) {reading : Corners} {result : List ℕ} {at : Appli
         rows = x.rows;
         counters = x.counters_are;
         facts = f.is (begun_standing x);
-        keeps = subst (λ ps. RowOf at.rules.ids at.rules.n ps ground.kept) (run_words result at.end at.to ∙ held_preserved x.held) k.row;
+        keeps = subst (λ ps. RowOf at.rules.ids at.rules.n ps ground.kept) (words_between result at.end at.to ∙ held_preserved x.held) k.row;
         told = subst (λ n. Front trail [] (entry_words * n)) (sym e) (record { stands = stands_none (omega arith); room = omega arith });
         entries = e;
         plans = refl;

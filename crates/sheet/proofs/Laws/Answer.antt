@@ -23,7 +23,7 @@ use Rattle.grammar.specs.Reading as reading
 use Rattle.grammar.specs.Reading.{refused, sheet, trailer, unit_kind, first_distance, second_distance, rules_end, is_trailer, read_words_in}
 use Rattle.grammar.specs.Reading.{rules_of_in}
 use Rattle.grammar.specs.Reading.{preserved_ids, counters_of, sheet_of, judge, read_words}
-use Rattle.grammar.specs.Laws.Words.{length_words}
+use Rattle.grammar.specs.Laws.Words.{length_words, words_between}
 use Rattle.grammar.specs.Laws.Stands.{stands_length}
 use Rattle.grammar.specs.Laws.Parse.{yields_got}
 use Rattle.grammar.specs.Laws.Sound.{rules_sound}
@@ -44,7 +44,6 @@ use Rattle.sheet.specs.Answer as answer
 use Rattle.sheet.specs.Answer.{Numbers, numbers_in, CountersAt, ReadAs}
 use Rattle.sheet.specs.Verdict.{verdict}
 use Rattle.sheet.specs.Answer.{EndAt}
-use Rattle.ids.proofs.Laws.Lists.{words_between}
 use Rattle.sheet.proofs.Laws.Trailer.{here}
 
 -- refusals, and a sheet with its rules
@@ -252,10 +251,7 @@ module _ (bs : List ℕ) {b : Bool} (e : b ≡ is_trailer (words bs)) where
         module _ {rules : Rules} (g : r ≡ Some rules) {c : Bool} (i : c ≡ rising (words (take (4 * t - 4 * end) (drop (4 * end) bs)))) where
           told : c ≡ rising (take (t - end) (drop end (words bs)))
           told =
-              let z = k.split in
-              let p = k.place in
-              let m = k.least in
-              i ∙ ap rising (words_between bs end t (omega arith) (omega arith))
+              i ∙ ap rising (words_between bs end t)
 
           pub rising_refused : c ≡ false → ReadAs (read_words (words bs)) (Err BadRecord)
           unfolding judge

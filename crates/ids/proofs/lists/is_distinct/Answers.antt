@@ -1,6 +1,6 @@
 use Rattle.std.proofs.Common.{rules, refl}
 use Rattle.std.proofs.lemmas.List.Sorted.{answers_always}
-use Rattle.ids.specs.Chunks.{chunk_word}
+use Rattle.words.specs.Words.{chunk_word}
 use Rattle.ids.proofs.lists.is_distinct.Goals as goal
 use Rattle.ids.proofs.Laws.Sorted.{sorted_told}
 

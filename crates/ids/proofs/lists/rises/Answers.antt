@@ -1,7 +1,7 @@
 use Rattle.std.proofs.Common.{rules}
 use lib.Dec.{ltb}
 use Rattle.std.proofs.lemmas.List.Sorted.{answers_always}
-use Rattle.ids.specs.Chunks.{chunk_word}
+use Rattle.words.specs.Words.{chunk_word}
 use Rattle.ids.proofs.lists.rises.Goals as goal
 use Rattle.ids.proofs.Laws.Sorted.{rising_told}
 

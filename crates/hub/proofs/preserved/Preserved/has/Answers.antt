@@ -1,7 +1,8 @@
 use Rattle.std.proofs.Common.{rules, refl, ◌∙◌}
 use Rattle.std.proofs.lemmas.List.Sorted.{answers_always}
 use Rattle.hub.proofs.preserved.Preserved.has.Goals as goal
-use Rattle.hub.proofs.Laws.Preserved.{chunk_word, id_found}
+use Rattle.words.specs.Words.{chunk_word}
+use Rattle.hub.proofs.Laws.Preserved.{id_found}
 
 -- The closure gives the word that stands in four bytes.
 pub returns : goal.returns
