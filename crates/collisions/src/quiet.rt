@@ -44,6 +44,8 @@ impl Listener {
     }
 }
 
+// Stays: the three visitors of this crate take a label, and at a leaf what is in it; how, is each one's own, as are its state, what fits and
+// what stays. One visitor over a trait of these two would have that trait state the eight members of `Visitor` once more for it.
 impl Visitor for Listener {
     ghost State = { Bool };
 

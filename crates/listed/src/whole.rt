@@ -10,9 +10,10 @@ use crate::text::Text;
 use sheet::trailer::Trailer;
 use words::sheet::Sheet;
 
-// The line of a refusal.
+// The line of a refusal. Here and below the text is lent by a caller, of which the front is filled.
 // Stays: the refusal is told by its number. The line is promised for every number, and with the enum the function would ask for one of
-// nine.
+// nine. The answer is how much of the text is filled, here, below and in `listing`, and no slice of it: `Filled` says what stands behind
+// that too, and a slice would keep the text borrowed.
 pub fn list_refused(number: u32, text: &mut [u8]) -> usize
     ensures { Filled text.old text.new result (listed_refusal number) most_text }
 {

@@ -11,8 +11,8 @@ pub fn read_input(from: &mut impl Read, bytes: &mut [u8]) -> io::Result<usize>
     ensures { IfOk result (λ n. IsPrefixLen n bytes.new) }
 {
     let mut n: usize = 0;
-    // Stays: a read says how many bytes it gave, so that there is no range to go over; `read_to_end` would need a `Vec`, and would look
-    // behind a full buffer.
+    // Stays: a read says how many bytes it gave, so that there is no range to go over; `read_to_end` would need a `Vec`, and this project
+    // has no heap (README, "What is assumed").
     while n < bytes.len() {
         let more = from.read(&mut bytes[n..])?;
         if more == 0 {

@@ -37,6 +37,8 @@ pub struct Plan {
 }
 
 // Behind the substitution: a step was made, what it left can be rewritten; then the rules that may go.
+// Stays: members and hub are two parameters here and in what is called (`judge` of rewritable, `removable` of hub). The cycle that has
+// both (steps) lends the names of the rules besides, and neither of those crates knows of steps.
 fn finish(
     f: &Facts,
     members: [u64; Row::WORDS],

@@ -89,7 +89,9 @@ impl Mark {
 // A planned alternative: the slot that it fills, where it was taken from last, and where its elements and options are listed.
 // Stays: that it is listed is a clause where the work area is written, as with `Sizes`. Of those that only read it, most take a `Shown`.
 // By its parts take it `item`, `option_place` and `option_meets`, which ask less and which writers call; `options_added` (splices), which
-// is of any depth; and `find_corner` (steps), which is slower with a `Shown`.
+// is of any depth; and `find_corner` (steps), which is slower with a `Shown`. An index into it is another parameter, and that it lies
+// below `ne` a clause: indices come with the member that was met (`Place`, `Call` in steps), so that a struct of alternative and index
+// would part what is met at one place, and be made for four functions alone, each of which takes it apart.
 #[derive(Clone, Copy, Debug, PartialEq, Eq)]
 pub struct Listed {
     pub slot: u16,

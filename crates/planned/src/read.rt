@@ -27,6 +27,9 @@ pub struct Read {
     pub next: Cursor,
 }
 
+// Stays: this is no iterator over the settled alternatives, nor is what goes over a rule's alternatives in the sheet. The contract of
+// `next` relates an iterator, an item and the iterator behind it, while each walk states what it did by the list's meaning, or by the
+// tree: each would have to turn a number of items back into the place that a cursor is.
 pub fn read_settled(work: &[u8], l: Sizes, c: Cursor) -> Read
     requires { Laid work.now l × OnTrack work.now l c × (c.a < l.out.a) }
     ensures { ReadNext work.now l c result.x result.next }

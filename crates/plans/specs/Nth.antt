@@ -10,6 +10,7 @@ use Rattle.reference.specs.Plan.{plan_cycle}
 use Rattle.records.specs.declared.rules.Rules.{Rules}
 use Rattle.analysis.specs.Facts.{Standing}
 use Rattle.steps.specs.Decide.{clause_of}
+use Rattle.steps.specs.declared.decide.Clause.{Clause}
 use Rattle.turns.specs.declared.turn.Unplanned.{Unplanned}
 use Rattle.turns.specs.declared.turn.Unplanned.TheVariants.{Declined, Overfull}
 use Rattle.plan.specs.declared.plan.Plan.{Plan}
@@ -53,6 +54,11 @@ ending_number E.Planned = 0
 ending_number E.Declined = 1
 ending_number E.TooLarge = 2
 ending_number E.NoCycle = 3
+
+-- The number of the clause by which a cycle is declined, 0 where it is not.
+abbrev pub told_clause : Option Clause → ℕ
+told_clause None = 0
+told_clause (Some c) = clause_number (clause_of c)
 
 -- In numbers: no refusal, so many cycles, how the decision ends; of a plan the hub's place, steps and alternatives, of a decline
 -- its clause.

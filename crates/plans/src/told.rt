@@ -1,9 +1,10 @@
 // How a decision is told in numbers, and what it leaves in the work area.
 ghost use Rattle.std.specs.Prelude.{[], ◌∷◌, ◌≡◌};
-ghost use Rattle.plans.specs.Nth.{capped, choice_numbers, choice_row, ending_number, left_by};
+ghost use Rattle.plans.specs.Nth.{capped, choice_numbers, choice_row, ending_number, told_clause, left_by};
 
 use plan::plan::Plan;
 use reach::rows::Row;
+use steps::decide::Clause;
 use turns::turn::Unplanned;
 use words::words::clear;
 
@@ -51,12 +52,16 @@ fn capped(n: usize) -> u32
     n.min(Told::MOST) as u32
 }
 
-// Where there is no plan: how the decision ends, and the number of the clause by which a cycle is declined.
-fn without_plan(cycles: u32, ending: Ending, clause: u32) -> Told
-    ensures { (result.numbers ≡ 0 ∷ cycles ∷ ending_number ending ∷ 0 ∷ clause ∷ 0 ∷ 0 ∷ 0 ∷ []) × (result.row ≡ 0 ∷ 0 ∷ []) }
+// Where there is no plan: how the decision ends, and the clause by which a cycle is declined, whose number is told, or 0 for none.
+fn without_plan(cycles: u32, ending: Ending, clause: Option<Clause>) -> Told
+    ensures { (result.numbers ≡ 0 ∷ cycles ∷ ending_number ending ∷ 0 ∷ told_clause clause ∷ 0 ∷ 0 ∷ 0 ∷ []) × (result.row ≡ 0 ∷ 0 ∷ []) }
 {
+    let number = match clause {
+        Some(c) => u32::from(c),
+        None => 0,
+    };
     Told {
-        numbers: [0, cycles, u32::from(ending), 0, clause, 0, 0, 0],
+        numbers: [0, cycles, u32::from(ending), 0, number, 0, 0, 0],
         row: [0; Row::WORDS],
     }
 }
@@ -83,13 +88,11 @@ pub fn tell(cycles: u32, choice: Option<Result<Plan, Unplanned>>) -> Told
                 row,
             }
         }
-        Some(Err(Unplanned::Declined(clause))) => without_plan(
-            cycles,
-            Ending::Declined,
-            u32::from(clause),
-        ),
-        Some(Err(Unplanned::Overfull)) => without_plan(cycles, Ending::TooLarge, 0),
-        None => without_plan(cycles, Ending::NoCycle, 0),
+        Some(Err(Unplanned::Declined(clause))) => {
+            without_plan(cycles, Ending::Declined, Some(clause))
+        }
+        Some(Err(Unplanned::Overfull)) => without_plan(cycles, Ending::TooLarge, None),
+        None => without_plan(cycles, Ending::NoCycle, None),
     }
 }
 

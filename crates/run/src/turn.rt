@@ -91,6 +91,8 @@ fn advance(
 
 // The first cycle with a plan, and the plan applied; none where no cycle has one.
 // Stays: limits, reading and room are three parameters, as docs/DECISIONS.md has them ("Room, limits and entries so far are arguments").
+// What is known of limits (`Small`) is asked by `find_plan` alone, and what is known of the room by `apply` alone: one value of the three
+// would ask both of each.
 pub fn take_turn(
     res: &mut [u8],
     trail: &mut [u8],

@@ -6,7 +6,9 @@ use planned::list::Sizes;
 use splices::splice::Size;
 
 // The least budget, and how large a planned list may be after a step.
-// Stays: the last three are no `Size`. They are named as in the definition (`reference`), and `most` gives them as one.
+// Stays: the last three are no `Size`. That names its numbers a, e and o, and tells how much there is or comes; these are named as in the
+// definition (`reference`), law for law, and to callers. With a `Size` the one function `most` would go, and each law that speaks of a
+// limit would speak of a field of a field.
 #[derive(Clone, Copy, Debug, PartialEq, Eq)]
 pub struct Limits {
     pub floor: usize,

@@ -6,6 +6,8 @@ use crate::state::State;
 use planned::list::Listed;
 
 // One of the sheet, which is in hand.
+// Stays: what splits, splices and decides (planned, splices, steps) has `InHand` as a clause and takes no such value, beside clauses that
+// speak of the same alternative in the work area (`Located`, `HasRoom`), which no value can hold, since that area is written between.
 #[derive(Clone, Copy, Debug, PartialEq, Eq)]
 pub struct FromSheet {
     pub x: Listed,
