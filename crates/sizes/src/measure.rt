@@ -37,7 +37,7 @@ fn measure_elements(a: &Shown) -> Measure
 {
     let mut m = Measure::default();
     for i in 0..a.x.ne {
-        m = m + measure_element(a.s, a.item(i).at);
+        m = m.add(measure_element(a.s, a.item(i).at));
     }
     m
 }
@@ -70,7 +70,7 @@ pub fn measure(s: &Sheet, work: &[u8], l: Sizes) -> Measure
     let mut c = Cursor::default();
     for _ in 0..l.out.a {
         let r = read_settled(work, l, c);
-        m = m + measure_alternative(&Shown { s, work, x: r.x });
+        m = m.add(measure_alternative(&Shown { s, work, x: r.x }));
         c = r.next;
     }
     m
