@@ -68,13 +68,8 @@ fn write_new(d: &mut Drawing<'_>, s: &Sheet, x: Listed)
         d.old.trail.now d.new.trail.now d.old.pen d.new.pen }
 {
     let owner = id_at(s, usize::from(x.origin));
-    let given = fresh(
-        d.trail,
-        d.pen,
-        Sort::Alternative,
-        Reason::RuleBoundary,
-        owner,
-    );
+    let reason = u32::from(Reason::RuleBoundary);
+    let given = fresh(d.trail, d.pen, Sort::Alternative, reason, owner);
     d.pen = given.pen;
     begin(d, s, x, given.id);
     write_items(d, s, x, true);
