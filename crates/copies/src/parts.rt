@@ -44,7 +44,7 @@ fn label_id(s: &[u8], at: usize, trail: &mut [u8], pen: Pen) -> Given
 }
 
 // The words of an element's head, of which three are given.
-// Stays: this is no method of `Drawing`. It writes no entry and moves no pen, which as a method it would say in three clauses more.
+// Stays: this is no method of `Drawing`. It writes no entry and moves no pen, which as a method it would say in four clauses more.
 fn write_head(
     s: &[u8],
     at: usize,
@@ -123,7 +123,8 @@ impl Drawing<'_> {
 
     // The payload of an element that is no block, up to where it ends.
     pub(crate) fn copy_leaf(&mut self, s: &Sheet, head: Head, there: usize)
-        requires { (there ≤ s.now.end) × LeafRoom (kind_number head.kind) head.payload there self.old.out.now self.old.trail.now self.old.pen }
+        requires { (there ≤ s.now.end)
+            × LeafRoom (kind_number head.kind) head.payload there self.old.out.now self.old.trail.now self.old.pen }
         ensures same_out { self.old.out.ghost_name ≡ self.new.out.ghost_name }
         ensures same_trail { self.old.trail.ghost_name ≡ self.new.trail.ghost_name }
         ensures copied { LeafCopied (text s.now) s.now.end (kind_number head.kind) head.payload there self.old.out.now self.new.out.now

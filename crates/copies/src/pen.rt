@@ -56,7 +56,7 @@ pub struct Drawing<'a> {
 
 // Words one after the other.
 // Stays: `put_row` (ids) has this loop too. It promises no more than the row itself, in front of a scratch buffer; as a call of this it
-// would take from `Wrote` that one part again, and its crate would need one more, to save two lines.
+// would take that one part out of `Wrote` again, and `ids` would use a crate more, to save two lines.
 pub fn write_words(out: &mut [u8], at: usize, ws: &[u32])
     requires { 4 * (at + length ws.now) ≤ length out.old }
     ensures { Wrote out.old out.new at ws.now }

@@ -61,6 +61,7 @@ fn measure_alternative(a: &Shown) -> Measure
 }
 
 // The settled alternatives, for a hub's own body.
+// Stays: they are read with a cursor, for what `read_settled` (planned) tells of an iterator.
 pub fn measure(s: &Sheet, work: &[u8], l: Sizes) -> Measure
     requires bounds { s.now.end ≤ most_words }
     requires laid { Laid work.now l × AllIn (text s.now) s.now.end inner_depth work.now l }
