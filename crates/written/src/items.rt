@@ -13,8 +13,8 @@ use words::numbers::Block;
 use words::sheet::Sheet;
 
 // One element: a copy with fresh ids, or as it stands.
-// Stays: `fresh` is a flag. What is drawn is chosen by a Boolean of this name (`drawn_element`), and each clause of all writers here has
-// it. An enum of two cases would be turned into it in each of them; a closure would be promised to draw by it, for one or the other.
+// Stays: `fresh` is a flag. The definition of what is drawn chooses by a Boolean (`drawn_element`), which each clause on it has. An enum of
+// two cases would be turned into it in each of them, and the contract of a closure would have it still, since what fits depends on it.
 fn write_item(d: &mut Drawing<'_>, s: &Sheet, e: Item, fresh: bool)
     requires item_fits { ItemFits (text s.now) s.now.end inner_depth e.at e.plain fresh d.old.out.now d.old.trail.now d.old.pen }
     ensures same_out { d.old.out.ghost_name ≡ d.new.out.ghost_name }
