@@ -11,12 +11,12 @@
   makes a value is asked for what such a field says: reached.py has what lies there. Functions of
   open modules may rest on what the reader states, and have one.
 - No `axiom` and no hole stands in an .antt file.
-- No library assumes anything: it uses crates of this repository alone and names nothing of `std` but its
-  `ops`, the traits of operators, which rest on nothing of C, since a library's verdict does not count the
-  axioms of the kit's; and `rt ci`, whose words stand in target/log/ci, has proved it: in that run, and
-  then its last line has neither `foreign=` nor, of a static library, an `axioms=` other than 0, nor a word
-  which says that another run, or another logic than the kit's, is trusted; or in an earlier one, which
-  `rt ci` held to the same but for `axioms=`: tools/archives holds each archive to that.
+- No library assumes anything: it uses crates of this repository alone and names nothing of `std` that
+  rests on C, since a library's verdict does not count the axioms of the kit's; and `rt ci`, whose words
+  stand in target/log/ci, has proved it: in that run, and then its last line has neither `foreign=` nor,
+  of a static library, an `axioms=` other than 0, nor a word which says that another run, or another
+  logic than the kit's, is trusted; or in an earlier one, which `rt ci` held to the same but for
+  `axioms=`: tools/archives holds each archive to that.
 
 One line for each breach, with file and line. usage: contracts.py [ROOT]
 """
@@ -36,8 +36,6 @@ KEPT = "is kept: an earlier run on this machine proved the same files over the s
 TRUSTING = ("pinned=no", "cache=", "incremental=", "crate-checked=", "batches=")
 # The libraries that every crate has, and what their prelude has of handles, by which C is reached.
 ROOTS = ("std", "core")
-# What they have of traits alone, and of nothing that rests on C.
-PURE = [["std", ":", ":", "ops", ":", ":"]]
 HANDLES = {"HostRuntime", "LibcRuntime", "Alloc", "AllocGlobal", "Print", "Eprint", "Input", "Lock"}
 
 
@@ -168,8 +166,8 @@ def breaches_of_names(where, text):
     """What a library's file names of the libraries that every crate has, by which it may assume."""
     found = list(rattle_words(text))
     for at, (word, place) in enumerate(found):
-        path = [word, *(after for after, _ in found[at + 1 : at + 6])]
-        if word in HANDLES or (word in ROOTS and path[1:3] == [":", ":"] and path not in PURE):
+        behind = [after for after, _ in found[at + 1 : at + 3]]
+        if word in HANDLES or (word in ROOTS and behind == [":", ":"]):
             yield f"{where}:{line_of(text, place)}: a library names {word}, which may assume"
 
 

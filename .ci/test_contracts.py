@@ -105,14 +105,6 @@ class Contracts(Tree):
                 self.write("crates/tree/src/more.rt", text)
                 self.assert_breach(f"crates/tree/src/more.rt:1: a library names {word}, which may assume")
 
-    def test_library_that_names_the_traits_of_operators(self):
-        self.write("crates/tree/src/more.rt", "use std::ops::{Add, Sub};\n")
-        self.assertEqual(self.check()[0], 0, self.check()[1])
-        for text in ("use std::{ops::Add, io::Read};\n", "use std::ops;\n", "use std::opsy::Add;\n"):
-            with self.subTest(text):
-                self.write("crates/tree/src/more.rt", text)
-                self.assert_breach("crates/tree/src/more.rt:1: a library names std, which may assume")
-
     def test_library_that_cites_the_kit(self):
         self.write("crates/tree/src/more.rt", "// std::io\nghost use Rattle.std.specs.Prelude.{length};\nfn f(core: u32) {}\n")
         self.assertEqual(self.check()[0], 0, self.check()[1])

@@ -111,7 +111,10 @@ class Traits(Tree):
         self.with_file("use low::visit::Visitor;\n" + TRAIT[TRAIT.index("pub struct") :])
         self.assertEqual(self.check()[0], 0, self.check()[1])
         self.edit("crates/tree/src/more.rt", "use low::visit::Visitor;", "use std::ops::Visitor;")
-        self.assert_breach("crates/tree/src/more.rt:9: fn leaf is open to callers and has no ensures")
+        self.assert_breach(
+            "crates/tree/src/more.rt:9: fn leaf is open to callers and has no ensures",
+            "crates/tree/src/more.rt:1: a library names std, which may assume",
+        )
 
     def test_impl_of_a_trait_of_the_kit(self):
         self.with_file(MADE)

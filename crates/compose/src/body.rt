@@ -39,14 +39,8 @@ fn close(d: &mut Drawing<'_>, id: u32)
     ensures same_words { d.old.out.now ≡ d.new.out.now }
     ensures closed { Closed id d.old.trail.now d.new.trail.now d.old.pen d.new.pen }
 {
-    write_entry(
-        d.trail,
-        d.pen.trail,
-        Sort::RULE,
-        id,
-        Reason::RuleBoundary,
-        id,
-    );
+    let reason = u32::from(Reason::RuleBoundary);
+    write_entry(d.trail, d.pen.trail, Sort::RULE, id, reason, id);
     d.pen.trail += 4;
 }
 

@@ -2,5 +2,5 @@
 #![tactic(auto)]
 
 pub mod copy;
-pub mod parts;
+mod parts;
 pub mod pen;

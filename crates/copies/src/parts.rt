@@ -30,6 +30,7 @@ fn packed(s: &[u8], at: usize, plain: bool) -> u32
 }
 
 // A fresh id for the label whose two words stand from `at` on, or 0 where there is none.
+// Stays: this is no method of `Drawing`, for the reason that `fresh` (pen) has.
 fn label_id(s: &[u8], at: usize, trail: &mut [u8], pen: Pen) -> Given
     requires { (4 * (at + 2) ≤ length s.now) × LabelRoom (get_or (words s.now) (at + 1) 0) trail.old pen }
     ensures { LabelGiven (words s.now) at trail.old trail.new pen result.id result.pen }
@@ -38,10 +39,12 @@ fn label_id(s: &[u8], at: usize, trail: &mut [u8], pen: Pen) -> Given
         return Given { id: 0, pen };
     }
     let owner = word(s, at);
-    fresh(trail, pen, Sort::Label, Reason::BlockBoundary, owner)
+    let reason = u32::from(Reason::BlockBoundary);
+    fresh(trail, pen, Sort::Label, reason, owner)
 }
 
 // The words of an element's head, of which three are given.
+// Stays: this is no method of `Drawing`. It writes no entry and moves no pen, which as a method it would say in four clauses more.
 fn write_head(
     s: &[u8],
     at: usize,
@@ -63,6 +66,8 @@ fn write_head(
 }
 
 // An id just given, and the words that stand behind the old one.
+// Stays: this is no method of `Drawing`. It writes no entry, which as a method it would say in three clauses more; and it begins at the
+// pen that the id came with, which is not yet the drawing's.
 fn copy_behind(s: &[u8], at: usize, there: usize, given: Given, out: &mut [u8]) -> Pen
     requires { BehindRoom s.now at there out.old given }
     ensures { CopiedBehind (words s.now) at there given out.old out.new result }
@@ -76,7 +81,7 @@ fn copy_behind(s: &[u8], at: usize, there: usize, given: Given, out: &mut [u8]) 
 
 impl Drawing<'_> {
     // An element's head, with fresh ids for it and its label.
-    pub fn copy_head(&mut self, s: &Sheet, e: Item, payload: usize)
+    pub(crate) fn copy_head(&mut self, s: &Sheet, e: Item, payload: usize)
         requires { (payload ≤ s.now.end) × HeadRoom (text s.now) e.at payload self.old.out.now self.old.trail.now self.old.pen }
         ensures same_out { self.old.out.ghost_name ≡ self.new.out.ghost_name }
         ensures same_trail { self.old.trail.ghost_name ≡ self.new.trail.ghost_name }
@@ -88,7 +93,8 @@ impl Drawing<'_> {
         let to = pen.to + (payload - at);
         let packed = packed(s.bytes, at + 2, e.plain);
         let owner = word(s.bytes, at);
-        let given = fresh(self.trail, pen, Sort::Element, Reason::BlockBoundary, owner);
+        let reason = u32::from(Reason::BlockBoundary);
+        let given = fresh(self.trail, pen, Sort::Element, reason, owner);
         let first = given.pen;
         let named = label_id(s.bytes, at + 3, self.trail, first);
         write_head(
@@ -100,7 +106,7 @@ impl Drawing<'_> {
 
     // What begins with an id of a sort, up to a place, with a fresh id: an action, a predicate, or the head of a block's alternative up to
     // its first element.
-    pub fn copy_marked(&mut self, s: &Sheet, at: usize, there: usize, sort: Sort)
+    pub(crate) fn copy_marked(&mut self, s: &Sheet, at: usize, there: usize, sort: Sort)
         requires bounds { there ≤ s.now.end }
         requires marked_room { MarkedRoom (counter_of sort self.old.pen.counters) at there
             self.old.out.now self.old.trail.now self.old.pen }
@@ -110,12 +116,13 @@ impl Drawing<'_> {
             self.old.out.now self.new.out.now self.old.trail.now self.new.trail.now self.old.pen self.new.pen }
     {
         let owner = word(s.bytes, at);
-        let given = fresh(self.trail, self.pen, sort, Reason::BlockBoundary, owner);
+        let reason = u32::from(Reason::BlockBoundary);
+        let given = fresh(self.trail, self.pen, sort, reason, owner);
         self.pen = copy_behind(s.bytes, at, there, given, self.out);
     }
 
     // The payload of an element that is no block, up to where it ends.
-    pub fn copy_leaf(&mut self, s: &Sheet, head: Head, there: usize)
+    pub(crate) fn copy_leaf(&mut self, s: &Sheet, head: Head, there: usize)
         requires { (there ≤ s.now.end)
             × LeafRoom (kind_number head.kind) head.payload there self.old.out.now self.old.trail.now self.old.pen }
         ensures same_out { self.old.out.ghost_name ≡ self.new.out.ghost_name }
@@ -135,7 +142,7 @@ impl Drawing<'_> {
     }
 
     // How many alternatives a block has.
-    pub fn copy_count(&mut self, n: u32)
+    pub(crate) fn copy_count(&mut self, n: u32)
         requires { 4 * (self.old.pen.to + 1) ≤ length self.old.out.now }
         ensures same_out { self.old.out.ghost_name ≡ self.new.out.ghost_name }
         ensures same_trail { self.old.trail.ghost_name ≡ self.new.trail.ghost_name }

@@ -2,7 +2,7 @@
 ghost use Rattle.std.specs.Prelude.{◌≡◌, [], ◌∷◌, ◌+◌, ◌*◌, ◌≤◌, length};
 ghost use Rattle.writing.specs.Wrote.{Wrote};
 ghost use Rattle.words.specs.Kinds.{sort_number};
-ghost use Rattle.copies.specs.Reasons.{reason_number, counter_of};
+ghost use Rattle.copies.specs.Reasons.{counter_of};
 ghost use Rattle.copies.specs.Pen.{EntryRoom, Gave};
 
 use words::numbers::Sort;
@@ -55,6 +55,8 @@ pub struct Drawing<'a> {
 }
 
 // Words one after the other.
+// Stays: `put_row` (ids) has this loop too. It promises no more than the row itself, in front of a scratch buffer; as a call of this it
+// would take that one part out of `Wrote` again, and `ids` would use a crate more, to save two lines.
 pub fn write_words(out: &mut [u8], at: usize, ws: &[u32])
     requires { 4 * (at + length ws.now) ≤ length out.old }
     ensures { Wrote out.old out.new at ws.now }
@@ -65,17 +67,21 @@ pub fn write_words(out: &mut [u8], at: usize, ws: &[u32])
 }
 
 // Every entry of the trail is written here.
-pub fn write_entry(trail: &mut [u8], at: usize, kind: u32, id: u32, reason: Reason, owner: u32)
+// Stays: the kind and the reason are numbers, for which this is promised whatever they are; with an enum it would ask for one of a few.
+pub fn write_entry(trail: &mut [u8], at: usize, kind: u32, id: u32, reason: u32, owner: u32)
     requires { 4 * (at + 4) ≤ length trail.old }
-    ensures { Wrote trail.old trail.new at (kind ∷ id ∷ reason_number reason ∷ owner ∷ []) }
+    ensures { Wrote trail.old trail.new at (kind ∷ id ∷ reason ∷ owner ∷ []) }
 {
-    write_words(trail, at, &[kind, id, u32::from(reason), owner]);
+    write_words(trail, at, &[kind, id, reason, owner]);
 }
 
 // A fresh id of a sort, with its entry.
-pub fn fresh(trail: &mut [u8], pen: Pen, sort: Sort, reason: Reason, owner: u32) -> Given
+// Stays: the reason is a number, for which this is promised whatever it is; with the enum it would ask for one of two.
+// Stays: this is no method of `Drawing`. It draws nothing, and as a method it would ask for a buffer to draw into, and need three clauses
+// more to say that the buffer and what is lent stay, which the parameters show.
+pub fn fresh(trail: &mut [u8], pen: Pen, sort: Sort, reason: u32, owner: u32) -> Given
     requires { EntryRoom (counter_of sort pen.counters) trail.old pen }
-    ensures { Gave (sort_number sort) (counter_of sort pen.counters) (reason_number reason) owner
+    ensures { Gave (sort_number sort) (counter_of sort pen.counters) reason owner
         trail.old trail.new pen result.id result.pen }
 {
     let taken = pen.counters.take(sort);

@@ -37,7 +37,7 @@ fn measure_elements(a: &Shown) -> Measure
 {
     let mut m = Measure::default();
     for i in 0..a.x.ne {
-        m = m + measure_element(a.s, a.item(i).at);
+        m = m.add(measure_element(a.s, a.item(i).at));
     }
     m
 }
@@ -61,6 +61,7 @@ fn measure_alternative(a: &Shown) -> Measure
 }
 
 // The settled alternatives, for a hub's own body.
+// Stays: they are read with a cursor, for what `read_settled` (planned) tells of an iterator.
 pub fn measure(s: &Sheet, work: &[u8], l: Sizes) -> Measure
     requires bounds { s.now.end ≤ most_words }
     requires laid { Laid work.now l × AllIn (text s.now) s.now.end inner_depth work.now l }
@@ -70,7 +71,7 @@ pub fn measure(s: &Sheet, work: &[u8], l: Sizes) -> Measure
     let mut c = Cursor::default();
     for _ in 0..l.out.a {
         let r = read_settled(work, l, c);
-        m = m + measure_alternative(&Shown { s, work, x: r.x });
+        m = m.add(measure_alternative(&Shown { s, work, x: r.x }));
         c = r.next;
     }
     m

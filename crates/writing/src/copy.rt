@@ -6,6 +6,8 @@ ghost use Rattle.writing.specs.Wrote.{Wrote};
 use words::words::put_word;
 
 // One word.
+// Stays: this is `put_word`, which tells its own callers of a list with one word set. All that writes here tells the same by `Wrote`, of
+// which the laws put one after the other, and so needs one word told by it too.
 pub fn write(out: &mut [u8], at: usize, w: u32)
     requires { 4 * (at + 1) ≤ length out.old }
     ensures { Wrote out.old out.new at (w ∷ []) }

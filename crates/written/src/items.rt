@@ -13,7 +13,8 @@ use words::numbers::Block;
 use words::sheet::Sheet;
 
 // One element: a copy with fresh ids, or as it stands.
-// Stays: `fresh` is a flag. The definitions of what is drawn have it by this name, and a function for each case would be its twin.
+// Stays: `fresh` is a flag. The definition of what is drawn chooses by a Boolean (`drawn_element`), which each clause on it has. An enum of
+// two cases would be turned into it in each of them, and the contract of a closure would have it still, since what fits depends on it.
 fn write_item(d: &mut Drawing<'_>, s: &Sheet, e: Item, fresh: bool)
     requires item_fits { ItemFits (text s.now) s.now.end inner_depth e.at e.plain fresh d.old.out.now d.old.trail.now d.old.pen }
     ensures same_out { d.old.out.ghost_name ≡ d.new.out.ghost_name }
@@ -29,6 +30,7 @@ fn write_item(d: &mut Drawing<'_>, s: &Sheet, e: Item, fresh: bool)
 }
 
 // All elements of an alternative that is listed.
+// Stays: `fresh` is a flag, as in `write_item`.
 pub fn write_items(d: &mut Drawing<'_>, s: &Sheet, x: Listed, fresh: bool)
     requires bounds { compose_at ≤ d.old.pen.to }
     requires readable { Readable (text s.now) s.now.end inner_depth d.old.out.now x

@@ -68,13 +68,8 @@ fn write_new(d: &mut Drawing<'_>, s: &Sheet, x: Listed)
         d.old.trail.now d.new.trail.now d.old.pen d.new.pen }
 {
     let owner = id_at(s, usize::from(x.origin));
-    let given = fresh(
-        d.trail,
-        d.pen,
-        Sort::Alternative,
-        Reason::RuleBoundary,
-        owner,
-    );
+    let reason = u32::from(Reason::RuleBoundary);
+    let given = fresh(d.trail, d.pen, Sort::Alternative, reason, owner);
     d.pen = given.pen;
     begin(d, s, x, given.id);
     write_items(d, s, x, true);
@@ -96,6 +91,7 @@ fn write_one(d: &mut Drawing<'_>, s: &Sheet, x: Listed)
     write_same(d, s, x);
 }
 
+// Stays: the list is read with a cursor. An iterator over it would hold the area that is lent, in which this draws behind the list.
 fn write_list(d: &mut Drawing<'_>, s: &Sheet, l: Sizes)
     requires bounds { compose_at ≤ d.old.pen.to }
     requires laid { Laid d.old.out.now l × AllIn (text s.now) s.now.end inner_depth d.old.out.now l }

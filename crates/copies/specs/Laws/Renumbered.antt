@@ -118,3 +118,7 @@ module _ (d : ℕ) (b : Block (suc d)) (c : Counters) where
       ≡ (length b ∷ []) ++ each (encode_alternative (encode_block d)) (fresh_each (renumber_alternative (renumber_block d)) b c).node
   unfolding encode_block_in renumber_block
   nested_words_of = rw (each_count (renumber_alternative (renumber_block d)) b c)
+
+  pub nested_is : renumber_block (suc d) b c ≡ fresh_each (renumber_alternative (renumber_block d)) b c
+  unfolding renumber_block
+  nested_is = refl

@@ -9,11 +9,12 @@ pub fresh-given-requires : goal.fresh-given-requires
 fresh-given-requires c = search (rules, news)
 
 pub begin-requires-clause-bounds : goal.begin-requires-clause-bounds
-begin-requires-clause-bounds c = search (rules, news)
+begin-requires-clause-bounds c = let gave = rw c.from-reason.ensures at c.fresh-given.ensures in search (rules, news)
 
 pub write_items-requires-clause-readable : goal.write_items-requires-clause-readable
 write_items-requires-clause-readable c =
-    let gave = rw c.begin.ensures.same_entries at c.fresh-given.ensures in
+    let given = rw c.from-reason.ensures at c.fresh-given.ensures in
+    let gave = rw c.begin.ensures.same_entries at given in
     let owner = rw c.from.ensures at c.id_at-owner.ensures in
     let asked = c.requires in (
       new_readable _ _ _ _ _ asked.bounds.1 asked.readable.1 owner gave c.begin.ensures.drawn asked.bounds.0 asked.readable.0,
@@ -22,7 +23,8 @@ write_items-requires-clause-readable c =
 
 pub returns-clause-drawn : goal.returns-clause-drawn
 returns-clause-drawn c =
-    let gave = rw c.begin.ensures.same_entries at c.fresh-given.ensures in
+    let given = rw c.from-reason.ensures at c.fresh-given.ensures in
+    let gave = rw c.begin.ensures.same_entries at given in
     let owner = rw c.from.ensures at c.id_at-owner.ensures in
     let asked = c.requires in
     new_drawn _ _ _ _ _ asked.bounds.1 asked.readable.1 owner gave c.begin.ensures.drawn asked.bounds.0 asked.readable.0

@@ -4,4 +4,4 @@ use Rattle.copies.proofs.Laws.Heads.{headings}
 
 -- src/parts.rt:64:1
 pub returns-clause-copied : goal.returns-clause-copied
-returns-clause-copied c = search (rules, headings)
+returns-clause-copied c = let gave = rw c.from-reason.ensures at c.fresh-given.ensures in search (rules, headings)

@@ -1,6 +1,6 @@
 use Rattle.std.proofs.Common.{rules}
 use Rattle.sizes.specs.Sized.{plus}
-use Rattle.sizes.proofs.sums.MeasureAdd.add.Goals as goal
+use Rattle.sizes.proofs.sums.Measure.add.Goals as goal
 use Rattle.sizes.specs.Sized.{plus}
 
 -- src/sums.rt:17:1
