@@ -28,8 +28,6 @@ pub struct Marks {
 pub struct Rows {
     pub calls: [[u64; Row::WORDS]; Row::RULES],
     pub corners: [[u64; Row::WORDS]; Row::RULES],
-    ghost calls_long: { length calls ≡ rule_limit },
-    ghost corners_long: { length corners ≡ rule_limit },
 }
 
 impl Rows {

@@ -1,6 +1,7 @@
 // One walk over alternatives and elements: what is seen in them.
-// Stays: SPECIFICATION 17.2 fixes that an element and a block are told by each other, and the common walk (words::visit) has no
-// step behind a block or an alternative, at which this one joins what was seen in front of it with what was seen in it.
+// Stays: this is no visitor of the common walk (words::visit). That has no step behind a block or an alternative, at which this one joins
+// what was seen in front of it with what was seen in it. With two such steps in the trait its eight visitors would each state and show
+// that they do nothing there, and this one would keep what was seen in front, which lies in the frames of its calls now, in rows by depth.
 ghost use Rattle.std.specs.Prelude.{◌≤◌};
 ghost use Rattle.grammar.specs.Found.{FoundElement, FoundElements, FoundAlternative, FoundAlternatives};
 ghost use Rattle.grammar.specs.Fold.{ElementWalked, ElementsWalked, AlternativeWalked, AlternativesWalked};

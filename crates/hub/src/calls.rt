@@ -1,5 +1,5 @@
 // The rules that several rules call, as a row.
-ghost use Rattle.std.specs.Prelude.{◌≡◌, ◌<◌, ◌≤◌, length};
+ghost use Rattle.std.specs.Prelude.{◌≡◌, ◌<◌, ◌≤◌};
 ghost use Rattle.grammar.specs.Numbers.{rule_limit};
 ghost use Rattle.hub.specs.Calls.{CallsAdded, CallsFrom};
 
@@ -28,7 +28,7 @@ pub fn calls_from(
     out: [u64; Row::WORDS],
     from: [u64; Row::WORDS],
 ) -> [u64; Row::WORDS]
-    requires { (n ≤ rule_limit) × (length calls.now ≡ rule_limit) }
+    requires { n ≤ rule_limit }
     ensures { CallsFrom calls.now out from n result }
 {
     let mut r = from;

@@ -1,6 +1,5 @@
 // The rule of a cycle that takes the others' places (SPECIFICATION 7.2, 7.3).
-ghost use Rattle.std.specs.Prelude.{◌≡◌, length};
-ghost use Rattle.grammar.specs.Numbers.{rule_limit};
+ghost use Rattle.std.specs.Prelude.{◌≡◌};
 ghost use Rattle.hub.specs.Hub.{Chosen};
 ghost use Rattle.words.specs.Sheet.{text};
 
@@ -20,7 +19,6 @@ pub fn choose_hub(
     members: [u64; Row::WORDS],
     kept: [u64; Row::WORDS],
 ) -> Option<usize>
-    requires bounds { length calls.now ≡ rule_limit }
     ensures { Chosen (text g.now.s.now) g.now.s.now.end g.now.rules.now nullable calls.now members kept result }
 {
     let n = g.rules.n as usize;

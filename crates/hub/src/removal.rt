@@ -1,5 +1,5 @@
 // The satellites that may go when a plan is applied (SPECIFICATION 9.6): the members that nothing calls which stays.
-ghost use Rattle.std.specs.Prelude.{◌≡◌, ◌<◌, ◌≤◌, length};
+ghost use Rattle.std.specs.Prelude.{◌≡◌, ◌<◌, ◌≤◌};
 ghost use Rattle.grammar.specs.Numbers.{rule_limit};
 ghost use Rattle.hub.specs.Removal.{Thinned, Removable};
 
@@ -16,7 +16,7 @@ fn thinned(
     planned: [u64; Row::WORDS],
     hub: usize,
 ) -> [u64; Row::WORDS]
-    requires { (n ≤ rule_limit) × (hub < rule_limit) × (length calls.now ≡ rule_limit) }
+    requires { (n ≤ rule_limit) × (hub < rule_limit) }
     ensures { Thinned calls.now n planned hub row result }
 {
     let mut m = row;
@@ -40,7 +40,7 @@ pub fn removable(
     planned: [u64; Row::WORDS],
     hub: usize,
 ) -> [u64; Row::WORDS]
-    requires { (n ≤ rule_limit) × (hub < rule_limit) × (length calls.now ≡ rule_limit) }
+    requires { (n ≤ rule_limit) × (hub < rule_limit) }
     ensures { Removable calls.now n planned hub members kept result }
 {
     thinned(calls, n, without(minus(members, kept), hub), planned, hub)

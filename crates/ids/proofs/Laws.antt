@@ -5,3 +5,4 @@ pub mod Ids
 pub mod Seeing
 pub mod Track
 pub mod Survey
+pub mod NoSort

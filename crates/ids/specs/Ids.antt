@@ -6,8 +6,10 @@ use Rattle.grammar.specs.Lists.{only}
 use Rattle.grammar.specs.Numbers.{alternative_sort, element_sort, label_sort, action_sort, predicate_sort, action_kind, predicate_kind}
 use Rattle.grammar.specs.Numbers.{kind_end}
 use Rattle.grammar.specs.Ids.{head_ids, leaf_ids, body_ids}
+use Rattle.grammar.specs.Words.{words}
 use Rattle.grammar.specs.Found.{RulesSpan}
 use Rattle.grammar.specs.Fold.{AlternativeHead, Steps}
+use Rattle.ids.specs.declared.ids.Collector.{Collector}
 
 abbrev pub own_of : Option ℕ → List ℕ
 own_of (Some i) = i ∷ []
@@ -49,6 +51,14 @@ seeing_past_alternative see s t h = refl
 -- The ids of one sort, behind those that are there.
 abbrev pub behind : ℕ → List ℕ → (ℕ → List ℕ) → List ℕ
 behind sort ids more = ids ++ more sort
+
+-- A collector has these ids behind those that it had, in the same buffer, and one at most is more.
+pub record Pushed (v w : Collector) (ids : List ℕ) : Type 0 where
+  pub same_buffer : v.work.ghost_name ≡ w.work.ghost_name
+  pub same_length : length v.work.now ≡ length w.work.now
+  pub same_sort : v.sort ≡ w.sort
+  pub wrote : take w.out (words w.work.now) ≡ take v.out (words v.work.now) ++ ids
+  pub few : w.out ≤ v.out + 1
 
 -- The first words are the ids of one sort of the rules that stand there.
 pub record CollectedSort (ws : List ℕ) (end n sort : ℕ) (after : List ℕ) (r : ℕ) : Type 0 where

@@ -32,6 +32,8 @@ pub fn is_distinct(s: &mut [u8]) -> bool
 }
 
 // The first words become the numbers of a row.
+// Stays: `write_words` (copies) writes numbers at any word, and promises what stands around them too (`Wrote`). `ids` uses neither it nor
+// `writing`, and asks for the first words alone.
 #[tactic(auto, using(crate::proofs::Laws::Lists::copies))]
 pub fn put_row(row: &[u32], s: &mut [u8])
     requires { 4 * length row.now ≤ length s.old }

@@ -1,6 +1,6 @@
 // The cycles of a grammar, by least id (SPECIFICATION 6.7, 6.8). They are gone through so: `loops` of what is joined is left; the
 // `first` that is left names a cycle, whose members are `around` it; `minus` these, the later cycles are left.
-ghost use Rattle.std.specs.Prelude.{◌≡◌, ◌≤◌, length};
+ghost use Rattle.std.specs.Prelude.{◌≡◌, ◌≤◌};
 ghost use Rattle.grammar.specs.Numbers.{rule_limit};
 ghost use Rattle.reach.specs.Cycles.{Joined, IsNext};
 ghost use Rattle.reach.specs.Listed.{AllLeft, GivesNext, AheadOf, CyclesIn};
@@ -43,7 +43,7 @@ pub fn next_cycle(
     n: usize,
     left: [u64; Row::WORDS],
 ) -> Option<Ahead>
-    requires { (n ≤ rule_limit) × (length closed.now ≡ rule_limit) }
+    requires { n ≤ rule_limit }
     ensures { AheadOf closed.now ids.now n left result }
 {
     let i = first(*ids, left, n)?;
@@ -62,7 +62,7 @@ pub fn list_cycles(
     n: usize,
     cycles: &mut [[u64; Row::WORDS]; Row::RULES],
 ) -> u32
-    requires { (n ≤ rule_limit) × (length cycles.old ≡ rule_limit) }
+    requires { n ≤ rule_limit }
     ensures { CyclesIn corners ids n cycles.old cycles.new result }
 {
     let closed = joined(corners, n);

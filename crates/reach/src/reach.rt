@@ -1,5 +1,5 @@
 // Reachability over rows (SPECIFICATION 6.6, 17.1). Rules are numbered by their places in the sheet; those below n are there.
-ghost use Rattle.std.specs.Prelude.{◌≡◌, ◌<◌, ◌≤◌, length};
+ghost use Rattle.std.specs.Prelude.{◌≡◌, ◌<◌, ◌≤◌};
 ghost use Rattle.grammar.specs.Numbers.{rule_limit};
 ghost use Rattle.reach.specs.Reach.{Others, Closed, Loops, Around};
 ghost use Rattle.reach.specs.Steps.{Through};
@@ -20,7 +20,7 @@ pub fn others(rows: [[u64; Row::WORDS]; Row::RULES], n: usize) -> [[u64; Row::WO
 
 // Where rule k leads, each row that has k leads too. A row is stored where it changes alone.
 fn through(rows: &mut [[u64; Row::WORDS]; Row::RULES], k: usize, via: [u64; Row::WORDS], n: usize)
-    requires { (k < rule_limit) × (n ≤ rule_limit) × (length rows.old ≡ rule_limit) }
+    requires { (k < rule_limit) × (n ≤ rule_limit) }
     ensures { Through rows.old k via n rows.new }
 {
     if is_empty(via) {
@@ -48,7 +48,7 @@ pub fn closed(rows: [[u64; Row::WORDS]; Row::RULES], n: usize) -> [[u64; Row::WO
 
 // The rules that reach themselves.
 pub fn loops(reach: &[[u64; Row::WORDS]; Row::RULES], n: usize) -> [u64; Row::WORDS]
-    requires { (n ≤ rule_limit) × (length reach.now ≡ rule_limit) }
+    requires { n ≤ rule_limit }
     ensures { Loops reach.now n result }
 {
     collect(n, |i| has(reach[i], i))
@@ -56,7 +56,7 @@ pub fn loops(reach: &[[u64; Row::WORDS]; Row::RULES], n: usize) -> [u64; Row::WO
 
 // The rules that rule i reaches and that reach it.
 pub fn around(reach: &[[u64; Row::WORDS]; Row::RULES], i: usize, n: usize) -> [u64; Row::WORDS]
-    requires { (i < n) × (n ≤ rule_limit) × (length reach.now ≡ rule_limit) }
+    requires { (i < n) × (n ≤ rule_limit) }
     ensures { Around reach.now i n result }
 {
     meet(reach[i], collect(n, |j| has(reach[j], i)))

@@ -10,7 +10,6 @@ ghost use Rattle.records.specs.Lent.{form, text};
 ghost use Rattle.records.specs.Step.{is_fixed, named, repeated, step_of};
 
 use crate::lent::Records;
-use words::form::call_words;
 use words::numbers::{AlternativeFlag, Kind, Name, Quantifier, ReferenceKind};
 use words::words::word;
 
@@ -101,7 +100,7 @@ fn body_at(s: &Records, at: usize) -> Option<usize>
 fn call_at(s: &Records, at: usize) -> Option<usize>
     ensures { result ≡ step_of (call_at_in (form s.now) (text s.now) s.now.end at) }
 {
-    named_at(s, call_words(s.form), at)
+    named_at(s, s.form.call_words(), at)
 }
 
 #[tactic(auto, using(crate::proofs::Laws::Records::names))]

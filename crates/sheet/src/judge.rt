@@ -48,7 +48,7 @@ fn sort_is_distinct(s: &Sheet, n: u32, sort: Sort, track: Track, work: &mut [u8]
     if !track.falls {
         return true;
     }
-    let k = collect(s, n, sort, work);
+    let k = collect(s, n, u32::from(sort), work);
     is_distinct(&mut work[..4 * k])
 }
 

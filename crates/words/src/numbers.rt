@@ -5,6 +5,9 @@ ghost use Rattle.words.specs.Refusal.{refusal_number};
 
 // The area that a caller lends.
 // Stays: it is a slice, whose length is a clause. The C interface lends it so, and an array of this length would refuse a longer one.
+// A struct over the slice, with its length as a ghost field, is no plainer. Each function that writes the area would hand the struct on
+// and promise that the slice in it is the same one, as what writes through `Marker` (collisions) does, and all that is said of the area's
+// words would be said of a field.
 #[derive(Drop)]
 pub struct Work;
 
@@ -245,6 +248,23 @@ impl From<Sort> for u32 {
             Sort::Label => 4,
             Sort::Action => 5,
             Sort::Predicate => 6,
+        }
+    }
+}
+
+impl TryFrom<u32> for Sort {
+    type Error = Unnamed;
+
+    ghost try_from_gives = { Names sort_number };
+
+    fn try_from(number: u32) -> Result<Self, Unnamed> {
+        match number {
+            2 => Ok(Sort::Alternative),
+            3 => Ok(Sort::Element),
+            4 => Ok(Sort::Label),
+            5 => Ok(Sort::Action),
+            6 => Ok(Sort::Predicate),
+            _ => Err(Unnamed(number)),
         }
     }
 }

@@ -7,7 +7,7 @@ ghost use Rattle.words.specs.Form.{form_of};
 ghost use Rattle.words.specs.Kinds.{kind_number};
 ghost use Rattle.words.specs.Sheet.{text};
 
-use crate::form::{Form, call_words};
+use crate::form::Form;
 use crate::numbers::Kind;
 use crate::sheet::Sheet;
 use crate::words::word;
@@ -86,7 +86,7 @@ pub fn leaf_end_in(form: Form, s: &Sheet, depth: u32, at: usize, head: Head) -> 
 {
     let payload = head.payload;
     match head.kind {
-        Kind::Call => payload + call_words(form),
+        Kind::Call => payload + form.call_words(),
         Kind::Token => payload + 1,
         Kind::Action | Kind::Predicate => past_options(payload + 2, word(s.bytes, payload + 1)),
         Kind::Epsilon | Kind::Terminal | Kind::Block | Kind::EndOfInput => payload,

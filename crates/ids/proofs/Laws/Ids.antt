@@ -1,12 +1,12 @@
 -- The ids that a walk collects: the returns of the functions that read and write them.
 use Prim.Native.Nat.{ℕ, ◌+◌, ◌*◌, ◌%◌, ◌≤◌}
-use mathlib.Core.Path.{◌≡◌, refl, sym, ap, ◌∙◌}
+use mathlib.Core.Path.{◌≡◌, refl, sym}
 use mathlib.Core.List.{List, [], ◌∷◌, ◌++◌, append-nil}
 use native.Mathlib.Omega.{arith}
 use lib.ListN.{length, get_or, set, take}
 use lib.Seq.{take-suc-set}
 use borrow.Author.Tests.{ne_eqb}
-use Rattle.std.specs.Prelude.{Option, Some, None}
+use Rattle.std.specs.Prelude.{Some, None}
 use native.Mathlib.Numerals.{add-one}
 use Rattle.grammar.specs.Numbers.{element_sort, label_sort, action_sort, predicate_sort, action_kind, predicate_kind, kind_end}
 use Rattle.grammar.specs.Words.{words}
@@ -67,27 +67,18 @@ pub pushed : (bs after : List ℕ) (out w : ℕ) → 4 * out + 4 ≤ length bs �
 pushed bs after out w h e =
     rw (add-one out, e) (take-suc-set (words bs) out w (rw length_words (omega arith)))
 
-module _ (own : List ℕ) (before after : List ℕ) (out r : ℕ) where
-  pub put_id : {o : Option ℕ} {w : ℕ} → o ≡ Some w → own_of o ≡ own → take r after ≡ take out before ++ (w ∷ [])
-      → take r after ≡ take out before ++ own
-  put_id e f g = g ∙ ap (λ l. take out before ++ l) (sym (ap own_of e) ∙ f)
+-- an alternative has its id where alternatives are the sort
+pub alternative_has : {sort : Sort} (ws : List ℕ) (at : ℕ) → sort ≡ Alternative → get_or ws at 0 ∷ [] ≡ alternative_id ws at (sort_number sort)
+unfolding alternative_id
+alternative_has ws at e = rw e refl
 
-pub put_nothing : (own before : List ℕ) (out : ℕ) {o : Option ℕ} → o ≡ None → own_of o ≡ own → take out before ≡ take out before ++ own
-put_nothing own before out e f = sym (append-nil (take out before)) ∙ ap (λ l. take out before ++ l) (sym (ap own_of e) ∙ f)
-
-module _ (ws before after : List ℕ) (at out : ℕ) where
-  pub put_two : {sort : Sort} (r : ℕ) {w : ℕ} → sort ≡ Alternative → w ≡ get_or ws at 0 → take r after ≡ take out before ++ (w ∷ [])
-      → take r after ≡ take out before ++ alternative_id ws at (sort_number sort)
-  unfolding alternative_id
-  put_two r e f g = rw (e, ← f) g
-
-pub put_other : (ws before : List ℕ) (at out : ℕ) (sort : Sort) → (sort ≡ Alternative → ⊥)
+pub alternative_lacks : (ws before : List ℕ) (at out : ℕ) (sort : Sort) → (sort ≡ Alternative → ⊥)
     → take out before ≡ take out before ++ alternative_id ws at (sort_number sort)
 unfolding alternative_id
-put_other ws before at out Alternative e = absurd (e refl)
-put_other ws before at out Element e = sym (append-nil (take out before))
-put_other ws before at out Label e = sym (append-nil (take out before))
-put_other ws before at out Action e = sym (append-nil (take out before))
-put_other ws before at out Predicate e = sym (append-nil (take out before))
+alternative_lacks ws before at out Alternative e = absurd (e refl)
+alternative_lacks ws before at out Element e = sym (append-nil (take out before))
+alternative_lacks ws before at out Label e = sym (append-nil (take out before))
+alternative_lacks ws before at out Action e = sym (append-nil (take out before))
+alternative_lacks ws before at out Predicate e = sym (append-nil (take out before))
 
-pub ruleset puts = (pushed, put_id, put_nothing, put_two, put_other)
+pub ruleset alternatives = (alternative_has, alternative_lacks)

@@ -1,10 +1,6 @@
-use Rattle.std.proofs.Common.{rules}
-use Rattle.grammar.specs.Words.{words}
-use Rattle.words.specs.Kinds.{sort_number}
 use Rattle.ids.proofs.ids.collect.Goals as goal
-use Rattle.ids.proofs.Laws.Seeing.{collected_sort}
+use Rattle.ids.proofs.Laws.NoSort.{collected_unnamed}
 
-pub returns : goal.returns
-returns c =
-    let walked = c.walk_rules.ensures in
-    collected_sort (sort_number c.args.sort) (words c.args.work.now) (search rules) walked.1.0 walked.2
+-- The number names no sort.
+pub returns-in-Err : goal.returns-in-Err
+returns-in-Err c = collected_unnamed c.in-Err.is c.try_from.ensures _ _ _ _
