@@ -4,10 +4,8 @@ ghost use Rattle.words.specs.Kinds.{Names, unit_number, quantifier_number, kind_
 ghost use Rattle.words.specs.Refusal.{refusal_number};
 
 // The area that a caller lends.
-// Stays: it is a slice, whose length is a clause. The C interface lends it so, and an array of this length would refuse a longer one.
-// A struct over the slice, with its length as a ghost field, is no plainer. Each function that writes the area would hand the struct on
-// and promise that the slice in it is the same one, as what writes through `Marker` (collisions) does, and all that is said of the area's
-// words would be said of a field.
+// Stays: it is a slice, whose length is a clause. The C interface lends it so, and an array of this length would refuse a longer one. A
+// struct over the slice is no plainer: what writes the area would promise that the slice in it is still the same one, as `Marker` does.
 #[derive(Drop)]
 pub struct Work;
 
