@@ -230,8 +230,7 @@ pub enum Sort {
     Predicate,
 }
 
-// Stays: rules have a number of their own beside the sorts. No counter gives their ids, since rules are not copied: as one of the
-// sorts they could be asked for a fresh id, and there is none.
+// Stays: rules have a number of their own and are no sort: they are not copied, so that no counter gives their ids.
 impl Sort {
     pub const RULE: u32 = 1;
 }
