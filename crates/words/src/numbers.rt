@@ -4,10 +4,9 @@ ghost use Rattle.words.specs.Kinds.{Names, unit_number, quantifier_number, kind_
 ghost use Rattle.words.specs.Refusal.{refusal_number};
 
 // The area that a caller lends.
-// Stays: it is a slice, whose length is a clause. The C interface lends it so, and an array of this length would refuse a longer one.
-// A struct over the slice, with its length as a ghost field, is no plainer. Each function that writes the area would hand the struct on
-// and promise that the slice in it is the same one, as what writes through `Marker` (collisions) does, and all that is said of the area's
-// words would be said of a field.
+// Stays: a slice, whose length is a clause. The C interface lends it so, and an array of this length would refuse a longer one. A struct
+// over it, with its length as a ghost field, is no plainer: what writes the area would promise too that the slice in it is the same one,
+// as the methods of `Marker` (collisions) do, and what is said of the area's words would be said of a field.
 #[derive(Drop)]
 pub struct Work;
 
@@ -21,7 +20,6 @@ pub struct Name;
 
 impl Name {
     pub const LEAST: u32 = 1;
-
     pub const MOST: u32 = 4294967295;
 }
 
@@ -83,7 +81,6 @@ pub struct Block;
 
 impl Block {
     pub const DEPTH: u32 = 8;
-
     pub const BODY_DEPTH: u32 = 9;
 }
 
