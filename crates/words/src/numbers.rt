@@ -4,9 +4,8 @@ ghost use Rattle.words.specs.Kinds.{Names, unit_number, quantifier_number, kind_
 ghost use Rattle.words.specs.Refusal.{refusal_number};
 
 // The area that a caller lends.
-// Stays: a slice, whose length is a clause. The C interface lends it so, and an array of this length would refuse a longer one. A struct
-// over it, with its length as a ghost field, is no plainer: what writes the area would promise too that the slice in it is the same one,
-// as the methods of `Marker` (collisions) do, and what is said of the area's words would be said of a field.
+// Stays: a slice, whose length is a clause. The C interface lends it so, and an array would refuse a longer one. With a struct over it what
+// writes the area would promise too that the slice in it is the same one, as `Marker` (collisions) does, and speak of a field: no plainer.
 #[derive(Drop)]
 pub struct Work;
 
@@ -20,6 +19,7 @@ pub struct Name;
 
 impl Name {
     pub const LEAST: u32 = 1;
+
     pub const MOST: u32 = 4294967295;
 }
 
@@ -81,6 +81,7 @@ pub struct Block;
 
 impl Block {
     pub const DEPTH: u32 = 8;
+
     pub const BODY_DEPTH: u32 = 9;
 }
 
@@ -229,8 +230,7 @@ pub enum Sort {
     Predicate,
 }
 
-// Stays: rules have a number of their own beside the sorts. No counter gives their ids, since rules are not copied: as one of the
-// sorts they could be asked for a fresh id, and there is none.
+// Stays: rules have a number beside the sorts. No counter gives their ids: as a sort they could be asked for a fresh id, and there is none.
 impl Sort {
     pub const RULE: u32 = 1;
 }
