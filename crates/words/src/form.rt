@@ -13,7 +13,7 @@ impl Form {
     pub const FIRST: Form = Form { precedences: false };
 
     // The form of every sheet that is handed in or out today.
-    pub const NEWEST: Form = Form { precedences: false };
+    pub const NEWEST: Form = Form { precedences: true };
 }
 
 // How many words a call's payload has.
