@@ -56,7 +56,7 @@ pub fn is_length(n: usize) -> bool
 }
 
 // The kind of unit that a good trailer names. Refusal 3 is given where there is none; `t` is where the trailer begins.
-fn trailer_kind(s: &[u8], t: usize) -> Option<UnitKind>
+pub fn trailer_kind(s: &[u8], t: usize) -> Option<UnitKind>
     requires { (t ≡ length s.now / 4 - trailer_words) × (least_bytes ≤ length s.now) }
     ensures { TrailerRead (words s.now) t result }
 {
@@ -120,7 +120,7 @@ fn judged(
     })
 }
 
-// The whole reading of a sheet of good length. Of the work area its length stays, and nothing else is known.
+// The whole reading of a sheet, which may be longer than one that is handed in. Of the work area its length stays, and nothing else is known.
 pub fn examine(s: &[u8], work: &mut [u8]) -> Result<Reading, Refusal>
     requires { Lent s.now work.old }
     ensures read_as { ReadAs (read_words (words s.now)) result }

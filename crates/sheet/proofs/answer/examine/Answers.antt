@@ -1,13 +1,15 @@
 use Rattle.std.proofs.Common.{ap, refl, is_some}
 use Rattle.std.proofs.lemmas.Result.{err_from_is_err_and}
 use Rattle.sheet.proofs.answer.examine.Goals as goal
-use Rattle.sheet.proofs.Laws.Answer.{trailer_refused, trailer_good, end_at, rules_refused, rising_refused, rows_found, goes_on}
+use Rattle.grammar.specs.Form.{newest}
+use Rattle.sheet.proofs.Laws.Front.{trailer_good, end_at, rows_found}
+use Rattle.sheet.proofs.Laws.Answer.{trailer_refused, rules_refused, rising_refused, goes_on}
 
 pub returns-in_default-clause-read_as : goal.returns-in_default-clause-read_as
 returns-in_default-clause-read_as c = trailer_refused _ c.trailer_kind.ensures.good (ap is_some c.in_default.is)
 
 pub rules_end-end-requires : goal.rules_end-end-requires
-rules_end-end-requires c = trailer_good _ c.trailer_kind.ensures.good (ap is_some c.in-Some.is) c.requires.least
+rules_end-end-requires c = trailer_good newest _ c.trailer_kind.ensures.good (ap is_some c.in-Some.is) c.requires.least
 
 pub returns-in_default-read_rules-clause-read_as : goal.returns-in_default-read_rules-clause-read_as
 returns-in_default-read_rules-clause-read_as c =
