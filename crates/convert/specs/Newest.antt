@@ -7,7 +7,7 @@ use Rattle.grammar.specs.Words.{words}
 use Rattle.grammar.specs.Encode.{encode}
 use Rattle.grammar.specs.Parse.{got}
 use Rattle.grammar.specs.Found.{FoundRulesIn}
-use Rattle.grammar.specs.Reading.{refused, is_trailer, sheet_of, rules_of_in, read_words_in, read_words}
+use Rattle.grammar.specs.Reading.{refused, is_trailer, rules_of_in, read_words_in, read_words}
 use Rattle.words.specs.declared.numbers.Refusal.{Refusal}
 use Rattle.words.specs.Refusal.{refusal_number}
 use Rattle.sheet.specs.Answer.{EndAt}

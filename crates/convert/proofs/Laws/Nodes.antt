@@ -2,7 +2,7 @@
 use Prim.Native.Nat.{ℕ, zero, suc, ◌+◌, ◌-◌, ◌*◌, ◌≤◌}
 use mathlib.Core.Path.{◌≡◌, refl, sym, ap, ◌∙◌}
 use mathlib.Core.List.{List, [], ◌∷◌, ◌++◌, append_assoc}
-use mathlib.Core.Bool.{Bool, true}
+use mathlib.Core.Bool.{true}
 use native.Mathlib.Omega.{arith}
 use native.Mathlib.Numerals.{sub-one}
 use lib.ListN.{length, get_or, take, drop, length-drop}
@@ -15,11 +15,11 @@ use Rattle.grammar.specs.Numbers.{block_kind, call_kind}
 use Rattle.grammar.specs.Form.{first_form, newest}
 use Rattle.grammar.specs.Words.{words}
 use Rattle.grammar.specs.Tree.{ElementHead, Leaf, epsilon, action, predicate, call, token, terminal, end_of_input, Element, AlternativeOf}
-use Rattle.grammar.specs.Tree.{leaf, block, Block, RuleOf}
-use Rattle.grammar.specs.Stands.{Spans, Stands}
+use Rattle.grammar.specs.Tree.{Block, RuleOf}
+use Rattle.grammar.specs.Stands.{Stands}
 use Rattle.grammar.specs.Encode.{encode_option, encode_head, leaf_kind, encode_leaf_in, encode_element_in, encode_alternative_in}
 use Rattle.grammar.specs.Encode.{encode_block_in, encode_rule, encode_element, encode_alternative, encode_block}
-use Rattle.grammar.specs.Lists.{each, only}
+use Rattle.grammar.specs.Lists.{each}
 use Rattle.grammar.specs.Read.{is_name}
 use Rattle.grammar.specs.Valid.{ok_leaf_in, ok_element_in, ok_alternative_in, ok_block_in, ok_rule}
 use Rattle.grammar.specs.Found.{FoundElementIn, FoundElementsIn, FoundAlternativeIn, FoundAlternativesIn, HeadAt, AlternativeAt, LeafEndIn}
@@ -42,7 +42,7 @@ use Rattle.convert.proofs.Laws.Widening.{front_slice, Node, node_widened}
 within : {bs : List ℕ} {end : ℕ} → Room bs end → end ≤ length (words bs)
 within {bs} r = let t = r.trailer in omega (arith, length_words bs)
 
-slice_length : (ws : List ℕ) (at q : ℕ) → q ≤ length ws → length (take (q - at) (drop at ws)) ≡ q - at
+pub slice_length : (ws : List ℕ) (at q : ℕ) → q ≤ length ws → length (take (q - at) (drop at ws)) ≡ q - at
 slice_length ws at q h = length-take-le (q - at) (drop at ws) (omega (arith, length-drop at ws))
 
 pub copied_roomy : {ws : List ℕ} {end there : ℕ} {out m : List ℕ} {p p₁ : Place} → Roomy end out p → Copied ws there out m p p₁
