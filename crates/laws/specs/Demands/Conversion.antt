@@ -93,18 +93,22 @@ pub record ConvertReads (bs result : List ℕ) (c : Converted) : Type 0 where
   pub none : NoPrecedence tree.rules
   pub behind : drop c.result_length c.result ≡ replicate (length result - c.result_length) 0
   pub same_length : length c.result ≡ length result
-  -- Four bytes come to each call.
-  pub longer : c.result_length ≡ length bs + 4 * length (calls_in tree.rules)
   pub none_made : (limits : Limits) (corners : Corners) (stages : List Stage)
       → eliminate_mutual_left_recursion limits corners tree ≡ ended stages → NoPrecedence (sheet_after tree stages).rules
 
--- Two old sheets with one new sheet are equal. The length is part of it: a sheet may have zeros at its end, and then zeros behind it
--- can make another.
-pub ConvertApart : (bs bs' result result' work work' : List ℕ) → Type 0
+-- Two old sheets with one new sheet are equal. The length is part of it: a sheet may have zeros at its end, and with more of them
+-- behind it can be read as another.
+abbrev pub ConvertApart : (bs bs' result result' work work' : List ℕ) → Type 0
 ConvertApart bs bs' result result' work work' =
     let c = conversion first_form bs result work in
     let c' = conversion first_form bs' result' work' in
     c.number ≡ 0 → c'.number ≡ 0 → take c.result_length c.result ≡ take c'.result_length c'.result → bs ≡ bs'
+
+-- The new sheet has four bytes more for each call.
+abbrev pub ConvertLength : (bs result work : List ℕ) → Type 0
+ConvertLength bs result work =
+    let c = conversion first_form bs result work in
+    (s : Sheet) → read_in first_form bs ≡ sheet s → c.number ≡ 0 → c.result_length ≡ length bs + 4 * length (calls_in s.rules)
 
 -- Each call in what a run leaves is one of the sheet handed in, with its name, its arguments and its precedence.
 pub record CallsCopied (s : Sheet) (stages : List Stage) : Type 0 where

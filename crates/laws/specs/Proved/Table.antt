@@ -74,7 +74,7 @@ abbrev pub Judged : Form → List ℕ → Reading → Type 0
 Judged f ws (refused n) = FailsIn f ws n
 Judged f ws (sheet s) = PassesIn f ws s
 
-pub judged : (f : Form) (ws : List ℕ) → Judged f ws (read_words_in f ws)
+judged : (f : Form) (ws : List ℕ) → Judged f ws (read_words_in f ws)
 unfolding read_words_in judge
 judged f ws = whole (is_trailer ws) refl
   where
@@ -101,6 +101,10 @@ judged f ws = whole (is_trailer ws) refl
         (elim b as (λ x. Reading) [ false ↦ refused bad_trailer | true ↦ judge ws (rules_of_in f ws) ])
     whole true t = found t (rules_of_in f ws) refl
     whole false t = trailer t
+
+pub read_judged : (f : Form) (bs : List ℕ) → is_length (length bs) ≡ true → Judged f (words bs) (read_in f bs)
+unfolding read_in
+read_judged f bs t = rw (t, read_in) (judged f (words bs))
 
 -- What passes the reader's tests is read, and a number of what fails is none.
 pub passes_reads : (f : Form) (bs : List ℕ) (s : Sheet) → GoodLength bs → PassesIn f (words bs) s → read_in f bs ≡ sheet s
@@ -213,10 +217,6 @@ module _ (limits : Limits) (corners : Corners) (bs result trail work : List ℕ)
   reading g l (refused n) k p = not_read g l p (cleared_all n)
   reading g l (sheet s) k p = running g l s k p (eliminate_mutual_left_recursion limits corners s) refl
 
-  read_judged : is_length (length bs) ≡ true → Judged newest (words bs) (read bs)
-  unfolding read_in
-  read_judged t = rw (t, read_in) (judged newest (words bs))
-
   pub table : Row limits corners bs result trail work (outcome limits corners bs result trail work)
   unfolding outcome untouched answer_to
   table = sized (is_length (length bs)) refl
@@ -228,7 +228,7 @@ module _ (limits : Limits) (corners : Corners) (bs result trail work : List ℕ)
             | true ↦ delivered result trail work
                 (answer_to limits corners bs)
           ])
-      room t true l = reading (good_length_lem bs t) (are_lent_lem result trail work l) (read bs) refl (read_judged t)
+      room t true l = reading (good_length_lem bs t) (are_lent_lem result trail work l) (read bs) refl (read_judged newest bs t)
       room t false l = not_lent (good_length_lem bs t) (λ k. true≢false (sym (lent_are result trail work k) ∙ l)) refl
 
       sized : (b : Bool) → is_length (length bs) ≡ b
