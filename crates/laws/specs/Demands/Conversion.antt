@@ -15,6 +15,7 @@ use Rattle.grammar.specs.Corners.{Corners}
 use Rattle.grammar.specs.Laws.Words.{AreBytes}
 use Rattle.reference.specs.Substitute.{Limits}
 use Rattle.reference.specs.Run.{Stage, ended, eliminate_mutual_left_recursion, sheet_after}
+use Rattle.laws.specs.Examples.{sum_of_before, sum_of_today}
 use Rattle.laws.specs.Demands.Table.{GoodLength, FailsIn, PassesIn, zeros, Holds}
 
 -- The calls of a tree, in the order in which they stand.
@@ -113,3 +114,15 @@ ConvertLength bs result work =
 -- Each call in what a run leaves is one of the sheet handed in, with its name, its arguments and its precedence.
 pub record CallsCopied (s : Sheet) (stages : List Stage) : Type 0 where
   pub copied : (c : Call) → Memᴰ c (calls_in (sheet_after s stages).rules) → Memᴰ c (calls_in s.rules)
+
+-- SPECIFICATION 15.20. The sheet of 15.1 has 276 bytes in the first form and 288 in the newest.
+pub record SumConverted : Type 0 where
+  pub old_length : length (bytes sum_of_before) ≡ 276
+  pub converted : (result work : List ℕ) → Lends result work
+      → conversion first_form (bytes sum_of_before) result work
+      ≡ record {
+        number = 0;
+        result_length = 288;
+        result = bytes sum_of_today ++ replicate (length result - 288) 0;
+        work = zeros work;
+      }

@@ -15,10 +15,12 @@ use Rattle.grammar.specs.Convert.{Converted, newest_words, untouched, delivered,
 use Rattle.grammar.specs.Laws.Words.{AreBytes, length_words, length_bytes}
 use Rattle.grammar.specs.Laws.Codec.{reads_back_lem, is_encoding, is_encoding_words, accepted_valid, one_tree}
 use Rattle.grammar.specs.Laws.Convert.{valid_newest}
+use Rattle.reference.specs.Computed.{computed}
 use Rattle.reference.specs.Run.{filled}
+use Rattle.laws.specs.Examples.{sum_of_before, sum_of_today}
 use Rattle.laws.specs.Demands.Table.{GoodLength, PassesIn, zeros, Holds}
 use Rattle.laws.specs.Demands.Conversion.{CodecIn, Lends, Delivers, ConvertRow, bad_length, not_lent, not_read, too_long, is_converted}
-use Rattle.laws.specs.Demands.Conversion.{NoPrecedence, ConvertReads, ConvertApart, ConvertLength}
+use Rattle.laws.specs.Demands.Conversion.{NoPrecedence, ConvertReads, ConvertApart, ConvertLength, SumConverted}
 use Rattle.laws.specs.Format.Calls.{longer_sheet, none_sheet}
 use Rattle.laws.specs.Format.Wide.{wide_fits}
 use Rattle.laws.specs.Running.Copied.{calls_copied_lem}
@@ -40,7 +42,7 @@ filled_with ws before = ap (λ n. bytes ws ++ replicate (length before - n) 0) (
 sheet_same : {s t : Sheet} → sheet s ≡ sheet t → s ≡ t
 sheet_same e = cc
 
-module _ (bs result work : List ℕ) where
+module _ (result work : List ℕ) where
   abbrev are_lent : Bool
   are_lent = leb result_bytes (length result) && leb work_bytes (length work)
 
@@ -54,6 +56,7 @@ module _ (bs result work : List ℕ) where
   lent : Lends result work → are_lent ≡ true
   lent l = and_from _ _ (le-leb result_bytes (length result) l.for_result) (le-leb work_bytes (length work) l.for_work)
 
+module _ (bs result work : List ℕ) where
   reading : GoodLength bs → Lends result work → (r : Reading) → Judged first_form (words bs) r
       → ConvertRow bs result work (delivered (newest_words r) result work)
   unfolding newest_words delivered
@@ -78,26 +81,26 @@ module _ (bs result work : List ℕ) where
   unfolding conversion
   convert_row_lem = sized (is_length (length bs)) refl
     where
-      roomy : is_length (length bs) ≡ true → (b : Bool) → are_lent ≡ b
+      roomy : is_length (length bs) ≡ true → (b : Bool) → are_lent result work ≡ b
           → ConvertRow bs result work
           (elim b [
             | false ↦ untouched short_buffer result work
             | true ↦ delivered (newest_words (read_in first_form bs)) result work
           ])
-      roomy t true l = reading (good_length_lem bs t) (lends l) (read_in first_form bs) (read_judged first_form bs t)
-      roomy t false l = not_lent (good_length_lem bs t) (λ k. true≢false (sym (lent k) ∙ l)) refl
+      roomy t true l = reading (good_length_lem bs t) (lends result work l) (read_in first_form bs) (read_judged first_form bs t)
+      roomy t false l = not_lent (good_length_lem bs t) (λ k. true≢false (sym (lent result work k) ∙ l)) refl
 
       sized : (b : Bool) → is_length (length bs) ≡ b
           → ConvertRow bs result work
           (elim b [
             | false ↦ untouched 1 result work
             | true ↦
-                elim are_lent [
+                elim (are_lent result work) [
                   | false ↦ untouched short_buffer result work
                   | true ↦ delivered (newest_words (read_in first_form bs)) result work
                 ]
           ])
-      sized true t = roomy t are_lent refl
+      sized true t = roomy t (are_lent result work) refl
       sized false t = bad_length (λ k. true≢false (sym (length_good bs k) ∙ t)) refl
 
   -- What number 0 says, with no word on bytes.
@@ -181,3 +184,23 @@ convert_apart_lem bs bs' result result' work work' b b' z z' e =
     sym (is_encoding first_form bs b x.tree x.before)
     ∙ ap (λ s. bytes (encode_in first_form s)) same
     ∙ is_encoding first_form bs' b' y.tree y.before
+
+-- An example, by computing.
+converted_of : (bs result work : List ℕ) → is_length (length bs) ≡ true → are_lent result work ≡ true
+    → conversion first_form bs result work ≡ delivered (newest_words (read_in first_form bs)) result work
+unfolding conversion
+converted_of bs result work t l = rw (t, l, conversion)
+
+sum_read : newest_words (read_in first_form (bytes sum_of_before)) ≡ Ok sum_of_today
+unfolding computed newest_words
+sum_read = refl
+
+pub sum_converted_lem : SumConverted
+unfolding bytes conversion delivered
+sum_converted_lem =
+    record {
+      old_length = refl;
+      converted = λ result work l.
+          converted_of (bytes sum_of_before) result work refl (lent result work l)
+          ∙ ap (λ r. delivered r result work) sum_read;
+    }
