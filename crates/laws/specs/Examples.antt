@@ -237,3 +237,11 @@ sum_of_today =
     ∷ 23 ∷ 0 ∷ 4 ∷ 0 ∷ 0 ∷ 0 ∷ 4
     ∷ 24 ∷ 0 ∷ 3 ∷ 0 ∷ 0 ∷ 0 ∷ 1 ∷ 0 ∷ 0
     ∷ 2 ∷ 64 ∷ 0 ∷ 13 ∷ 25 ∷ 0 ∷ 0 ∷ 0 ∷ []
+
+-- A rule without alternatives and the preserved id 0 in a parser unit; and the same words with two zeros more, which are a lexer unit
+-- with the preserved ids 0, 2 and 5.
+abbrev pub ends_early : List ℕ
+ends_early = 7 ∷ 1 ∷ 0 ∷ 0 ∷ 0 ∷ 2 ∷ 5 ∷ 1 ∷ 7 ∷ 3 ∷ 0 ∷ 0 ∷ 0 ∷ []
+
+abbrev pub ends_late : List ℕ
+ends_late = 7 ∷ 1 ∷ 0 ∷ 0 ∷ 0 ∷ 2 ∷ 5 ∷ 1 ∷ 7 ∷ 3 ∷ 0 ∷ 0 ∷ 0 ∷ 0 ∷ 0 ∷ []

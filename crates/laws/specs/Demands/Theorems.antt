@@ -51,7 +51,8 @@ use Rattle.laws.specs.Demands.Hub.{HubTold}
 use Rattle.laws.specs.Demands.Decision.{Decision}
 use Rattle.laws.specs.Demands.Refusals.{HasRoom, RefusedSo}
 use Rattle.laws.specs.Demands.Table.{Row}
-use Rattle.laws.specs.Demands.Conversion.{CodecIn, ConvertRow, ConvertReads, ConvertApart, ConvertLength, SumConverted, CallsCopied}
+use Rattle.laws.specs.Demands.Conversion.{CodecIn, ConvertRow, ConvertReads, ConvertApart, ConvertLength, SumConverted, LengthTells}
+use Rattle.laws.specs.Demands.Conversion.{PrecedencesUnseen, CallsCopied}
 use Rattle.laws.specs.Demands.Kept.{OwnResult, EveryCall}
 use Rattle.laws.specs.Demands.Sameness.{TreeIn, same, none, Renames, Renamed, AlikeButCarried}
 use Rattle.laws.specs.Demands.Marks.{on_sheet}
@@ -77,10 +78,12 @@ pub record Theorems : Type 0 where
       → ConvertApart bs bs' result result' work work'
   pub convert_length : (bs result work : List ℕ) → ConvertLength bs result work
   pub sum_converted : SumConverted
+  pub length_tells : LengthTells
   -- What is derived, of every sheet that the reader accepts: the first wording agrees with a second. Strings of
-  -- small grammars, and how many derivations some have.
+  -- small grammars, how many derivations some have, and that precedences are not looked at.
   pub derives_told : (s : Sheet) → valid s ≡ true → DerivesTold inner_depth s.rules
   pub strings_told : StringsTold
+  pub precedences_unseen : (f : ℕ → ℕ) (rs : List Rule) → PrecedencesUnseen f rs
   pub readings_counted : ReadingsCounted
   -- With a lower last name, 65,535 say, those sheets would be valid that are valid and have no name above it.
   pub names_fitted : NamesFitted

@@ -16,6 +16,7 @@ use Rattle.laws.specs.Lists.Told.{lists_told_lem}
 use Rattle.laws.specs.Format.Told.{format_told_lem}
 use Rattle.laws.specs.Derivation.Same.{sheet_derives}
 use Rattle.laws.specs.Derivation.Strings.{strings_told_lem}
+use Rattle.laws.specs.Derivation.Unseen.{precedences_unseen_lem}
 use Rattle.laws.specs.Derivation.Counted.{readings_counted_lem}
 use Rattle.laws.specs.Derivation.Corners.{sheet_left_corners}
 use Rattle.laws.specs.Planning.PlanCycle.{decision}
@@ -53,7 +54,7 @@ use Rattle.laws.specs.Proved.Answered.{answered}
 use Rattle.laws.specs.Proved.Refusals.{stage_room, refused_so_lem}
 use Rattle.laws.specs.Proved.Table.{table}
 use Rattle.laws.specs.Proved.Conversion.{codec_in_lem, convert_row_lem, convert_reads_lem, convert_apart_lem, convert_length_lem}
-use Rattle.laws.specs.Proved.Conversion.{sum_converted_lem}
+use Rattle.laws.specs.Proved.Conversion.{sum_converted_lem, length_tells_lem}
 use Rattle.laws.specs.Running.Copied.{calls_copied_lem}
 use Rattle.laws.specs.Proved.Kept.{own_result_lem, every_call_lem}
 use Rattle.laws.specs.Sameness.Outcomes.{renamed, carried_alike}
@@ -137,8 +138,10 @@ theorems =
       convert_apart = convert_apart_lem;
       convert_length = convert_length_lem;
       sum_converted = sum_converted_lem;
+      length_tells = length_tells_lem;
       derives_told = sheet_derives;
       strings_told = strings_told_lem;
+      precedences_unseen = precedences_unseen_lem;
       readings_counted = readings_counted_lem;
       names_fitted = names_fitted_lem;
       empty_derivation = sheet_empty;

@@ -1,5 +1,5 @@
 -- The conversion of an old sheet, as Demands tells it.
-use Rattle.std.specs.Prelude.{ℕ, ◌≤◌, ◌<◌, ◌-◌, ◌+◌, ◌*◌, ◌≡◌, refl, List, [], ◌∷◌, ◌++◌, Bool, true, false, ◌&&◌, length, take, drop, replicate, leb}
+use Rattle.std.specs.Prelude.{ℕ, suc, ◌≤◌, ◌<◌, ◌-◌, ◌+◌, ◌*◌, ◌≡◌, refl, List, [], ◌∷◌, ◌++◌, Bool, true, false, ◌&&◌, length, take, drop, replicate, leb}
 use Rattle.std.proofs.Common.{sym, ap, ◌∙◌, subst, true≢false, arith, leb-true, leb-false, le-leb}
 use Rattle.std.proofs.lemmas.Bool.{and_from}
 use Rattle.std.specs.Cmp.{first_so, second_so}
@@ -17,10 +17,10 @@ use Rattle.grammar.specs.Laws.Codec.{reads_back_lem, is_encoding, is_encoding_wo
 use Rattle.grammar.specs.Laws.Convert.{valid_newest}
 use Rattle.reference.specs.Computed.{computed}
 use Rattle.reference.specs.Run.{filled}
-use Rattle.laws.specs.Examples.{sum_of_before, sum_of_today}
+use Rattle.laws.specs.Examples.{sum_of_before, sum_of_today, ends_early, ends_late}
 use Rattle.laws.specs.Demands.Table.{GoodLength, PassesIn, zeros, Holds}
 use Rattle.laws.specs.Demands.Conversion.{CodecIn, Lends, Delivers, ConvertRow, bad_length, not_lent, not_read, too_long, is_converted}
-use Rattle.laws.specs.Demands.Conversion.{NoPrecedence, ConvertReads, ConvertApart, ConvertLength, SumConverted}
+use Rattle.laws.specs.Demands.Conversion.{NoPrecedence, ConvertReads, ConvertApart, ConvertLength, SumConverted, LengthTells}
 use Rattle.laws.specs.Format.Calls.{longer_sheet, none_sheet}
 use Rattle.laws.specs.Format.Wide.{wide_fits}
 use Rattle.laws.specs.Running.Copied.{calls_copied_lem}
@@ -203,4 +203,40 @@ sum_converted_lem =
       converted = λ result work l.
           converted_of (bytes sum_of_before) result work refl (lent result work l)
           ∙ ap (λ r. delivered r result work) sum_read;
+    }
+
+-- Two sheets of which one has zeros behind it in place of two words of the other.
+early_read : newest_words (read_in first_form (bytes ends_early)) ≡ Ok ends_early
+unfolding computed newest_words
+early_read = refl
+
+late_read : newest_words (read_in first_form (bytes ends_late)) ≡ Ok ends_late
+unfolding computed newest_words
+late_read = refl
+
+module _ (result work : List ℕ) (l : Lends result work) where
+  early_is : conversion first_form (bytes ends_early) result work ≡ delivered (Ok ends_early) result work
+  unfolding bytes
+  early_is = converted_of (bytes ends_early) result work refl (lent result work l) ∙ ap (λ r. delivered r result work) early_read
+
+  late_is : conversion first_form (bytes ends_late) result work ≡ delivered (Ok ends_late) result work
+  unfolding bytes
+  late_is = converted_of (bytes ends_late) result work refl (lent result work l) ∙ ap (λ r. delivered r result work) late_read
+
+  eight_more : length result - 52 ≡ suc (suc (suc (suc (suc (suc (suc (suc (length result - 60))))))))
+  eight_more = let h = l.for_result in omega arith
+
+  same_end : (delivered (Ok ends_early) result work).result ≡ (delivered (Ok ends_late) result work).result
+  unfolding delivered bytes
+  same_end = ap (λ n. bytes ends_early ++ replicate n 0) eight_more
+
+pub length_tells_lem : LengthTells
+unfolding delivered bytes
+length_tells_lem =
+    record {
+      apart = λ e. let n : ◌≡◌ {A = ℕ} 52 60 = ap length e in omega arith;
+      early = λ result work l. ap (λ c. c.number) (early_is result work l);
+      late = λ result work l. ap (λ c. c.number) (late_is result work l);
+      same_result = λ result work l.
+          ap (λ c. c.result) (early_is result work l) ∙ same_end result work l ∙ ap (λ c. c.result) (sym (late_is result work l));
     }
