@@ -1,6 +1,6 @@
 -- What is promised of the forms of a sheet and of the conversion of an old one: words and tree are one another's in every form, each
 -- call of `convert` is in one row of a table, and the tree stays. And of calls: a run copies them, with their precedences.
-use Rattle.std.specs.Prelude.{ℕ, zero, suc, ◌≤◌, ◌<◌, ◌-◌, ◌+◌, ◌*◌, ◌≡◌, ◌&&◌, true, length, take, drop, replicate, leb}
+use Rattle.std.specs.Prelude.{ℕ, zero, suc, ◌≤◌, ◌<◌, ◌-◌, ◌+◌, ◌*◌, ◌≡◌, true, length, take, drop, replicate}
 use mathlib.Core.List.{List, [], ◌∷◌, ◌++◌, map, flat_map, Memᴰ}
 use Rattle.grammar.specs.Form.{Form, first_form}
 use Rattle.grammar.specs.Tree.{Call, Leaf, epsilon, action, predicate, call, token, terminal, end_of_input, Element, leaf, block}

@@ -180,8 +180,7 @@ pub record Theorems : Type 0 where
       → (t : Stage) → Memᴰ t stages → CopiesAlike t
   pub fresh_ids : (limits : Limits) (c : Corners) (s : Sheet) (stages : List Stage) → fits s ≡ true → Ends limits c s stages
       → FreshIds s stages
-  pub calls_copied : (limits : Limits) (c : Corners) (s : Sheet) (stages : List Stage)
-      → eliminate_mutual_left_recursion limits c s ≡ ended stages → CallsCopied s stages
+  pub calls_copied : (limits : Limits) (c : Corners) (s : Sheet) (stages : List Stage) → Ends limits c s stages → CallsCopied s stages
   pub rules_stay : (limits : Limits) (c : Corners) (s : Sheet) (stages : List Stage) → Ends limits c s stages → RulesStay s stages
   pub removes_most : (limits : Limits) (c : Corners) (s : Sheet) (stages : List Stage) → Ends limits c s stages
       → (t : Stage) → Memᴰ t stages → RemovesMost s.preserved t

@@ -1,9 +1,9 @@
 -- Derivation does not look at precedences.
 use Rattle.std.specs.Prelude.{ℕ, ◌≡◌, refl}
-use Rattle.std.proofs.Common.{sym, ap, ap₂, ◌∙◌, subst}
-use mathlib.Core.List.{List, [], ◌∷◌, map}
+use Rattle.std.proofs.Common.{sym, ap₂, ◌∙◌, subst}
+use mathlib.Core.List.{List}
 use Rattle.grammar.specs.Tree.{Leaf, epsilon, action, predicate, call, token, terminal, end_of_input, Rule, body_depth, with_rule_body}
-use Rattle.language.specs.Shape.{Word, Shapes, NamedShape, find, bodies_by, erase_leaf, erase_rules, erase_block}
+use Rattle.language.specs.Shape.{Word, find, bodies_by, erase_leaf, erase_rules, erase_block}
 use Rattle.language.specs.Derive.{Der, RuleDerives}
 use Rattle.language.specs.Laws.Copies.{KeepsShape, change_block, block_shape, map_unseen}
 use Rattle.laws.specs.Demands.Conversion.{leaf_with, precedences_by, rules_with, PrecedencesUnseen}

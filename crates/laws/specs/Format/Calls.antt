@@ -1,21 +1,21 @@
 -- The words of calls: a tree without precedences has in the newest form one word more for each call, which is 0.
-use Rattle.std.specs.Prelude.{ℕ, zero, suc, ◌+◌, ◌≡◌, refl, Bool, true, ◌&&◌, length, ltb, leb, eqb}
-use Rattle.std.proofs.Common.{sym, ap, ap₂, ◌∙◌, arith, length-append, eqb-true}
+use Rattle.std.specs.Prelude.{ℕ, zero, suc, ◌+◌, ◌≡◌, refl, Bool, true, length, leb, eqb}
+use Rattle.std.proofs.Common.{ap, ◌∙◌, arith, length-append, eqb-true}
 use Rattle.std.specs.Cmp.{first_so, second_so}
 use mathlib.Core.List.Memᴰ
 use mathlib.Core.List.{List, [], ◌∷◌, ◌++◌, flat_map, Memᴰ}
 use Rattle.grammar.specs.Form.{newest, first_form}
-use Rattle.grammar.specs.Lists.{each, all, only}
-use Rattle.grammar.specs.Numbers.{word_end, block_kind, most_alternative_flag, most_rule_flags, rule_limit}
+use Rattle.grammar.specs.Lists.{each, all}
+use Rattle.grammar.specs.Numbers.{block_kind, most_alternative_flag, most_rule_flags}
 use Rattle.grammar.specs.Tree.{Call, Leaf, epsilon, action, predicate, call, token, terminal, end_of_input, Element, leaf, block}
-use Rattle.grammar.specs.Tree.{AlternativeOf, Block, RuleOf, Rule, Sheet, body_depth}
+use Rattle.grammar.specs.Tree.{AlternativeOf, Block, Rule, Sheet, body_depth}
 use Rattle.grammar.specs.Encode.{encode_option, encode_head, leaf_kind, encode_leaf_in, encode_element_in, encode_alternative_in}
 use Rattle.grammar.specs.Encode.{encode_rule, encode_block_in, encode_rules_in, encode_counters, encode_in}
 use Rattle.grammar.specs.Read.{is_name}
 use Rattle.grammar.specs.Valid.{ok_head, ok_option, ok_leaf_in, ok_element_in, ok_alternative_in, ok_block_in, ok_rule, valid_in}
 use Rattle.grammar.specs.Laws.Whole.{valid_parts}
 use Rattle.laws.specs.Demands.Conversion.{leaf_calls, element_calls, alternative_calls, block_calls, calls_in, NoPrecedence}
-use Rattle.laws.specs.Lists.Flat.{flat_in, in_flat}
+use Rattle.laws.specs.Lists.Flat.{flat_in}
 use Rattle.laws.specs.Lists.Lookup.{all_in}
 
 -- Each item has so many words more as it has calls.

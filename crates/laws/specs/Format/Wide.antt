@@ -1,19 +1,18 @@
 -- The newest words of a tree without precedences are words of 32 bits, where those in the first form are.
-use Rattle.std.specs.Prelude.{ℕ, zero, suc, ◌+◌, ◌<◌, ◌≤◌, ◌≡◌, refl, Bool, true, ◌&&◌, length, ltb, leb}
+use Rattle.std.specs.Prelude.{ℕ, zero, suc, ◌≤◌, ◌≡◌, refl, Bool, true, ◌&&◌, length, ltb, leb}
 use Rattle.std.proofs.Common.{sym, ap, ap₂, ◌∙◌, arith, length-append, lt-ltb, le-leb}
 use Rattle.std.proofs.Math.Bool.{and_assoc}
 use Rattle.std.proofs.lemmas.Bool.{and_from}
 use Rattle.std.specs.Cmp.{first_so, second_so}
-use mathlib.Core.List.Memᴰ
 use mathlib.Core.List.{List, [], ◌∷◌, ◌++◌, flat_map, Memᴰ}
 use Rattle.grammar.specs.Form.{newest, first_form}
-use Rattle.grammar.specs.Lists.{each, all, only}
+use Rattle.grammar.specs.Lists.{each, all}
 use Rattle.grammar.specs.Numbers.{word_end, block_kind, most_words}
 use Rattle.grammar.specs.Tree.{Call, Leaf, epsilon, action, predicate, call, token, terminal, end_of_input, Element, leaf, block}
-use Rattle.grammar.specs.Tree.{AlternativeOf, Block, RuleOf, Rule, Sheet, body_depth}
+use Rattle.grammar.specs.Tree.{AlternativeOf, Block, Rule, Sheet, body_depth}
 use Rattle.grammar.specs.Encode.{encode_option, encode_head, leaf_kind, encode_leaf_in, encode_element_in, encode_alternative_in}
 use Rattle.grammar.specs.Encode.{encode_rule, encode_block_in, encode_rules_in, encode_counters, encode_in, encode}
-use Rattle.grammar.specs.Valid.{fits, fits_in, valid_in}
+use Rattle.grammar.specs.Valid.{fits, fits_in}
 use Rattle.laws.specs.Demands.Conversion.{leaf_calls, element_calls, alternative_calls, block_calls, calls_in}
 use Rattle.laws.specs.Lists.Flat.{in_flat}
 

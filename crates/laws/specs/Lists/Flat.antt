@@ -1,9 +1,8 @@
 -- Lists that each item gives, one after the other: what is in them, and how long they are.
-use Rattle.std.specs.Prelude.{◌≡◌, ◌+◌, length}
 use Rattle.std.proofs.Math.Path.{refl}
-use Rattle.std.proofs.Common.{sym, subst, ⊎_elim, arith, length-append}
+use Rattle.std.proofs.Common.{subst, ⊎_elim}
 use mathlib.Core.List.Memᴰ
-use mathlib.Core.List.{List, [], ◌∷◌, ◌++◌, flat_map, Memᴰ}
+use mathlib.Core.List.{List, [], ◌∷◌, flat_map, Memᴰ}
 
 module _ {A B : Type 0} (f : A → List B) where
   pub flat_in : {b : B} (xs : List A) → Memᴰ b (flat_map f xs) → (a : A) × Memᴰ a xs × Memᴰ b (f a)

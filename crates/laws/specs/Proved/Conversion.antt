@@ -1,5 +1,5 @@
 -- The conversion of an old sheet, as Demands tells it.
-use Rattle.std.specs.Prelude.{ℕ, suc, ◌≤◌, ◌<◌, ◌-◌, ◌+◌, ◌*◌, ◌≡◌, refl, List, [], ◌∷◌, ◌++◌, Bool, true, false, ◌&&◌, length, take, drop, replicate, leb}
+use Rattle.std.specs.Prelude.{ℕ, suc, ◌≤◌, ◌-◌, ◌*◌, ◌≡◌, refl, List, ◌++◌, Bool, true, false, ◌&&◌, length, take, drop, replicate, leb}
 use Rattle.std.proofs.Common.{sym, ap, ◌∙◌, subst, true≢false, arith, leb-true, leb-false, le-leb}
 use Rattle.std.proofs.lemmas.Bool.{and_from}
 use Rattle.std.specs.Cmp.{first_so, second_so}
@@ -10,7 +10,7 @@ use Rattle.grammar.specs.Encode.{encode, encode_in}
 use Rattle.grammar.specs.Reading.{Reading, refused, sheet, is_length, read, read_in}
 use Rattle.grammar.specs.Valid.{valid_in, fits_in, fits}
 use Rattle.grammar.specs.Numbers.{most_bytes, most_words, result_bytes, work_bytes, short_buffer, result_too_long}
-use Rattle.std.specs.Prelude.{Result, Ok, Err}
+use Rattle.std.specs.Prelude.{Ok, Err}
 use Rattle.grammar.specs.Convert.{Converted, newest_words, untouched, delivered, conversion}
 use Rattle.grammar.specs.Laws.Words.{AreBytes, length_words, length_bytes}
 use Rattle.grammar.specs.Laws.Codec.{reads_back_lem, is_encoding, is_encoding_words, accepted_valid, one_tree}
@@ -18,7 +18,7 @@ use Rattle.grammar.specs.Laws.Convert.{valid_newest}
 use Rattle.reference.specs.Computed.{computed}
 use Rattle.reference.specs.Run.{filled}
 use Rattle.laws.specs.Examples.{sum_of_before, sum_of_today, ends_early, ends_late}
-use Rattle.laws.specs.Demands.Table.{GoodLength, PassesIn, zeros, Holds}
+use Rattle.laws.specs.Demands.Table.{GoodLength, Holds}
 use Rattle.laws.specs.Demands.Conversion.{CodecIn, Lends, Delivers, ConvertRow, bad_length, not_lent, not_read, too_long, is_converted}
 use Rattle.laws.specs.Demands.Conversion.{NoPrecedence, ConvertReads, ConvertApart, ConvertLength, SumConverted, LengthTells}
 use Rattle.laws.specs.Format.Calls.{longer_sheet, none_sheet}
@@ -204,6 +204,9 @@ sum_converted_lem =
           converted_of (bytes sum_of_before) result work refl (lent result work l)
           ∙ ap (λ r. delivered r result work) sum_read;
     }
+
+pub sum_number : (result work : List ℕ) → Lends result work → (conversion first_form (bytes sum_of_before) result work).number ≡ 0
+sum_number result work l = ap (λ c. c.number) (sum_converted_lem.converted result work l)
 
 -- Two sheets of which one has zeros behind it in place of two words of the other.
 early_read : newest_words (read_in first_form (bytes ends_early)) ≡ Ok ends_early

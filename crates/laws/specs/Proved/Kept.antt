@@ -23,7 +23,7 @@ use Rattle.laws.specs.Proved.Refusals.{refused_so_lem}
 use Rattle.std.proofs.Math.Bool.{true, false}
 use Rattle.laws.specs.Demands.Shape.{Elements, NoOptionalSymbol, NoLeftCorner, OnlyPastSymbols}
 use Rattle.laws.specs.Demands.Run.{Demand3}
-use Rattle.laws.specs.Demands.Table.{GoodLength, trail_words, Delivered, Row}
+use Rattle.laws.specs.Demands.Table.{trail_words, Delivered, Row}
 use Rattle.laws.specs.Demands.Table.{bad_length, not_lent, not_read, not_ended, is_ended}
 use Rattle.laws.specs.Demands.Kept.{same_bytes, OwnResult, Kept, KeptRust, Bought, EveryCall}
 use Rattle.laws.specs.Running.Leaves.{Told}
@@ -37,7 +37,7 @@ use Rattle.laws.specs.Proved.Applied.{one_origin_each}
 use Rattle.laws.specs.Proved.Demand3.{bound, preserved_rules_stay}
 use Rattle.laws.specs.Proved.OtherUnits.{other_outcome}
 use Rattle.laws.specs.Sameness.Again.{again}
-use Rattle.laws.specs.Proved.Table.{passes_reads, fails_number, length_good, lent_are, filled_none, trail_words_lem, trail_entries, table}
+use Rattle.laws.specs.Proved.Table.{passes_reads, fails_number, lent_are, filled_none, trail_words_lem, trail_entries, table}
 
 -- A buffer filled with nothing is zeros.
 nothing_else : (bs result trail work : List ℕ)

@@ -1,26 +1,26 @@
 -- Calls are copied: what holds of each call of a grammar holds of each call of what a run leaves of it.
 use Rattle.std.specs.Prelude.{ℕ, zero, suc, ◌≡◌, refl, not}
-use Rattle.std.proofs.Common.{sym, ap, ap₂, ◌∙◌, subst, ⊎_elim}
+use Rattle.std.proofs.Common.{sym, ap, ap₂, ◌∙◌, subst}
 use mathlib.Core.List.Memᴰ
 use mathlib.Core.List.{List, [], ◌∷◌, ◌++◌, map, flat_map, Memᴰ}
 use Rattle.grammar.specs.Lists.{member, keep}
 use Rattle.grammar.specs.Numbers.{alternative_sort}
 use Rattle.grammar.specs.Tree.{Call, Leaf, epsilon, action, predicate, call, token, terminal, end_of_input, Element, leaf, block}
-use Rattle.grammar.specs.Tree.{AlternativeOf, Block, RuleOf, Rule, Counters, Sheet, body_depth}
+use Rattle.grammar.specs.Tree.{AlternativeOf, Block, RuleOf, Rule, Counters, Sheet}
 use Rattle.grammar.specs.Corners.{Corners}
 use Rattle.grammar.specs.Laws.Parse.{either}
 use Rattle.reference.specs.Substitute.{Limits, plain, Planned}
 use Rattle.reference.specs.Plan.{CyclePlan}
 use Rattle.reference.specs.Apply.{Fresh, fresh_each, past, renumber_head, renumber_leaf, renumber_element, renumber_elements}
 use Rattle.reference.specs.Apply.{renumber_alternative, renumber_block, apply_alternative, with_body, apply_plan}
-use Rattle.reference.specs.Run.{inner_depth, Stage, ended, eliminate_mutual_left_recursion, sheet_after}
+use Rattle.reference.specs.Run.{inner_depth, Stage, ended, eliminate_mutual_left_recursion}
 use Rattle.graph.specs.Members.{in_keep}
 use Rattle.laws.specs.Demands.Conversion.{leaf_calls, element_calls, alternative_calls, block_calls, calls_in, CallsCopied}
 use Rattle.laws.specs.Lists.Flat.{in_flat, flat_in}
 use Rattle.laws.specs.Planning.Applied.{Alternative-holds, plan_holds}
 use Rattle.laws.specs.Planning.Bodied.{Bodied, is_hub, is_other, bodied}
 use Rattle.laws.specs.Planning.Chain.{FromHub, from_hub}
-use Rattle.laws.specs.Running.Stages.{rules_after, sheet_after_lem, sheet_ends, stages_chain, stage_made, Happened, Chain, last, next}
+use Rattle.laws.specs.Running.Stages.{rules_after, sheet_after_lem, sheet_ends, stages_chain, stage_made, Chain, last, next}
 use Rattle.laws.specs.Validity.Parts.{fresh_in}
 
 -- Copies have the calls of what they copy.
