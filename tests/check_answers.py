@@ -34,6 +34,7 @@ from queue import Empty, SimpleQueue
 from threading import Thread
 
 from answers.calls import Call, calls, calls_of_each
+from answers.conversions import Conversion, conversions
 from answers.definitions import copy_definitions
 from answers.laws import compared
 from answers.readings import readings
@@ -54,13 +55,13 @@ def all_asked(paths, pattern='', outcome=False):
     if outcome:
         asked = list(calls_of_each(asked))
     elif any(Path(path).is_dir() for path in paths):
-        asked += [*calls(asked), *compared(asked), *readings(READING)]
+        asked += [*calls(asked), *compared(asked), *readings(READING), *conversions()]
     return [one for one in asked if re.search(pattern, one.name)]
 
 
 def effort(one):
     """About what the checker takes for it, in bytes of a sheet; a call has long buffers."""
-    return 4000 if isinstance(one, Call) else max(len(one.sheet), 300)
+    return 4000 if isinstance(one, (Call, Conversion)) else max(len(one.sheet), 300)
 
 
 def batches(asked):

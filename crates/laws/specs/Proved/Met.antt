@@ -26,7 +26,7 @@ use Rattle.reference.specs.Run.{Stage, eliminate_mutual_left_recursion, sheet_af
 use Rattle.reference.specs.Run.{answer, refusal, answer_run, answer_reading, answer_to, Outcome, are_lent, delivered, outcome}
 use Rattle.reference.specs.Computed.{computed}
 use Rattle.reference.specs.Written.{counted}
-use Rattle.laws.specs.Examples.{returning}
+use Rattle.laws.specs.Examples.{returning, sum_of_before}
 use Rattle.laws.specs.Demands.End.{NotEnd, NoEnd}
 use Rattle.laws.specs.Demands.Shape.{NoOptionalSymbol}
 use Rattle.laws.specs.Demands.Run.{rules_of}
@@ -37,6 +37,7 @@ use Rattle.laws.specs.Demands.Theorems.{Ends}
 use Rattle.laws.specs.Demands.Met.{Met}
 use Rattle.laws.specs.BothReadings.Sheets.{stages_of, nullable_hub_returns_lem}
 use Rattle.laws.specs.Proved.Table.{good_length_lem, lent_are}
+use Rattle.laws.specs.Proved.Conversion.{sum_number}
 use Rattle.laws.specs.Proved.Kept.{every_call_lem}
 use Rattle.laws.specs.Sameness.Again.{bytes_are}
 
@@ -259,6 +260,16 @@ met =
         reads_bare,
         not_parser,
         number_0,
+      );
+      a_conversion = (
+        bytes sum_of_before,
+        lent_zeros result_bytes,
+        lent_zeros work_bytes,
+        bytes_are sum_of_before,
+        sum_number (lent_zeros result_bytes) (lent_zeros work_bytes) (record {
+          for_result = zeros_lent.for_result;
+          for_work = zeros_lent.for_work;
+        }),
       );
       no_end = (body_depth, returning.rules, no_end_returning);
       bytes_no_end = (returning_bytes, bytes_are (encode returning), returning, reads_returning, no_end_read);
