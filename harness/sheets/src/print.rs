@@ -134,11 +134,16 @@ impl Printer<'_> {
             Kind::Action(body) => self.semantics("{", body, Sort::Action),
             Kind::Predicate(body) => self.semantics("&{", body, Sort::Predicate),
             Kind::Call {
-                name, arguments, ..
+                name,
+                arguments,
+                precedence,
             } => {
                 self.name(*name, Place::Rule);
                 if *arguments != 0 {
                     let _ = write!(self.out, "[{arguments}]");
+                }
+                if *precedence != 0 {
+                    let _ = write!(self.out, "^{}", *precedence - 1);
                 }
             }
             Kind::Token(name) => self.name(*name, Place::Token),

@@ -76,7 +76,7 @@ impl Parser<'_> {
         Ok(Kind::Call {
             name,
             arguments: self.arguments()?,
-            precedence: 0,
+            precedence: self.precedence()?,
         })
     }
 
@@ -87,6 +87,18 @@ impl Parser<'_> {
         let arguments = self.number()?;
         self.expect("]")?;
         Ok(arguments)
+    }
+
+    /// The word of a call with a precedence is one more than it.
+    fn precedence(&mut self) -> Result<u32, String> {
+        if self.tokens.first() != Some(&Token::Raised) {
+            return Ok(0);
+        }
+        self.skip();
+        let precedence = self.number()?;
+        precedence
+            .checked_add(1)
+            .ok_or_else(|| format!("no word has the precedence {precedence}"))
     }
 
     fn semantics(&mut self, sort: Sort) -> Result<Semantics, String> {
