@@ -223,15 +223,21 @@ fn single_points() -> Vec<Edge> {
 /// The word of a precedence decides nothing: it is copied with its call, and goes with a call in whose place others are spliced.
 fn precedences() -> Vec<Edge> {
     vec![
-        edge("a spliced call with a precedence", "e: a^3 | INT; a: e PLUS;"),
-        edge("a copied call with a precedence", "e: a | INT; a: e PLUS e^3;"),
+        edge(
+            "a spliced call with a precedence",
+            "e: a^3 | INT; a: e PLUS;",
+        ),
+        edge(
+            "a copied call with a precedence",
+            "e: a | INT; a: e PLUS e^3;",
+        ),
         edge(
             "a split call with a precedence",
-            "e: a | e^3? X | INT; a: e PLUS;",
+            "e: a | e?^3 X | INT; a: e PLUS;",
         ),
         edge(
             "a spliced call with a precedence and a split one behind it",
-            "e: a^7 | INT; a: e PLUS | b^4294967294? Y; b: e^0 zz[9]^1;",
+            "e: a^7 | INT; a: e PLUS | b?^4294967294 Y; b: e^0 zz[9]^1;",
         ),
     ]
 }
@@ -277,10 +283,7 @@ fn results_too_long() -> Vec<Edge> {
             "9 by nested alternatives",
             &format!("e: a ( {block} ) | INT; a: {eight};"),
         ),
-        edge(
-            "9 by one preserved id",
-            &format!("%preserve 900; {fits}"),
-        ),
+        edge("9 by one preserved id", &format!("%preserve 900; {fits}")),
         edge(
             "9 by a satellite that stays",
             &format!("%preserve a; {fits}"),

@@ -2,7 +2,7 @@
 //!
 //! `e: a? DOTS | x=INT {$INT}; a: e PLUS;` and, where wanted, every word of a
 //! sheet: ids `@7` (of an element `^7`, in front of it), carried numbers `~7`,
-//! arguments `a[5]`, the precedence of a call `a^3` or `a[5]^3`, with no gap in
+//! arguments `a[5]`, the precedence of a call `a^3` or `a[5]?^3`, with no gap in
 //! front of it, options `<o=1>` in front of an alternative or behind an element,
 //! a labelled alternative `#`, rule flags `!2`, predicates `&{..}`, own ids
 //! `{@3 $x}`, epsilon `_`, kind 5 `.`, the end of input `EOF`, which is no token,

@@ -122,6 +122,7 @@ impl Printer<'_> {
         self.atom(element);
         let marks = ["", "?", "??", "*", "*?", "+", "+?"];
         self.out.push_str(marks[element.quantifier as usize]);
+        self.precedence(&element.kind);
         self.options(&element.options);
         if self.style == Style::Full || element.kind == Kind::Other {
             self.carried("", element.carried);
@@ -134,16 +135,11 @@ impl Printer<'_> {
             Kind::Action(body) => self.semantics("{", body, Sort::Action),
             Kind::Predicate(body) => self.semantics("&{", body, Sort::Predicate),
             Kind::Call {
-                name,
-                arguments,
-                precedence,
+                name, arguments, ..
             } => {
                 self.name(*name, Place::Rule);
                 if *arguments != 0 {
                     let _ = write!(self.out, "[{arguments}]");
-                }
-                if *precedence != 0 {
-                    let _ = write!(self.out, "^{}", *precedence - 1);
                 }
             }
             Kind::Token(name) => self.name(*name, Place::Token),
@@ -154,6 +150,16 @@ impl Printer<'_> {
                 self.alternatives(alternatives);
                 self.out.push_str(" )");
             }
+        }
+    }
+
+    fn precedence(&mut self, kind: &Kind) {
+        if let Kind::Call {
+            precedence: word @ 1..,
+            ..
+        } = kind
+        {
+            let _ = write!(self.out, "^{}", word - 1);
         }
     }
 

@@ -6,7 +6,7 @@ pub enum Token {
     Number(u32),
     /// A single mark, or `::`.
     Mark(&'static str),
-    /// The `^` right behind a name or a `]`: of a call's precedence, and not of the id of the element that follows.
+    /// The `^` of a precedence, which touches the call in front of it; behind a gap it is that of the next element's id.
     Raised,
 }
 
@@ -20,9 +20,9 @@ pub fn scan(text: &str) -> Result<Vec<Token>, String> {
     let mut rest = text.trim_start();
     while !rest.is_empty() {
         let (token, mut after) = first_token(rest)?;
-        let may_be_raised = matches!(token, Token::Name(_) | Token::Mark("]"));
+        let ends_call = matches!(token, Token::Name(_) | Token::Mark("]" | "?" | "*" | "+"));
         tokens.push(token);
-        if let Some(behind) = after.strip_prefix('^').filter(|_| may_be_raised) {
+        if let Some(behind) = after.strip_prefix('^').filter(|_| ends_call) {
             tokens.push(Token::Raised);
             after = behind;
         }

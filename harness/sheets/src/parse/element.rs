@@ -11,8 +11,11 @@ impl Parser<'_> {
     pub(super) fn element(&mut self) -> Result<Element, String> {
         let id = self.id_after("^", Sort::Element)?;
         let label = self.label()?;
-        let kind = self.atom()?;
+        let mut kind = self.atom()?;
         let quantifier = self.quantifier();
+        if let Kind::Call { precedence, .. } = &mut kind {
+            *precedence = self.precedence()?;
+        }
         let options = self.options()?;
         let carried = self.carried()?;
         Ok(Element {
@@ -76,7 +79,7 @@ impl Parser<'_> {
         Ok(Kind::Call {
             name,
             arguments: self.arguments()?,
-            precedence: self.precedence()?,
+            precedence: 0,
         })
     }
 
