@@ -73,7 +73,7 @@ static inline const char *pass_refusal_text(uint32_t refusal) {
     case PASS_COUNTER_PAST_END:
         return "applying a plan would take a counter above 4,294,967,295";
     case PASS_RESULT_TOO_LARGE:
-        return "applying a plan would give a sheet over 32,768 bytes or a trail over 4,096 entries";
+        return "what would be handed back is too large: a sheet over 32,768 bytes or a trail over 4,096 entries";
     default:
         return NULL;
     }
