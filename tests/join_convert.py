@@ -31,6 +31,13 @@ def of_length(length):
     return sheet(record, range(length // 4 - 8 - len(record)))
 
 
+def grown(old):
+    """What becomes of a sheet of `of_length`: behind the words of its one call, the last of the record, stands a 0 more."""
+    words = struct.unpack(f"<{len(old) // 4}I", old)
+    trailer = (words[-8], words[-7] + 1, *words[-6:])
+    return packed([*words[:17], 0, *words[17:-8], *trailer])
+
+
 def old_sheets_are_converted(program, folder, made):
     """--convert writes the sheet of today and prints its length; from standard input too."""
     old, new = written(made, "old", case_1("")), made / "new"
@@ -43,6 +50,7 @@ def old_sheets_are_converted(program, folder, made):
     require(rules(Run(program, [new]).text())[:2] == ["r%1:", "r%1 T%4 r%1 // level 2, binary; slot r%1 1, origin r%2 1"], "it is not joined")
     longest = written(made, "longest", of_length(32_764))
     require(Run(program, ["--convert", longest, new]).answer() == b"32768 bytes\n", "a sheet of 32,764 bytes with one call")
+    require(new.read_bytes() == grown(longest.read_bytes()), "another sheet of 32,768 bytes")
 
 
 def what_is_no_old_sheet(program, folder, made):

@@ -147,7 +147,7 @@ class Stops(Folder):
 class Conversions(Folder):
     def setUp(self):
         super().setUp()
-        for name, sheet in (("new", join_convert.case_1("0")), ("longest", join_convert.of_length(32_764))):
+        for name, sheet in (("new", join_convert.case_1("0")), ("longest", join_convert.grown(join_convert.of_length(32_764)))):
             (self.root / name).write_bytes(sheet)
 
     def test_sheets(self):
@@ -158,7 +158,7 @@ class Conversions(Folder):
         """A program that answers case 1 so, and all else as it should."""
         script = f'''if [ "$1" != --convert ]; then
   printf '// joined\\n\\nr%%1:\\n r%%1 T%%4 r%%1 // level 2, binary; slot r%%1 1, origin r%%2 1\\n;\\n'
-elif [ "${{2##*/}}" = longest ]; then echo 32768 bytes
+elif [ "${{2##*/}}" = longest ]; then cp {self.root}/longest "$3"; echo 32768 bytes
 else {case_1}; fi'''
         return self.outcome(join_convert.old_sheets_are_converted, script, self.examples, self.made())
 
