@@ -53,6 +53,16 @@ def old_sheets_are_converted(program, folder, made):
     require(new.read_bytes() == grown(longest.read_bytes()), "another sheet of 32,768 bytes")
 
 
+def the_old_example_becomes_the_new_one(program, folder, made):
+    """The sheets of examples/old are those beside the folder, where these are there, as they were written."""
+    old = sorted((folder / "old").glob("*.sheet"))
+    require(old, "no old sheet is stored")
+    for file in old:
+        Run(program, ["--convert", file, made / "new"]).answer()
+        today = folder / file.name
+        require(not today.exists() or (made / "new").read_bytes() == today.read_bytes(), f"{file.name} becomes another sheet")
+
+
 def what_is_no_old_sheet(program, folder, made):
     """A refusal is told in words, and nothing is written."""
     for content, number, told in (
@@ -116,6 +126,7 @@ def the_notation_has_precedences(program, folder, made):
 
 CHECKS = (
     old_sheets_are_converted,
+    the_old_example_becomes_the_new_one,
     what_is_no_old_sheet,
     conversions_that_cannot_be_had,
     precedences_are_printed,

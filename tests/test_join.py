@@ -169,6 +169,18 @@ else {case_1}; fi'''
         self.assertEqual(self.converted(f'cp {self.root}/longest "$3" && echo 288 bytes'), "another sheet")
         self.assertEqual(self.converted(f'[ "$2" = - ] || cp {self.root}/new "$2"; {good}'), "the old sheet is another now")
 
+    def test_examples(self):
+        check = join_convert.the_old_example_becomes_the_new_one
+        script = f'cp {self.root}/new "$3"'
+        self.assertEqual(self.outcome(check, script, self.examples, self.made()), "no old sheet is stored")
+        (self.examples / "old").mkdir()
+        for name in ("one", "two"):
+            (self.examples / "old" / f"{name}.sheet").write_bytes(b"")
+        (self.examples / "one.sheet").write_bytes(join_convert.case_1("0"))
+        self.assertIsNone(self.outcome(check, script, self.examples, self.made()))
+        (self.examples / "two.sheet").write_bytes(b"")
+        self.assertEqual(self.outcome(check, script, self.examples, self.made()), "two.sheet becomes another sheet")
+
     def test_refused(self):
         check = join_convert.what_is_no_old_sheet
         say = "echo join: the old sheet is refused by 1: the sheet >&2; exit 1"
