@@ -130,7 +130,7 @@ class Others(unittest.TestCase):
             ("plans", "uint32_t nth,", "uint32_t *nth,", "plan_nth takes what the crate's function takes"),
             ("convert", "numbers[2]", "numbers[3]", "convert.h has a name for each number"),
             ("convert", "CONVERT_RESULT_LENGTH, /*", "CONVERT_PLANS, /*", "convert.h has the numbers of 19.4"),
-            ("convert", "uint8_t *work, ", "const uint8_t *work, ", "convert takes what the crate's function takes"),
+            ("convert", "size_t work_length, uint32_t", "uint32_t work_length, uint32_t", "convert takes what the crate's function takes"),
         ):
             with self.subTest(old=old):
                 self.assertEqual(self.edited(name, old, old), [])
