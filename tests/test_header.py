@@ -128,6 +128,9 @@ class Others(unittest.TestCase):
             ("plans", "a blocked corner: an alt", "a blocked corner: the alt", "PLANS_BLOCKED_CORNER has the Rust crate's text"),
             ("plans", "no steps: ", "no step: ", "PLANS_NO_STEPS is clause 10"),
             ("plans", "uint32_t nth,", "uint32_t *nth,", "plan_nth takes what the crate's function takes"),
+            ("convert", "numbers[2]", "numbers[3]", "convert.h has a name for each number"),
+            ("convert", "CONVERT_RESULT_LENGTH, /*", "CONVERT_PLANS, /*", "convert.h has the numbers of 19.4"),
+            ("convert", "size_t work_length, uint32_t", "uint32_t work_length, uint32_t", "convert takes what the crate's function takes"),
         ):
             with self.subTest(old=old):
                 self.assertEqual(self.edited(name, old, old), [])

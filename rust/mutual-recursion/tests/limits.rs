@@ -60,7 +60,7 @@ fn limits() {
     check(
         Refusal::ResultTooLarge,
         &[
-            ("applying a plan would give", vec![]),
+            ("what would be handed back is too large", vec![]),
             (
                 "a sheet over 32,768 bytes",
                 sides("edge-9 with 39 options", "edge-9 with 38 options"),
