@@ -18,10 +18,9 @@ use Rattle.grammar.specs.Encode.{encode}
 use Rattle.grammar.specs.Reading as reading
 use Rattle.grammar.specs.Reading.{refused, sheet, is_length, read_words, read_words_in, read_in}
 use Rattle.grammar.specs.Convert.{newest_words, delivered, conversion}
-use Rattle.grammar.specs.Laws.Words.{AreBytes, bytes_words}
+use Rattle.grammar.specs.Laws.Words.{AreBytes, bytes_words, words_take}
 use Rattle.grammar.specs.Laws.Codec.{encode_length}
 use Rattle.grammar.specs.Laws.Whole.{reads_sheet, words_sound}
-use Rattle.ids.proofs.Laws.Lists.{words_take}
 use Rattle.writing.specs.Wrote.{Wrote}
 use Rattle.writing.specs.Laws.Wrote.{wrote_slice}
 use Rattle.words.specs.declared.numbers.Refusal.{Refusal}
@@ -49,7 +48,7 @@ refusal_told e = rw e refl
 -- Where the newest words stand in front of the wide area, the reader reads them there.
 module _ (bs : List ℕ) {wide : List ℕ} {n : ℕ} (w : Newest (words bs) wide n) where
   same : read_words (words (take (4 * n) wide)) ≡ read_words_in first_form (words bs)
-  same = ap read_words (words_take wide n w.front.room ∙ w.front.are) ∙ w.judged
+  same = ap read_words (words_take wide n ∙ w.front.are) ∙ w.judged
 
   pub wide_lent : {result work : List ℕ} → length wide ≡ 36864 → Lent bs result work → reader.Lent (take (4 * n) wide) work
   wide_lent {result} {work} e l =
@@ -119,7 +118,7 @@ take_bytes (b ∷ bs) (suc n) h (suc i) = take_bytes bs n (λ j. h (suc j)) i
 front_bytes : (bs : List ℕ) (n : ℕ) {ws : List ℕ} → AreBytes bs → 4 * n ≤ length bs → take n (words bs) ≡ ws → take (4 * n) bs ≡ bytes ws
 front_bytes bs n {ws} h r e =
     let k = length-take-le (4 * n) bs r in
-    sym (bytes_words (take (4 * n) bs) (take_bytes bs (4 * n) h) (omega arith)) ∙ ap bytes (words_take bs n r ∙ e)
+    sym (bytes_words (take (4 * n) bs) (take_bytes bs (4 * n) h) (omega arith)) ∙ ap bytes (words_take bs n ∙ e)
 
 module _ (bs result work : List ℕ) where
   -- Refusals 1 and 2 touch nothing.
