@@ -25,8 +25,8 @@ fn fail(rt: &impl Eprint, what: &str, error: Error) {
 }
 
 // What a refusal means (SPECIFICATION 4), in one sentence.
-// Stays: these sentences are no `Display` for `Refusal`. A library of the project names nothing of std but its ops, and here the trait
-// asks for one more type around the refusal, while they are told in one place.
+// Stays: these sentences are no `Display` for `Refusal`. A library of the project names nothing of std, and here the trait asks for one
+// more type around the refusal, while they are told in one place.
 fn meaning(refusal: Refusal) -> &'static str {
     match refusal {
         Refusal::BadLength =>

@@ -55,7 +55,7 @@ fn try_cycles(
     work: &mut [u8],
 ) -> Found
     requires bounds { work_bytes ≤ length work.old }
-    requires closed_len { (length closed.now ≡ rule_limit) × (f.now.g.now.rules.now.n ≤ rule_limit) }
+    requires few_rules { f.now.g.now.rules.now.n ≤ rule_limit }
     requires joined_known { JoinedKnown (text f.now.g.now.s.now) f.now.g.now.s.now.end f.now.g.now.rules.now (corners_of f.now.reading)
         f.now.rows.now.calls f.now.ground.marks f.now.ground.kept closed.now }
     ensures { TriedOf (text f.now.g.now.s.now) f.now.g.now.s.now.end f.now.g.now.rules.now (corners_of f.now.reading) f.now.rows.now.calls

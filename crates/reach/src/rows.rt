@@ -5,8 +5,8 @@ ghost use Rattle.reach.specs.Rows.{bit, One, With, Without, Union, Meet, Minus, 
 
 // Stays: rows are arrays by value and the functions over them are free ones, since SPECIFICATION 17.1 fixes reachability over
 // `[[u64; 2]; 128]` by value, of which the first n are those of a sheet's n rules; `Row` has no more than their sizes. That a place is
-// below 128 is a clause, as it is of std's index, and that n is at most 128: n is a field of a sheet's rules, and a type for it
-// would be made of that field for each call, by the same fact, and opened again for each comparison.
+// below 128 is a clause, as it is of std's index, and so is that n is at most 128. n is a field of a sheet's rules: a type for it would
+// be made of that field wherever it is handed on, by the same fact, and be opened again wherever it is counted up to.
 #[derive(Drop)]
 pub struct Row;
 

@@ -1,5 +1,5 @@
 // The rows of all rules with the places of the rules that are gone taken out, from the highest down.
-ghost use Rattle.std.specs.Prelude.{◌≡◌, ◌+◌, ◌<◌, ◌≤◌, length};
+ghost use Rattle.std.specs.Prelude.{◌≡◌, ◌+◌, ◌<◌, ◌≤◌};
 ghost use Rattle.grammar.specs.Numbers.{rule_limit};
 ghost use Rattle.renew.specs.Less.{before, after, RowsLess};
 ghost use Rattle.renew.specs.Fewer.{PlaceLess, PlaceLessIf, RulesLess};
@@ -36,7 +36,7 @@ fn place_after(k: usize, i: usize) -> usize
 // Each row without place k, and the row of rule k left out.
 #[tactic(auto, using(crate::proofs::Laws::Less::lessening), unfolding(crate::specs::Less::before))]
 fn rows_less(rows: &mut [[u64; Row::WORDS]; Row::RULES], n: usize, k: usize)
-    requires { (k < n) × (n ≤ rule_limit) × (length rows.old ≡ rule_limit) }
+    requires { (k < n) × (n ≤ rule_limit) }
     ensures { RowsLess n k rows.old rows.new }
 {
     for i in 0..n - 1 {
