@@ -13,6 +13,10 @@ use Rattle.words.specs.Refusal.{refusal_number}
 use Rattle.sheet.specs.Answer.{EndAt}
 use Rattle.writing.specs.Wrote.{Wrote}
 
+-- A buffer with room for the newest words of every sheet: an eighth more than a sheet's.
+abbrev pub wide_bytes : ℕ
+wide_bytes = 36864
+
 -- A sheet of good length, and a buffer for an eighth more.
 pub record Widenable (bs wide : List ℕ) : Type 0 where
   pub least : least_bytes ≤ length bs

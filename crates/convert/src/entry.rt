@@ -5,6 +5,7 @@ ghost use Rattle.grammar.specs.Words.{words};
 ghost use Rattle.grammar.specs.Convert.{newest_words};
 ghost use Rattle.grammar.specs.Reading.{read_words_in};
 ghost use Rattle.grammar.specs.Laws.Words.{AreBytes};
+ghost use Rattle.convert.specs.Newest.{wide_bytes};
 ghost use Rattle.convert.specs.Converted.{Answered, ClearedFrom, Handed, Lent, lent_by};
 
 use crate::widen::widen;
@@ -22,7 +23,7 @@ impl Buffer {
     pub const RESULT: usize = 32768;
 }
 
-// The words of a sheet of the first form in the newest form: with a ninth word for each eight.
+// Where the newest words are written first: a call has eight words at least, and one more then.
 #[derive(Drop)]
 pub struct Wide;
 
@@ -46,7 +47,7 @@ fn clear_from(s: &mut [u8], at: usize)
 }
 
 fn wide_area() -> [u8; Wide::BYTES]
-    ensures { length result ≡ 36864 }
+    ensures { length result ≡ wide_bytes }
 {
     [0; Wide::BYTES]
 }

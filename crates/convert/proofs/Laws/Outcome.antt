@@ -30,7 +30,7 @@ use Rattle.sheet.specs.declared.answer.Reading.{Reading}
 use Rattle.sheet.specs.Answer as reader
 use Rattle.sheet.specs.Answer.{ReadAs}
 use Rattle.sheet.proofs.Laws.Lent.{sheet_most}
-use Rattle.convert.specs.Newest.{Widenable, Newest}
+use Rattle.convert.specs.Newest.{wide_bytes, Widenable, Newest}
 use Rattle.convert.specs.Converted.{Handed, lent_by, Lent, Written, ClearedFrom}
 
 was_refused : (g : reading.Reading) {e : Refusal} → ReadAs g (Err e) → g ≡ refused (refusal_number e)
@@ -50,7 +50,7 @@ module _ (bs : List ℕ) {wide : List ℕ} {n : ℕ} (w : Newest (words bs) wide
   same : read_words (words (take (4 * n) wide)) ≡ read_words_in first_form (words bs)
   same = ap read_words (words_take wide n ∙ w.front.are) ∙ w.judged
 
-  pub wide_lent : {result work : List ℕ} → length wide ≡ 36864 → Lent bs result work → reader.Lent (take (4 * n) wide) work
+  pub wide_lent : {result work : List ℕ} → length wide ≡ wide_bytes → Lent bs result work → reader.Lent (take (4 * n) wide) work
   wide_lent {result} {work} e l =
       let a = length-take-le (4 * n) wide w.front.room in
       let b = encode_length newest w.tree in
@@ -103,7 +103,7 @@ module _ (bs : List ℕ) {wide : List ℕ} {n : ℕ} (w : Newest (words bs) wide
         }
 
 -- A sheet of good length can be widened.
-pub widenable : {bs result work wide : List ℕ} → Lent bs result work → length wide ≡ 36864 → Widenable bs wide
+pub widenable : {bs result work wide : List ℕ} → Lent bs result work → length wide ≡ wide_bytes → Widenable bs wide
 widenable {bs} l e =
     let m = sheet_most bs l.long in
     record { least = leb-true least_bytes (length bs) (first_so (leb least_bytes (length bs)) _ l.long); most = m; room = omega arith }

@@ -19,7 +19,7 @@ use Rattle.writing.specs.Laws.Wrote.{wrote_then, wrote_slice}
 use Rattle.convert.specs.declared.walk.Place.{Place}
 use Rattle.convert.specs.Widened.{RulesWidened}
 use Rattle.convert.specs.Newest.{Widenable, Readable, Behind, Finished, InFront}
-use Rattle.convert.proofs.Laws.Nodes.{slice_length}
+use Rattle.convert.proofs.Laws.Leaves.{slice_length}
 
 pub finished : {bs out m₁ m₂ out' : List ℕ} {t end to : ℕ} → Widenable bs out → Behind bs t end to
     → Wrote out m₁ to (take (t + 1 - end) (drop end (words bs)))

@@ -3,9 +3,10 @@ use Rattle.words.specs.Laws.Kinds.{named_kinds}
 use Rattle.grammar.specs.Laws.Found.{rooms, inner}
 use Rattle.convert.proofs.walk.+tree.Goals as goal
 use Rattle.convert.proofs.Laws.Widening.{widening}
+use Rattle.convert.proofs.Laws.Leaves.{leaves}
 use Rattle.convert.proofs.Laws.Nodes.{nodes}
 
-ruleset trees = (rooms, inner, widening, nodes)
+ruleset trees = (rooms, inner, widening, leaves, nodes)
 
 pub widen_alternative-alternative_head_in-head-requires-clause-bounds : goal.widen_alternative-alternative_head_in-head-requires-clause-bounds
 widen_alternative-alternative_head_in-head-requires-clause-bounds t c = search (rules, trees)
