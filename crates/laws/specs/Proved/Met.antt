@@ -157,14 +157,14 @@ unfolding computed
 tree_returning = record { good_length = good_length_lem returning_bytes refl; trailer = refl; next = _; records = refl; is_sheet = refl }
 
 abbrev carried_five : Sheet
-carried_five = on_sheet same (λ n. 5) returning
+carried_five = on_sheet same (λ n. 5) same returning
 
 tree_five : TreeIn (bytes (encode carried_five)) carried_five
 unfolding computed on_sheet on_block on_element on_leaf
 tree_five =
     record { good_length = good_length_lem (bytes (encode carried_five)) refl; trailer = refl; next = _; records = refl; is_sheet = refl }
 
-same_but_carried : on_sheet same none returning ≡ on_sheet same none carried_five
+same_but_carried : on_sheet same none same returning ≡ on_sheet same none same carried_five
 unfolding computed on_sheet on_block on_element on_leaf
 same_but_carried = refl
 
