@@ -61,7 +61,8 @@ module _ (limits : Limits) (c : Corners) (result trail work : List ℕ) where
   -- Renamed before the pass or after it: the same number, plans, steps and lengths, and the same bytes in every buffer.
   abbrev pub Renamed : (bs : List ℕ) → Sheet → (ℕ → ℕ) → Type 0
   Renamed bs t f =
-      outcome limits c (bytes (encode (on_sheet f same same t))) result trail work ≡ on_outcome f same same (outcome limits c bs result trail work)
+      outcome limits c (bytes (encode (on_sheet f same same t))) result trail work
+      ≡ on_outcome f same same (outcome limits c bs result trail work)
 
   -- The same number, plans, steps, lengths, trail and work area, and the same result once every carried number in it is 0.
   abbrev pub AlikeButCarried : (bs bs' : List ℕ) → Type 0

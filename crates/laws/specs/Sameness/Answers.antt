@@ -17,7 +17,8 @@ use Rattle.laws.specs.Sameness.Runs.{on_stage, on_run, sheet_on}
 
 module _ (f r pr : ℕ → ℕ) (one : (a b : ℕ) → f a ≡ f b → a ≡ b) where
   -- The sheet that a run leaves, changed; its entries and steps are the same.
-  pub after_on : (s : Sheet) (ts : List Stage) → sheet_after (on_sheet f r pr s) (map (on_stage f r pr one) ts) ≡ on_sheet f r pr (sheet_after s ts)
+  pub after_on : (s : Sheet) (ts : List Stage)
+      → sheet_after (on_sheet f r pr s) (map (on_stage f r pr one) ts) ≡ on_sheet f r pr (sheet_after s ts)
   unfolding sheet_after on_sheet
   after_on s [] = refl
   after_on s (t ∷ ts) = after_on (sheet_with s.kind s.preserved t.after) ts
@@ -34,7 +35,8 @@ module _ (f r pr : ℕ → ℕ) (one : (a b : ℕ) → f a ≡ f b → a ≡ b) 
   -- What is answered to a run, with the result's tree changed.
   unfoldable pub answer_on : Sheet → Run → Answer
   answer_on s (stopped ts n) = refusal n
-  answer_on s (ended ts) = answer (length ts) (steps_of ts) (encode (on_sheet f r pr (sheet_after s ts))) (each encode_entry (entries_of ts))
+  answer_on s (ended ts) = answer (length ts) (steps_of ts) (encode (on_sheet f r pr (sheet_after s ts)))
+      (each encode_entry (entries_of ts))
 
   run-answer-on : (s : Sheet) (x : Run) → answer_run (on_sheet f r pr s) (on_run f r pr one x) ≡ answer_on s x
   unfolding answer_run answer_on

@@ -91,7 +91,8 @@ module _ (f r pr : ℕ → ℕ) where
         ≡ on_fresh (map (on_element f r pr on_b)) (renumber_elements renumber es c)
     unfolding renumber_elements
     elements_fresh es c =
-        fresh_each_on (on_element f r pr on_b) (on_element f r pr on_b) (renumber_element renumber) (renumber_element renumber) element_fresh es c
+        fresh_each_on (on_element f r pr on_b) (on_element f r pr on_b) (renumber_element renumber)
+        (renumber_element renumber) element_fresh es c
 
     alternative_fresh : (a : AlternativeOf B) (c : Counters)
         → renumber_alternative renumber (on_alternative f r pr on_b a) c
@@ -107,7 +108,8 @@ module _ (f r pr : ℕ → ℕ) where
   unfolding renumber_block on_block
   block_fresh zero b c = absurd b
   block_fresh (suc d) as' c =
-      fresh_each_on (on_alternative f r pr (on_block f r pr d)) (on_alternative f r pr (on_block f r pr d)) (renumber_alternative (renumber_block d))
+      fresh_each_on (on_alternative f r pr (on_block f r pr d)) (on_alternative f r pr (on_block f r pr d))
+      (renumber_alternative (renumber_block d))
       (renumber_alternative (renumber_block d)) (alternative_fresh (on_block f r pr d) (renumber_block d) (block_fresh d)) as' c
 
 module _ (f r pr : ℕ → ℕ) (one : (a b : ℕ) → f a ≡ f b → a ≡ b) (d : ℕ) where
@@ -142,7 +144,8 @@ module _ (f r pr : ℕ → ℕ) (one : (a b : ℕ) → f a ≡ f b → a ≡ b) 
 
   -- The whole plan: the same counters and entries, and the rules changed.
   pub apply_on : (rs : List (RuleOf (Block (suc d)))) (plan : CyclePlan d) (c : Counters)
-      → apply_plan d (on_rules f r pr one (suc d) rs) (on_plan f r pr one d plan) c ≡ on_fresh (on_rules f r pr one (suc d)) (apply_plan d rs plan c)
+      → apply_plan d (on_rules f r pr one (suc d) rs) (on_plan f r pr one d plan) c
+      ≡ on_fresh (on_rules f r pr one (suc d)) (apply_plan d rs plan c)
   unfolding apply_plan on_block
   apply_on rs plan c =
       let test : RuleOf (Block (suc d)) → Bool = λ q. not (member q.id plan.removable) in

@@ -31,7 +31,8 @@ module _ (f r pr : ℕ → ℕ) (one : (a b : ℕ) → f a ≡ f b → a ≡ b) 
   block_calls (suc d) as' =
       each_same (on_alternative f r pr (on_block f r pr d)) _ (λ a. each (gives g d) a.elements)
       (λ a. each_same (on f r pr one d) _ (gives g d)
-      (element_calls (on_block f r pr d) (block_gives nothing (calls g) d) (block_gives nothing (calls g') d) (block_calls d)) a.elements) as'
+      (element_calls (on_block f r pr d) (block_gives nothing (calls g) d) (block_gives nothing (calls g') d)
+      (block_calls d)) a.elements) as'
 
   -- In elements, and in a body.
   pub calls_elements : (d : ℕ) (es : List (Element (Block d)))
@@ -46,7 +47,8 @@ module _ (f r pr : ℕ → ℕ) (one : (a b : ℕ) → f a ≡ f b → a ≡ b) 
   calls_into d b = block_calls d b
 
   -- The calls in those rules that pass a test which asks for neither.
-  pub calls_kept_lem : (d : ℕ) (test : RuleOf (Block d) → Bool) → ((q : RuleOf (Block d)) → test (on_rule f r pr (on_block f r pr d) q) ≡ test q)
+  pub calls_kept_lem : (d : ℕ) (test : RuleOf (Block d) → Bool)
+      → ((q : RuleOf (Block d)) → test (on_rule f r pr (on_block f r pr d) q) ≡ test q)
       → (rs : List (RuleOf (Block d)))
       → each (λ q. collect_calls_into (on_grammar f r pr one g) d q.body) (keep test (on_rules f r pr one d rs))
       ≡ each (λ q. collect_calls_into g d q.body) (keep test rs)

@@ -121,7 +121,8 @@ module _ (f r pr : ℕ → ℕ) (words : (n : ℕ) → W n ≡ true → W (r n) 
   leaf_words_lem end_of_input h = λ t. t
 
   each_words : {A B : Type 0} (names : A → List ℕ) (on : A → B) (enc : A → List ℕ) (enc' : B → List ℕ)
-      → ((a : A) → AllOf (Good f r pr) (names a) → Wordy (enc a) → Wordy (enc' (on a))) → (as' : List A) → AllOf (Good f r pr) (each names as')
+      → ((a : A) → AllOf (Good f r pr) (names a) → Wordy (enc a) → Wordy (enc' (on a))) → (as' : List A)
+      → AllOf (Good f r pr) (each names as')
       → Wordy (each enc as') → Wordy (each enc' (map on as'))
   each_words names on enc enc' e [] h t = t
   each_words names on enc enc' e (a ∷ as') h t =
@@ -174,7 +175,8 @@ module _ (f r pr : ℕ → ℕ) (words : (n : ℕ) → W n ≡ true → W (r n) 
       (each_words (alternative_names (block_names d)) on enc enc
       (alternative_words_lem (block_names d) (on_block f r pr d) (encode_block d) (block_words_lem d)) as' n)
 
-  rule_words_lem : (q : Rule) → AllOf (Good f r pr) (q.name ∷ block_names body_depth q.body) → Wordy (encode_rule (encode_block body_depth) q)
+  rule_words_lem : (q : Rule) → AllOf (Good f r pr) (q.name ∷ block_names body_depth q.body)
+      → Wordy (encode_rule (encode_block body_depth) q)
       → Wordy (encode_rule (encode_block body_depth) (on_rule f r pr (on_block f r pr body_depth) q))
   unfolding encode_rule
   rule_words_lem q n =

@@ -67,7 +67,8 @@ module _ (f r pr : ℕ → ℕ) where
   unfolding names_in on_sheet
   names_in_lem s =
       let give : Rule → List ℕ = λ q. q.name ∷ block_names body_depth q.body in
-      each_on (on_rule f r pr (on_block f r pr body_depth)) give give f (λ q. ap (λ l. f q.name ∷ l) (block_names_lem body_depth q.body)) s.rules
+      each_on (on_rule f r pr (on_block f r pr body_depth)) give give f
+      (λ q. ap (λ l. f q.name ∷ l) (block_names_lem body_depth q.body)) s.rules
 
 -- Two functions that make the same list of one agree on its members.
 maps_agree : (f g : ℕ → ℕ) (xs : List ℕ) → map f xs ≡ map g xs → (n : ℕ) → member n xs ≡ true → f n ≡ g n

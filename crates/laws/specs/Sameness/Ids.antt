@@ -43,7 +43,8 @@ module _ (f r pr : ℕ → ℕ) (sort : ℕ) where
   block_ids_lem zero b = absurd b
   block_ids_lem (suc d) as' =
       let ids = element_ids sort (block_ids sort d) in
-      each_same (on_alternative f r pr (on_block f r pr d)) (alternative_ids sort (block_ids sort d)) (alternative_ids sort (block_ids sort d))
+      each_same (on_alternative f r pr (on_block f r pr d)) (alternative_ids sort (block_ids sort d))
+      (alternative_ids sort (block_ids sort d))
       (λ a. ap (λ l. only (eqb sort alternative_sort) a.id ++ l)
       (each_same (on_element f r pr (on_block f r pr d)) ids ids
       (element_ids_lem (on_block f r pr d) (block_ids sort d) (block_ids_lem d)) a.elements)) as'

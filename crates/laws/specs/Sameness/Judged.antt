@@ -29,7 +29,8 @@ module _ (f r pr : ℕ → ℕ) (one : (a b : ℕ) → f a ≡ f b → a ≡ b) 
 
   body_ids_lem : (sort : ℕ) (rs : List Rule) → body_ids sort (on_all rs) ≡ body_ids sort rs
   body_ids_lem sort rs =
-      each_same (on_rule f r pr (on_block f r pr body_depth)) (λ q. block_ids sort body_depth q.body) (λ q. block_ids sort body_depth q.body)
+      each_same (on_rule f r pr (on_block f r pr body_depth)) (λ q. block_ids sort body_depth q.body)
+      (λ q. block_ids sort body_depth q.body)
       (λ q. block_ids_lem f r pr sort body_depth q.body) rs
 
   -- No number is shared where none was, and none is past its counter where none was.

@@ -53,7 +53,8 @@ module _ (f r pr : ℕ → ℕ) where
   unfolding encode_block_in on_block
   block_length zero b = absurd b
   block_length (suc d) as' =
-      ap suc (each_length (on_alternative f r pr (on_block f r pr d)) (encode_alternative (encode_block d)) (encode_alternative (encode_block d))
+      ap suc (each_length (on_alternative f r pr (on_block f r pr d)) (encode_alternative (encode_block d))
+      (encode_alternative (encode_block d))
       (alternative_length (on_block f r pr d) (encode_block d) (block_length d)) as')
 
   rule_length : (q : Rule)

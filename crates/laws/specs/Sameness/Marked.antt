@@ -127,7 +127,8 @@ module _ (f r pr : ℕ → ℕ) (one : (a b : ℕ) → f a ≡ f b → a ≡ b) 
           (ap (λ z. calls g l ++ skip (not (is_stop c g l) && (is_optional x || leaf_nullable g l)) z) (corners_on es))
       corners_on (block x b ∷ es) = rw (h b, k b) (ap (λ z. corners b ++ skip (is_optional x || test b) z) (corners_on es))
 
-    pub block_corners_on : (c : Corners) (d : ℕ) (b : Block d) → block_corners c (on_grammar g) d (on_block f r pr d b) ≡ block_corners c g d b
+    pub block_corners_on : (c : Corners) (d : ℕ) (b : Block d)
+        → block_corners c (on_grammar g) d (on_block f r pr d b) ≡ block_corners c g d b
     unfolding block_corners on_block
     block_corners_on c zero b = absurd b
     block_corners_on c (suc d) as' =
@@ -150,7 +151,8 @@ module _ (f r pr : ℕ → ℕ) (one : (a b : ℕ) → f a ≡ f b → a ≡ b) 
   cycles_on g c d rs = ap₂ (λ rows is. cycles_from (reach rows) (sorted is)) (rows_on g c d rs) (ids_on d rs)
 
   -- The rules that can be empty are found in the same rounds.
-  kept_on : (d : ℕ) (test test' : RuleOf (Block d) → Bool) → ((q : RuleOf (Block d)) → test' (on_rule f r pr (on_block f r pr d) q) ≡ test q)
+  kept_on : (d : ℕ) (test test' : RuleOf (Block d) → Bool)
+      → ((q : RuleOf (Block d)) → test' (on_rule f r pr (on_block f r pr d) q) ≡ test q)
       → (rs : List (RuleOf (Block d))) → ids_of (keep test' (on_rules d rs)) ≡ ids_of (keep test rs)
   kept_on d test test' h rs = ap ids_of (keep_same (on_rule f r pr (on_block f r pr d)) test' test h rs) ∙ ids_on d (keep test rs)
 

@@ -62,7 +62,8 @@ module _ (f g r pr : ℕ → ℕ) where
     element_agrees (block h b) t =
         ap₂ block (head_agrees h (left_of Eq (head_names h) (of_b b) t)) (e b (right_of Eq (head_names h) (of_b b) t))
 
-    alternative_agrees : (a : AlternativeOf B) → Agree (alternative_names of_b a) → on_alternative f r pr on_b a ≡ on_alternative g r pr on_b' a
+    alternative_agrees : (a : AlternativeOf B) → Agree (alternative_names of_b a)
+        → on_alternative f r pr on_b a ≡ on_alternative g r pr on_b' a
     alternative_agrees a t =
         ap₂ (λ os es. record { id = a.id; carried = r a.carried; flag = a.flag; options = os; elements = es })
         (options_agree a.options (left_of Eq (option_names a.options) (each (element_names of_b) a.elements) t))
@@ -73,7 +74,8 @@ module _ (f g r pr : ℕ → ℕ) where
   unfolding block_names on_block
   block_agrees zero b t = absurd b
   block_agrees (suc d) as' t =
-      each_agrees (alternative_names (block_names d)) (on_alternative f r pr (on_block f r pr d)) (on_alternative g r pr (on_block g r pr d))
+      each_agrees (alternative_names (block_names d)) (on_alternative f r pr (on_block f r pr d))
+      (on_alternative g r pr (on_block g r pr d))
       (alternative_agrees (block_names d) (on_block f r pr d) (on_block g r pr d) (block_agrees d)) as' t
 
   -- The whole sheet.

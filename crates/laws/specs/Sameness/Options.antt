@@ -22,7 +22,8 @@ module _ (f r pr : ℕ → ℕ) (one : (a b : ℕ) → f a ≡ f b → a ≡ b) 
   abbrev adding : List OptionDecl → OptionDecl → Option OptionDecl → Option (List OptionDecl)
   adding os o x = elim x [ none ↦ some (os ++ (o ∷ [])) | some p ↦ elim (eqb p.value o.value) [ true ↦ some os | false ↦ none ] ]
 
-  add_on : (os : List OptionDecl) (o : OptionDecl) → add_option (on_options os) (on_option f r pr o) ≡ Option.map on_options (add_option os o)
+  add_on : (os : List OptionDecl) (o : OptionDecl)
+      → add_option (on_options os) (on_option f r pr o) ≡ Option.map on_options (add_option os o)
   unfolding add_option
   add_on os o =
       ap (adding (on_options os) (on_option f r pr o))

@@ -42,7 +42,8 @@ abbrev on_reading : (f r pr : ℕ → ℕ) → Reading → Reading
 on_reading f r pr (refused n) = refused n
 on_reading f r pr (sheet s) = sheet (on_sheet f r pr s)
 
-reading_on : (f r pr : ℕ → ℕ) → ((a b : ℕ) → f a ≡ f b → a ≡ b) → (t : Sheet) → reading_of (on_sheet f r pr t) ≡ on_reading f r pr (reading_of t)
+reading_on : (f r pr : ℕ → ℕ) → ((a b : ℕ) → f a ≡ f b → a ≡ b) → (t : Sheet)
+    → reading_of (on_sheet f r pr t) ≡ on_reading f r pr (reading_of t)
 unfolding reading_of on_sheet
 reading_on f r pr one t =
     ap₂ {C = Reading} (λ x y. elim x as (λ z. Reading) [
@@ -147,7 +148,8 @@ module _ (limits : Limits) (c : Corners) (bs : List ℕ) (b : AreBytes bs) (g : 
 
   -- Two renamings that agree on the sheet's names change an outcome alike: the result has no other names.
   outcome_agrees : (f g r pr : ℕ → ℕ) → ((n : ℕ) → member n (names_in t) ≡ true → f n ≡ g n)
-      → on_outcome f r pr (handed (answer_reading limits c (reading_of t))) ≡ on_outcome g r pr (handed (answer_reading limits c (reading_of t)))
+      → on_outcome f r pr (handed (answer_reading limits c (reading_of t)))
+      ≡ on_outcome g r pr (handed (answer_reading limits c (reading_of t)))
   unfolding answer_reading answer_run
   outcome_agrees f g r pr agree =
       by_reading (λ x. on_outcome f r pr (handed (answer_reading limits c x)) ≡ on_outcome g r pr (handed (answer_reading limits c x)))
@@ -166,7 +168,8 @@ module _ (limits : Limits) (c : Corners) (bs : List ℕ) (b : AreBytes bs) (g : 
 
   -- With names told apart, the changed sheet has the outcome of the sheet, its result changed.
   outcome_on : (f r pr : ℕ → ℕ) (one : (a b : ℕ) → f a ≡ f b → a ≡ b)
-      → handed (answer_reading limits c (reading_of (on_sheet f r pr t))) ≡ on_outcome f r pr (handed (answer_reading limits c (reading_of t)))
+      → handed (answer_reading limits c (reading_of (on_sheet f r pr t)))
+      ≡ on_outcome f r pr (handed (answer_reading limits c (reading_of t)))
   unfolding answer_reading answer_run answer_on
   outcome_on f r pr one =
       ap (λ x. handed (answer_reading limits c x)) (reading_on f r pr one t)
@@ -211,7 +214,8 @@ module _ (limits : Limits) (c : Corners) (result trail work : List ℕ) where
       (λ n m. wider_there f (names_in t) n m)
       ∙ ap (on_outcome f same same) (sym (lent_outcome l bs t h)))
       (λ l.
-      short_outcome l (bytes (encode t')) t' h' ∙ sym (short_stays f same same) ∙ ap (on_outcome f same same) (sym (short_outcome l bs t h)))
+      short_outcome l (bytes (encode t')) t' h' ∙ sym (short_stays f same same)
+      ∙ ap (on_outcome f same same) (sym (short_outcome l bs t h)))
 
   -- With other carried numbers and precedences the outcome is the sheet's, but for those numbers of its result.
   others : (r pr : ℕ → ℕ) → are_lent result trail work ≡ true → (bs : List ℕ) → AreBytes bs → (t : Sheet) → TreeIn bs t

@@ -107,7 +107,8 @@ module _ (f r pr : ℕ → ℕ) (one : (a b : ℕ) → f a ≡ f b → a ≡ b) 
         satellites_on =
             let test : RuleOf (Block (suc d)) → Bool = λ s. member s.id cycle && not (eqb s.id hub) in
             ap (all (satellite_is_inlinable d)) (keep_same on_whole test test (λ s. refl) rs)
-            ∙ all_same on_whole (satellite_is_inlinable d) (satellite_is_inlinable d) (inlinable_on f r pr one d) (satellites d rs cycle hub)
+            ∙ all_same on_whole (satellite_is_inlinable d) (satellite_is_inlinable d) (inlinable_on f r pr one d)
+            (satellites d rs cycle hub)
 
         rule_plan_on : (q : RuleOf (Block (suc d)))
             → with_rule limits c g' d rs' preserved cycle hub (on_whole q)

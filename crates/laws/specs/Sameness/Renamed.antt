@@ -96,7 +96,8 @@ module _ (bs : List ℕ) (b : AreBytes bs) (t : Sheet) (h : TreeIn bs t) where
         let wb = wordy_left body tail w in
         wordy_both (encode_rules t'.rules ++ t.preserved) _
         (wordy_both (encode_rules t'.rules) t.preserved
-        (rules_words f r pr word third t.rules (all_members (Good f r pr) (names_in t) good) (wordy_left (encode_rules t.rules) t.preserved wb))
+        (rules_words f r pr word third t.rules (all_members (Good f r pr) (names_in t) good)
+        (wordy_left (encode_rules t.rules) t.preserved wb))
         (wordy_right (encode_rules t.rules) t.preserved wb))
         (subst (λ n. Wordy (t.kind ∷ n ∷ length t.preserved ∷ encode_counters t.counters))
         (sym (body_length f r pr t.rules t.preserved)) (wordy_right body tail w))

@@ -92,7 +92,8 @@ module _ (f r pr : ℕ → ℕ) where
   references_told (o ∷ os) = more_kept refl (more_name (references_told os))
 
   label_told : (l : Label) {ss : List Sort} {ws vs ns : List ℕ} → Told ss ws vs ns
-      → Told (kept ∷ label_sort l ∷ ss) (label_id l ∷ label_name l ∷ ws) (label_id (on_label f r pr l) ∷ label_name (on_label f r pr l) ∷ vs)
+      → Told (kept ∷ label_sort l ∷ ss) (label_id l ∷ label_name l ∷ ws)
+      (label_id (on_label f r pr l) ∷ label_name (on_label f r pr l) ∷ vs)
       (label_names l ++ ns)
   label_told unlabelled t = more_kept refl (more_kept refl t)
   label_told (labelled i n) t = more_kept refl (more_name t)

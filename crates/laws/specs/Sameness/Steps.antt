@@ -103,7 +103,8 @@ module _ (f r pr : ℕ → ℕ) (one : (a b : ℕ) → f a ≡ f b → a ≡ b) 
       decide_each (splice_alternative d (on_planned p) i) (map (on_alternative f r pr (on_block f r pr d)) q.body))
       (remaining_on f r pr one d p.elements i q.name)
       ∙ require_on (map on_planned) dangling_reference (not (remaining_actions_reference d p.elements i q.name)) _ _
-      (decide_each_on (on_alternative f r pr (on_block f r pr d)) on_planned (splice_alternative d p i) (splice_alternative d (on_planned p) i)
+      (decide_each_on (on_alternative f r pr (on_block f r pr d)) on_planned (splice_alternative d p i)
+      (splice_alternative d (on_planned p) i)
       (splice_on p i) q.body)
 
   -- An optional element, there and not there.
@@ -179,7 +180,8 @@ module _ (f r pr : ℕ → ℕ) (one : (a b : ℕ) → f a ≡ f b → a ≡ b) 
   by_on p ps (some overfull) y = refl
 
   pub step_on : (rs : List (RuleOf (Block (suc d)))) (g : Grammar) (cycle : List ℕ) (hub : ℕ) (ps : List (Planned d))
-      → step d (on_rules f r pr one (suc d) rs) (on_grammar f r pr one g) cycle hub (map on_planned ps) ≡ on_reply (step d rs g cycle hub ps)
+      → step d (on_rules f r pr one (suc d) rs) (on_grammar f r pr one g) cycle hub (map on_planned ps)
+      ≡ on_reply (step d rs g cycle hub ps)
   unfolding step
   step_on rs g cycle hub [] = refl
   step_on rs g cycle hub (p ∷ ps) =

@@ -78,7 +78,8 @@ module _ (f r pr : ℕ → ℕ) (one : (a b : ℕ) → f a ≡ f b → a ≡ b) 
 
     -- All the turns.
     pub substitute_on : (left made : ℕ) (ps : List (Planned d))
-        → substitute d (on_rules f r pr one (suc d) rs) (on_grammar f r pr one g) cycle hub limits left made (map (on_planned f r pr one d) ps)
+        → substitute d (on_rules f r pr one (suc d) rs) (on_grammar f r pr one g) cycle hub limits left made
+        (map (on_planned f r pr one d) ps)
         ≡ on_decided on_substituted (substitute d rs g cycle hub limits left made ps)
     unfolding substitute
     substitute_on zero made ps =

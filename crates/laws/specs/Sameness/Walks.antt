@@ -41,7 +41,8 @@ module _ (f r pr : ℕ → ℕ) where
     abbrev gives : (d : ℕ) → Element (Block d) → List ℕ
     gives d = element_gives of_label of_leaf (block_gives of_label of_leaf d)
 
-    block_gives_lem : (d : ℕ) (b : Block d) → block_gives of_label of_leaf d (on_block f r pr d b) ≡ map f (block_gives of_label of_leaf d b)
+    block_gives_lem : (d : ℕ) (b : Block d)
+        → block_gives of_label of_leaf d (on_block f r pr d b) ≡ map f (block_gives of_label of_leaf d b)
     unfolding block_gives on_block
     block_gives_lem zero b = absurd b
     block_gives_lem (suc d) as' =
