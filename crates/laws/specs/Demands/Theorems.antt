@@ -83,7 +83,7 @@ pub record Theorems : Type 0 where
   -- small grammars, how many derivations some have, and that precedences are not looked at.
   pub derives_told : (s : Sheet) → valid s ≡ true → DerivesTold inner_depth s.rules
   pub strings_told : StringsTold
-  pub precedences_unseen : (f : ℕ → ℕ) (rs : List Rule) → PrecedencesUnseen f rs
+  pub precedences_unseen : (f : ℕ → ℕ) (s : Sheet) → PrecedencesUnseen f s
   pub readings_counted : ReadingsCounted
   -- With a lower last name, 65,535 say, those sheets would be valid that are valid and have no name above it.
   pub names_fitted : NamesFitted
