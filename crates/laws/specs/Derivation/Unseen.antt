@@ -42,7 +42,8 @@ module _ (f : ℕ → ℕ) where
       → bodies_by body_depth key (on_sheet same same f s).rules ≡ bodies_by body_depth key s.rules
   unfolding on_sheet
   same_bodies key is_same s =
-      map_unseen (on_rule same same f (on_block same same f body_depth)) (λ r. record { name = key r; body = erase_block body_depth r.body })
+      map_unseen (on_rule same same f (on_block same same f body_depth))
+      (λ r. record { name = key r; body = erase_block body_depth r.body })
       (λ r. ap₂ (λ n b. record { name = n; body = b }) (is_same r) (same_block body_depth r.body)) s.rules
 
   -- Rules with the same bodies derive the same.
