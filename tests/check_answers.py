@@ -17,7 +17,8 @@ not zero at entry, and are as long as they must be, longer, or a byte short. A c
 the length of its buffers; so not every answer has one, but every refusal, sheets joined and left, each
 line that a length draws, and either reading of left corners (14). Runs are compared too (18,
 answers/laws.py): the definition has nothing to do on a result of the original, and the starred grammars
-have the same answer with other names and with other carried numbers. With --outcome calls alone are
+have the same answer with other names and with other carried numbers. Sheets of the form of before are
+converted (answers/conversions.py), with the buffers looked at in the same way. With --outcome calls alone are
 computed, two for each answer: with buffers longer than they must be, and with one of them a byte short;
 of a sheet of over calls.MOST bytes the second alone.
 

@@ -15,4 +15,5 @@ pub mod Table
 pub mod Conversion
 pub mod Kept
 pub mod All
+pub mod Others
 pub mod Met

@@ -1,10 +1,10 @@
 -- What is promised of the forms of a sheet and of the conversion of an old one: words and tree are one another's in every form, each
 -- call of `convert` is in one row of a table, and the tree stays. And of calls: a run copies them, with their precedences.
 use Rattle.std.specs.Prelude.{ℕ, zero, suc, ◌≤◌, ◌<◌, ◌-◌, ◌+◌, ◌*◌, ◌≡◌, true, length, take, drop, replicate}
-use mathlib.Core.List.{List, [], ◌∷◌, ◌++◌, map, flat_map, Memᴰ}
+use mathlib.Core.List.{List, [], ◌∷◌, ◌++◌, flat_map, Memᴰ}
 use Rattle.grammar.specs.Form.{Form, first_form}
 use Rattle.grammar.specs.Tree.{Call, Leaf, epsilon, action, predicate, call, token, terminal, end_of_input, Element, leaf, block}
-use Rattle.grammar.specs.Tree.{AlternativeOf, Block, Rule, Sheet, body_depth, with_rule_body}
+use Rattle.grammar.specs.Tree.{AlternativeOf, Block, Rule, Sheet, body_depth}
 use Rattle.grammar.specs.Words.{words, bytes}
 use Rattle.grammar.specs.Encode.{encode, encode_in}
 use Rattle.grammar.specs.Valid.{valid_in, fits_in}
@@ -14,10 +14,11 @@ use Rattle.grammar.specs.Convert.{Converted, conversion}
 use Rattle.grammar.specs.Corners.{Corners}
 use Rattle.grammar.specs.Laws.Words.{AreBytes}
 use Rattle.language.specs.Shape.{erase_rules}
-use Rattle.language.specs.Laws.Copies.{Change, change_block}
 use Rattle.reference.specs.Substitute.{Limits}
 use Rattle.reference.specs.Run.{Stage, ended, eliminate_mutual_left_recursion, sheet_after}
 use Rattle.laws.specs.Examples.{sum_of_before, sum_of_today, ends_early, ends_late}
+use Rattle.laws.specs.Demands.Marks.{on_sheet}
+use Rattle.laws.specs.Demands.Sameness.{same}
 use Rattle.laws.specs.Demands.Shape.{SameStrings}
 use Rattle.laws.specs.Demands.Table.{GoodLength, FailsIn, PassesIn, zeros, Holds}
 
@@ -118,26 +119,10 @@ ConvertLength bs result work =
 pub record CallsCopied (s : Sheet) (stages : List Stage) : Type 0 where
   pub copied : (c : Call) → Memᴰ c (calls_in (sheet_after s stages).rules) → Memᴰ c (calls_in s.rules)
 
--- A tree with other precedences: each is changed by one function.
-unfoldable pub leaf_with : (ℕ → ℕ) → Leaf → Leaf
-leaf_with f epsilon = epsilon
-leaf_with f (action a) = action a
-leaf_with f (predicate p) = predicate p
-leaf_with f (call c) = call (record { name = c.name; arguments = c.arguments; precedence = f c.precedence })
-leaf_with f (token n) = token n
-leaf_with f terminal = terminal
-leaf_with f end_of_input = end_of_input
-
-abbrev pub precedences_by : (ℕ → ℕ) → Change
-precedences_by f = record { on_alternative = λ i. i; on_head = λ h. h; on_leaf = leaf_with f }
-
-abbrev pub rules_with : (ℕ → ℕ) → List Rule → List Rule
-rules_with f = map λ r. with_rule_body (change_block (precedences_by f) body_depth r.body) r
-
--- Derivation does not look at them.
-pub record PrecedencesUnseen (f : ℕ → ℕ) (rs : List Rule) : Type 0 where
-  pub same_shapes : erase_rules body_depth (rules_with f rs) ≡ erase_rules body_depth rs
-  pub same_strings : SameStrings rs (rules_with f rs)
+-- Derivation does not look at precedences.
+pub record PrecedencesUnseen (f : ℕ → ℕ) (s : Sheet) : Type 0 where
+  pub same_shapes : erase_rules body_depth (on_sheet same same f s).rules ≡ erase_rules body_depth s.rules
+  pub same_strings : SameStrings s.rules (on_sheet same same f s).rules
 
 -- SPECIFICATION 15.20. The sheet of 15.1 has 276 bytes in the first form and 288 in the newest.
 pub record SumConverted : Type 0 where

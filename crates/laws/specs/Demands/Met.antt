@@ -56,9 +56,11 @@ pub record Met : Type 0 where
   -- A rule in a cycle.
   pub a_member : (s : Sheet) × (valid s ≡ true) × (hub : Rule) × Memᴰ hub s.rules × (cycle : List ℕ)
       × (member hub.id cycle ≡ true)
-  -- A renaming that changes every name; two sheets that differ in carried numbers; a call that is refused behind 2.
+  -- A renaming that changes every name; two sheets that differ in carried numbers, and two in precedences; a call that is refused behind 2.
   pub a_renaming : (bs : List ℕ) × AreBytes bs × (t : Sheet) × TreeIn bs t × (f : ℕ → ℕ) × Renames f t
   pub other_carried : (bs : List ℕ) × AreBytes bs × (t : Sheet) × TreeIn bs t × (bs' : List ℕ) × AreBytes bs' × (t' : Sheet) × TreeIn bs' t'
-      × (on_sheet same none t ≡ on_sheet same none t')
+      × (on_sheet same none same t ≡ on_sheet same none same t')
+  pub other_precedences : (bs : List ℕ) × AreBytes bs × (t : Sheet) × TreeIn bs t × (bs' : List ℕ) × AreBytes bs' × (t' : Sheet)
+      × TreeIn bs' t' × (on_sheet same same none t ≡ on_sheet same same none t')
   pub a_refused_call : (limits : Limits) × (c : Corners) × (bs : List ℕ) × (result : List ℕ) × (trail : List ℕ) × (work : List ℕ)
       × AreBytes bs × (3 ≤ (outcome limits c bs result trail work).number)

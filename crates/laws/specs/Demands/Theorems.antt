@@ -54,7 +54,7 @@ use Rattle.laws.specs.Demands.Table.{Row}
 use Rattle.laws.specs.Demands.Conversion.{CodecIn, ConvertRow, ConvertReads, ConvertApart, ConvertLength, SumConverted, LengthTells}
 use Rattle.laws.specs.Demands.Conversion.{PrecedencesUnseen, CallsCopied}
 use Rattle.laws.specs.Demands.Kept.{OwnResult, EveryCall}
-use Rattle.laws.specs.Demands.Sameness.{TreeIn, same, none, Renames, Renamed, AlikeButCarried}
+use Rattle.laws.specs.Demands.Sameness.{TreeIn, same, none, Renames, Renamed, AlikeButCarried, AlikeButPrecedences}
 use Rattle.laws.specs.Demands.Marks.{on_sheet}
 use Rattle.laws.specs.Demands.WordSorts.{MarksTold}
 
@@ -83,7 +83,7 @@ pub record Theorems : Type 0 where
   -- small grammars, how many derivations some have, and that precedences are not looked at.
   pub derives_told : (s : Sheet) → valid s ≡ true → DerivesTold inner_depth s.rules
   pub strings_told : StringsTold
-  pub precedences_unseen : (f : ℕ → ℕ) (rs : List Rule) → PrecedencesUnseen f rs
+  pub precedences_unseen : (f : ℕ → ℕ) (s : Sheet) → PrecedencesUnseen f s
   pub readings_counted : ReadingsCounted
   -- With a lower last name, 65,535 say, those sheets would be valid that are valid and have no name above it.
   pub names_fitted : NamesFitted
@@ -217,8 +217,11 @@ pub record Theorems : Type 0 where
   pub renamed : (limits : Limits) (c : Corners) (result trail work bs : List ℕ) → AreBytes bs → (t : Sheet) → TreeIn bs t
       → (f : ℕ → ℕ) → Renames f t → Renamed limits c result trail work bs t f
   pub carried_apart : (limits : Limits) (c : Corners) (result trail work bs : List ℕ) → AreBytes bs → (t : Sheet) → TreeIn bs t
-      → (bs' : List ℕ) → AreBytes bs' → (t' : Sheet) → TreeIn bs' t' → on_sheet same none t ≡ on_sheet same none t'
+      → (bs' : List ℕ) → AreBytes bs' → (t' : Sheet) → TreeIn bs' t' → on_sheet same none same t ≡ on_sheet same none same t'
       → AlikeButCarried limits c result trail work bs bs'
-  -- What other names and carried numbers are: of every sheet by the sorts of its words, and of one sheet by its words.
+  pub precedences_apart : (limits : Limits) (c : Corners) (result trail work bs : List ℕ) → AreBytes bs → (t : Sheet) → TreeIn bs t
+      → (bs' : List ℕ) → AreBytes bs' → (t' : Sheet) → TreeIn bs' t' → on_sheet same same none t ≡ on_sheet same same none t'
+      → AlikeButPrecedences limits c result trail work bs bs'
+  -- What other names, carried numbers and precedences are: of every sheet by the sorts of its words, and of one sheet by its words.
   pub marks_told : (s : Sheet) → MarksTold s
   pub marks_shown : MarksShown

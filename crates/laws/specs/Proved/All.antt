@@ -4,6 +4,7 @@ use Rattle.std.proofs.Math.Bool.{and-true}
 use Rattle.std.proofs.Common.{arith, le-leb}
 use Rattle.grammar.specs.Numbers.{most_name}
 use Rattle.laws.specs.Demands.Numbers.{NumbersBought}
+use Rattle.laws.specs.Demands.Sameness.{same, none}
 use Rattle.laws.specs.Demands.Theorems.{Theorems}
 use Rattle.laws.specs.Validity.Names.{names_fitted_lem}
 use Rattle.laws.specs.Running.Readings.{plan_readings_lem}
@@ -57,7 +58,7 @@ use Rattle.laws.specs.Proved.Conversion.{codec_in_lem, convert_row_lem, convert_
 use Rattle.laws.specs.Proved.Conversion.{sum_converted_lem, length_tells_lem}
 use Rattle.laws.specs.Running.Copied.{calls_copied_lem}
 use Rattle.laws.specs.Proved.Kept.{own_result_lem, every_call_lem}
-use Rattle.laws.specs.Sameness.Outcomes.{renamed, carried_alike}
+use Rattle.laws.specs.Sameness.Outcomes.{renamed, others_alike}
 use Rattle.laws.specs.Sameness.Sorts.{marks_told_lem, marks_shown_lem}
 
 numbers_bought_lem : NumbersBought
@@ -214,7 +215,8 @@ theorems =
       every_call = every_call_lem;
       own_result = own_result_lem;
       renamed = renamed;
-      carried_apart = carried_alike;
+      carried_apart = λ limits c result trail work. others_alike limits c result trail work none same;
+      precedences_apart = λ limits c result trail work. others_alike limits c result trail work same none;
       marks_told = marks_told_lem;
       marks_shown = marks_shown_lem;
     }
