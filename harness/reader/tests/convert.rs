@@ -73,18 +73,6 @@ fn case_1_has_a_third_word() {
     assert_eq!(refusal(&new), 4);
 }
 
-/// Cases 1 and 2 as they were before calls had a third word; case 2 preserves the second rule.
-#[test]
-fn the_old_examples_become_those_of_today() {
-    let case_1 = include_bytes!("../../../examples/case-1.sheet");
-    let old = include_bytes!("../../../examples/old/case-1.sheet");
-    assert_eq!(converted(old), case_1);
-    let case_2 = converted(include_bytes!("../../../examples/old/case-2.sheet"));
-    let (rules, trailer) = case_1.split_at(case_1.len() - 32);
-    let words = [2, 2, 65, 1].map(u32::to_le_bytes).concat();
-    assert_eq!(case_2, [rules, &words, &trailer[12..]].concat());
-}
-
 #[test]
 fn all_else_is_copied() {
     let call = |third: &[u32]| element(2, 3 + 256 * 4, &[&[9, 8], third].concat());
