@@ -57,8 +57,9 @@ abbrev labelled_head : ElementHead
 labelled_head =
     record { id = 3; carried = 24; quantifier = optional_greedy; label = labelled 4 15; options = record { name = 16; value = 32 } ∷ [] }
 
--- e: ~21 # <o=31> {$i}~22 &{$j::k}~23 x=a[33]?<p=32>~24 INT~25 .~26 EOF~30 (~28 <q=34> NAME~29)~27; n: -; where n is 10, e 11, and
--- o, i, j, x, p, a, INT, q, NAME are 12 to 20: a name at each place where one can stand. No other word is from 10 to 30.
+-- e: ~21 # <o=31> {$i}~22 &{$j::k}~23 x=a[33]?^3<p=32>~24 INT~25 .~26 EOF~30 (~28 <q=34> NAME~29)~27; n: -; where n is 10, e 11,
+-- and o, i, j, x, p, a, INT, q, NAME are 12 to 20: a name at each place where one can stand, and a precedence. No other word is from
+-- 10 to 30.
 abbrev pub every_sort : Sheet
 every_sort =
     unit (record { alternative = 7; element = 9; label = 5; action = 2; predicate = 2 }) (2 ∷ [])
