@@ -171,6 +171,9 @@ class Parts(unittest.TestCase):
         self.assertEqual(declared.figures("Refusal 4: 1 to 4,294,967,295 (2.15), 8 deep."), {1, 4294967295, 8})
 
     def test_signatures(self):
+        in_one_line = ENTRY.replace("(\n    ", "(").replace(",\n    ", ", ").replace(",\n)", ")")
+        self.assertIn("fn pass(sheet: &[u8], work: &mut [u8], numbers: &mut [u32; 5])\n", in_one_line)
+        self.assertEqual(declared.entries([in_one_line]), declared.entries([ENTRY]))
         sources = types.SimpleNamespace(crates=[ENTRY])
         for prototype, faults in (
             (PROTOTYPE, []),
