@@ -23,11 +23,14 @@ pub struct Marks {
     pub stops: [u64; Row::WORDS],
 }
 
-// A row of calls and one of left corners for each rule.
+// A row of calls and one of left corners for each rule. How many there are follows from the arrays' type where they are read or written;
+// the ghost fields say it where these are only lent on.
 #[derive(Clone, Copy, Debug, PartialEq, Eq)]
 pub struct Rows {
     pub calls: [[u64; Row::WORDS]; Row::RULES],
     pub corners: [[u64; Row::WORDS]; Row::RULES],
+    ghost calls_long: { length calls ≡ rule_limit },
+    ghost corners_long: { length corners ≡ rule_limit },
 }
 
 impl Rows {
