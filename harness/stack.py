@@ -24,6 +24,7 @@ DEPTH = 10
 LEVELS = {
     "analysis": DEPTH,
     "collisions": DEPTH,
+    "convert": DEPTH,
     "copies": DEPTH,
     "core": 2 * 13 + 1,
     "ends": DEPTH,

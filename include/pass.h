@@ -1,6 +1,7 @@
 /* The pass for callers in C and C++: it joins the left-recursive cycles of a grammar. The grammar comes and goes as a sheet,
  * which is bytes (docs/SPECIFICATION.md, section 2). Link libpass.a of dist/; examples/c shows a call. Beside it are sheet.h,
- * facts.h and plans.h, each with an archive of its name, for what is known of a sheet and decided for its cycles.
+ * facts.h and plans.h, each with an archive of its name, for what is known of a sheet and decided for its cycles; and convert.h,
+ * for sheets that were written before calls had a precedence, which are no sheets for any of the others.
  *
  * An archive defines the functions that its header declares and no other, uses none but memcpy, memmove, memset and memcmp, and
  * has no variables: nothing stays from one call to the next, and calls with buffers of their own may run side by side. */
@@ -73,7 +74,7 @@ static inline const char *pass_refusal_text(uint32_t refusal) {
     case PASS_COUNTER_PAST_END:
         return "applying a plan would take a counter above 4,294,967,295";
     case PASS_RESULT_TOO_LARGE:
-        return "applying a plan would give a sheet over 32,768 bytes or a trail over 4,096 entries";
+        return "what would be handed back is too large: a sheet over 32,768 bytes or a trail over 4,096 entries";
     default:
         return NULL;
     }

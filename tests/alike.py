@@ -1,5 +1,5 @@
 #!/usr/bin/env python3
-"""Holds two folders of archives to each other by what they answer: every function of all four, on every stored sheet, to the last
+"""Holds two folders of archives to each other by what they answer: every function of all, on every stored sheet, to the last
 byte that is handed over. For archives that two kits have made of the same sources.
 
 Compiled with gcc. The last line is 'N passed, 0 failed' where they answer alike on N sheets.

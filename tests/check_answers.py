@@ -17,7 +17,8 @@ not zero at entry, and are as long as they must be, longer, or a byte short. A c
 the length of its buffers; so not every answer has one, but every refusal, sheets joined and left, each
 line that a length draws, and either reading of left corners (14). Runs are compared too (18,
 answers/laws.py): the definition has nothing to do on a result of the original, and the starred grammars
-have the same answer with other names and with other carried numbers. With --outcome calls alone are
+have the same answer with other names and with other carried numbers. Sheets of the form of before are
+converted (answers/conversions.py), with the buffers looked at in the same way. With --outcome calls alone are
 computed, two for each answer: with buffers longer than they must be, and with one of them a byte short;
 of a sheet of over calls.MOST bytes the second alone.
 
@@ -34,6 +35,7 @@ from queue import Empty, SimpleQueue
 from threading import Thread
 
 from answers.calls import Call, calls, calls_of_each
+from answers.conversions import Conversion, conversions
 from answers.definitions import copy_definitions
 from answers.laws import compared
 from answers.readings import readings
@@ -54,13 +56,13 @@ def all_asked(paths, pattern='', outcome=False):
     if outcome:
         asked = list(calls_of_each(asked))
     elif any(Path(path).is_dir() for path in paths):
-        asked += [*calls(asked), *compared(asked), *readings(READING)]
+        asked += [*calls(asked), *compared(asked), *readings(READING), *conversions()]
     return [one for one in asked if re.search(pattern, one.name)]
 
 
 def effort(one):
     """About what the checker takes for it, in bytes of a sheet; a call has long buffers."""
-    return 4000 if isinstance(one, Call) else max(len(one.sheet), 300)
+    return 4000 if isinstance(one, (Call, Conversion)) else max(len(one.sheet), 300)
 
 
 def batches(asked):

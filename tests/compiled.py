@@ -10,11 +10,12 @@ import shutil
 import struct
 import subprocess
 
+import join_convert
 from answers import stored
 
 ROOT = pathlib.Path(__file__).resolve().parent.parent
 ARCHIVES = pathlib.Path(os.environ.get("ARCHIVES", ROOT / "target" / "staticlib"))
-NAMES = ("pass", "sheet", "facts", "plans")
+NAMES = ("pass", "sheet", "facts", "plans", "convert")
 WARNINGS = ["-Wall", "-Wextra", "-Werror", "-pedantic"]
 LONGEST_RUN = 600  # far above what it takes, since other work may run beside it
 # What pass.h says that an archive may use.
@@ -113,7 +114,7 @@ def in_line(records):
 
 
 def agree(lines, record):
-    """Whether what the four archives say of a sheet, in the original's reading, goes together with its stored answer."""
+    """Whether what the archives say of a sheet, in the original's reading, goes together with its stored answer."""
     numbers = {words[0]: [int(word) for word in words[1:-1]] for words in map(str.split, lines) if words[0] == "read_sheet" or words[1] == "0"}
     early = record.refused if record.refused in range(1, 7) else 0
     planned = numbers["first_plan"][3] == 0
@@ -132,6 +133,28 @@ def answer_checks(program, records):
     yield "their answers go together", all(agree(lines, record) for lines, record in zip(parts, records))
 
 
+def old_sheets():
+    """Old sheets, each with the number by which it is refused, or with the new sheet."""
+    old, new = join_convert.case_1(""), join_convert.case_1("0")
+    longest = join_convert.of_length(32_764)
+    return (
+        (old, 0, new),
+        (bytes(28), 1, b""),
+        (bytes(32), 3, b""),
+        (new, 4, b""),
+        (longest, 0, join_convert.grown(longest)),
+        (join_convert.of_length(32_768), 9, b""),
+    )
+
+
+def old_checks(program):
+    cases = old_sheets()
+    said = run(program, given=b"".join(struct.pack("<I", len(old)) + old for old, *_ in cases))
+    yield f"what is lent to a conversion ends as promised {said.stderr.decode()}", said.returncode == 0
+    wanted = b"".join(struct.pack("<2I", number, len(new)) + new for _, number, new in cases)
+    yield "old sheets are converted, or refused by their numbers", said.stdout == wanted
+
+
 def program_checks(room):
     records = stored.gather([ROOT / "harness" / "answers"])
     for compiler in ("gcc", "g++"):
@@ -139,12 +162,13 @@ def program_checks(room):
             print("header: no g++ here, so the headers are not tried with it")
             continue
         programs = {}
-        for name in ("pass", "cycles", "ends", "answers"):
+        for name in ("pass", "cycles", "ends", "answers", "converted"):
             programs[name], said = build(compiler, name, room)
             yield f"{compiler} compiles {name}.c{said and ': ' + said}", not said
         if not all(made.exists() for made in programs.values()):
             continue
-        for what, so in [*example_checks(programs["pass"], chosen(records), room), *answer_checks(programs["answers"], records)]:
+        checks = [*example_checks(programs["pass"], chosen(records), room), *answer_checks(programs["answers"], records)]
+        for what, so in [*checks, *old_checks(programs["converted"])]:
             yield f"{compiler}: {what}", so
         said = run(programs["ends"], given=in_line(records))
         yield f"{compiler}: buffers end as promised {said.stderr.decode()}", said.returncode == 0

@@ -85,7 +85,7 @@ def entries(sources):
     found = {}
     for source in sources:
         for name, parameters in re.findall(r'pub extern "C" fn (\w+)\((.*?)\)', source, re.S):
-            kinds = [one.strip() for one in re.findall(r"\w+: (.*?),?\n", parameters + "\n")]
+            kinds = [one.strip() for one in re.findall(r"\w+: ([^,]+)", parameters)]
             found[name] = [c for kind in kinds for c in crossed(kind)]
     return found
 

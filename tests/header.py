@@ -133,7 +133,7 @@ def further_checks(name, header, sources):
     """The headers beside pass.h: limits, and the order of an answer's numbers."""
     prefix = name.upper()
     rows = {f"{prefix}_RULES": "Row::RULES", **({} if name == "sheet" else {f"{prefix}_ROW_WORDS": "Row::WORDS"})}
-    yield from constant_checks(header, sources, rows)
+    yield from constant_checks(header, sources, {} if name == "convert" else rows)
     places = header.enums[f"{name}_place"]
     sizes = {int(size) for size in re.findall(r"uint32_t numbers\[(\d+)\]", header.text)}
     yield f"{name}.h has a name for each number", sizes == {len(places) - 1} and places[-1] == f"{prefix}_NUMBERS"
@@ -152,6 +152,11 @@ def further_checks(name, header, sources):
         )
     if name == "plans":
         yield from clause_checks(header, sources)
+    if name == "convert":
+        said = "two numbers: 0 or the refusal; and the length of the new sheet, in bytes"
+        yield "convert.h has the numbers of 19.4", said in paragraph(sources.specification, "19.4") and (
+            places == ["CONVERT_REFUSAL", "CONVERT_RESULT_LENGTH", "CONVERT_NUMBERS"]
+        )
 
 
 def clause_checks(header, sources):

@@ -16,6 +16,7 @@ import subprocess
 import sys
 import tempfile
 
+import join_convert
 import join_faults
 import join_files
 import join_levels
@@ -174,7 +175,7 @@ def full_disk(program, folder, made):
 def helps(program, folder, made):
     """--help names every option and every status."""
     text = Run(program, ["--help"]).text()
-    for word in "--textbook --listing --strict --check --sheet --trail --names --help --version -h 0 1 2 3 4 5".split():
+    for word in "--textbook --listing --strict --check --sheet --trail --names --convert --help --version -h 0 1 2 3 4 5".split():
         require(word in text.replace(",", "").replace(";", "").split(), f"not {word}")
 
 
@@ -207,6 +208,7 @@ CHECKS = (
     *join_files.CHECKS,
     *join_levels.CHECKS,
     *join_faults.CHECKS,
+    *join_convert.CHECKS,
 )
 
 

@@ -14,6 +14,7 @@ A sheet's name begins with what it is about:
   inlining                                        7.5
   plan                                            7 to 10
   pass                                            3, 4.7 to 4.9, 5, 11, 12
+  convert                                         the conversion of old sheets
   case                                            15, by its number there
 
 usage: reading.py PROGRAM   (`first`, over the proved reader, or `second`, of harness/reader)

@@ -1,5 +1,5 @@
 #!/usr/bin/env python3
-"""Shows check_answers.py telling how far it is, which words of a sheet are names and carried numbers, and what is asked of the sheets of
+"""Shows check_answers.py telling how far it is, which words of a sheet are names, carried numbers and precedences, and what is asked of the sheets of
 tests/reading."""
 
 import io
@@ -14,17 +14,19 @@ from answers.claims import READ, claim
 from answers.readings import readings
 
 # %preserve 7; a rule with an option, a label, an action, a call, a kind 5 and a block in it, whose words are numbered by what they are:
-# names from 500, carried numbers from 900, all else below.
+# precedences from 450, names from 500, carried numbers from 900, all else below.
 SHEET = [1, 500, 0, 1,                                # a rule
          2, 900, 0, 1, 5, 501, 3,                     # its alternative, with an option
          4, 901, 4, 5, 502, 1, 503, 6, 504,           # a token with label and option
          7, 902, 1, 0, 0, 0, 8, 2, 0, 505, 2, 506,    # an action with two references, without a label
-         9, 903, 3, 0, 0, 0, 507, 10,                 # a call
+         9, 903, 3, 0, 0, 0, 507, 10, 450,            # a call
          11, 904, 5, 0, 0, 0,                         # a kind 5
          12, 905, 6, 0, 0, 0, 1,                      # a block
          13, 906, 0, 0, 1, 14, 907, 2, 0, 0, 0, 15, 1, 1, 508,   # its alternative, with a predicate
          7,                                           # preserved
-         2, 70, 1, 20, 20, 20, 20, 20]                # the trailer
+         2, 71, 1, 20, 20, 20, 20, 20]                # the trailer
+
+LEAST = [(900, laws.CARRIED), (500, laws.NAME), (450, laws.PRECEDENCE)]
 
 
 class Sorts(unittest.TestCase):
@@ -34,7 +36,7 @@ class Sorts(unittest.TestCase):
         for word, sort in zip(SHEET, sorts):
             if word == 0 and sort == laws.LABEL:
                 continue
-            found = laws.NAME if 500 <= word < 900 else laws.CARRIED if word >= 900 else laws.KEPT
+            found = next((own for least, own in LEAST if word >= least), laws.KEPT)
             self.assertEqual(laws.NAME if sort == laws.LABEL else sort, found, word)
 
     def test_no_label_is_not_renamed(self):
@@ -46,6 +48,10 @@ class Sorts(unittest.TestCase):
         self.assertEqual([word for word in names if word >= 900], [word for word in SHEET if word >= 900])
         self.assertEqual([word for word in carried if word >= 900], [])
         self.assertEqual([word for word in carried if 500 <= word < 900], [word for word in SHEET if 500 <= word < 900])
+
+    def test_precedences_alone(self):
+        made = laws.changed(SHEET, precedence=lambda word: 0)
+        self.assertEqual([(old, new) for old, new in zip(SHEET, made) if old != new], [(450, 0)])
 
     def test_a_renaming_exchanges_the_order(self):
         self.assertTrue(laws.renamed(1) > laws.renamed(2) > 0)
@@ -62,12 +68,19 @@ class Compared(unittest.TestCase):
         again = laws.Answered('again: x', [1, 2], 0, 0, [1, 2], [])
         self.assertIn('≡ answer 0 0 (1 ∷ 2 ∷ []) ([])', flat(claim(0, again)))
 
-    def test_carried_numbers_are_left_out_of_both_sides(self):
-        one = laws.AlikeButCarried('carried: x', SHEET, 1, 2, list(SHEET), [])
+    def left_out(self, sort, own):
+        """The words of a sort are not in the equation, and their places are."""
+        one = laws.AlikeBut(sort, f'{sort}: x', SHEET, 1, 2, list(SHEET), [])
         text = flat(claim(0, one))
-        places = [str(at) for at, word in enumerate(SHEET) if word >= 900]
+        places = [str(at) for at, word in enumerate(SHEET) if word in own]
         self.assertIn(f"blanked ({' ∷ '.join(places)} ∷ [])", text)
-        self.assertNotIn('900', text.partition('≡')[2])
+        self.assertNotIn(str(own[0]), text.partition('≡')[2])
+
+    def test_carried_numbers_are_left_out_of_both_sides(self):
+        self.left_out('carried', range(900, 908))
+
+    def test_precedences_are_left_out_of_both_sides(self):
+        self.left_out('precedence', [450])
 
 
 class Progress(unittest.TestCase):

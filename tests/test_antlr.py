@@ -26,7 +26,7 @@ import tool  # noqa: E402
 EVERY_FORM = """// A comment: with; marks
 %preserve a 9;
 e@7 !2: ~3 # <o=1,p=2> x@4=INT?? {@5 $INT $x.text} | ;   // slot e 1, untouched
-a: e[5] ( PLUS | .~7 )+? &{$e::depth} _ | ^5 none*~4 | {}? | INT+<o=1> | x=e | y=( - );
+a: e[5] ( PLUS | .~7 )+? &{$e::depth} _ | ^5 none*^3~4 | {}? | INT+<o=1> | x=e^2 | y=( - );
 b: -;
 """
 WRITTEN = """grammar G;

@@ -40,12 +40,13 @@ upper: lower middle
 upper_c staticlib: lower middle upper
 other:
 other_c staticlib: lower other
+convert_c staticlib: lower
 facts_c staticlib: lower
 pass_c staticlib: lower
 plans_c staticlib: lower
 sheet_c staticlib: lower
 """
-SHIPPED = ["facts", "pass", "plans", "sheet"]
+SHIPPED = ["convert", "facts", "pass", "plans", "sheet"]
 
 
 def without_rt():

@@ -128,6 +128,9 @@ class Others(unittest.TestCase):
             ("plans", "a blocked corner: an alt", "a blocked corner: the alt", "PLANS_BLOCKED_CORNER has the Rust crate's text"),
             ("plans", "no steps: ", "no step: ", "PLANS_NO_STEPS is clause 10"),
             ("plans", "uint32_t nth,", "uint32_t *nth,", "plan_nth takes what the crate's function takes"),
+            ("convert", "numbers[2]", "numbers[3]", "convert.h has a name for each number"),
+            ("convert", "CONVERT_RESULT_LENGTH, /*", "CONVERT_PLANS, /*", "convert.h has the numbers of 19.4"),
+            ("convert", "size_t work_length, uint32_t", "uint32_t work_length, uint32_t", "convert takes what the crate's function takes"),
         ):
             with self.subTest(old=old):
                 self.assertEqual(self.edited(name, old, old), [])
@@ -168,6 +171,9 @@ class Parts(unittest.TestCase):
         self.assertEqual(declared.figures("Refusal 4: 1 to 4,294,967,295 (2.15), 8 deep."), {1, 4294967295, 8})
 
     def test_signatures(self):
+        in_one_line = ENTRY.replace("(\n    ", "(").replace(",\n    ", ", ").replace(",\n)", ")")
+        self.assertIn("fn pass(sheet: &[u8], work: &mut [u8], numbers: &mut [u32; 5])\n", in_one_line)
+        self.assertEqual(declared.entries([in_one_line]), declared.entries([ENTRY]))
         sources = types.SimpleNamespace(crates=[ENTRY])
         for prototype, faults in (
             (PROTOTYPE, []),

@@ -10,6 +10,7 @@ import unittest
 from unittest import mock
 
 import join
+import join_convert
 import join_names
 from grouping import alternatives, grouped
 
@@ -141,6 +142,57 @@ class Stops(Folder):
         with words, mock.patch.object(join, "EXAMPLES", self.examples), contextlib.redirect_stdout(said):
             self.assertEqual(join.main(), 1)
         self.assertRegex(said.getvalue(), r"\n1 passed, [0-9]+ failed\n$")
+
+
+class Conversions(Folder):
+    def setUp(self):
+        super().setUp()
+        for name, sheet in (("new", join_convert.case_1("0")), ("longest", join_convert.grown(join_convert.of_length(32_764)))):
+            (self.root / name).write_bytes(sheet)
+
+    def test_sheets(self):
+        self.assertEqual([len(join_convert.case_1(third)) for third in ("", "0")], [276, 288])
+        self.assertEqual([len(join_convert.of_length(length)) for length in (32_764, 32_768)], [32_764, 32_768])
+
+    def converted(self, case_1):
+        """A program that answers case 1 so, and all else as it should."""
+        script = f'''if [ "$1" != --convert ]; then
+  printf '// joined\\n\\nr%%1:\\n r%%1 T%%4 r%%1 // level 2, binary; slot r%%1 1, origin r%%2 1\\n;\\n'
+elif [ "${{2##*/}}" = longest ]; then cp {self.root}/longest "$3"; echo 32768 bytes
+else {case_1}; fi'''
+        return self.outcome(join_convert.old_sheets_are_converted, script, self.examples, self.made())
+
+    def test_converted(self):
+        good = f'cp {self.root}/new "$3" && echo 288 bytes'
+        self.assertIsNone(self.converted(good))
+        self.assertEqual(self.converted(good.replace("288", "276")), "another length")
+        self.assertEqual(self.converted(f'cp {self.root}/longest "$3" && echo 288 bytes'), "another sheet")
+        self.assertEqual(self.converted(f'[ "$2" = - ] || cp {self.root}/new "$2"; {good}'), "the old sheet is another now")
+
+    def test_examples(self):
+        check = join_convert.the_old_example_becomes_the_new_one
+        script = f'cp {self.root}/new "$3"'
+        self.assertEqual(self.outcome(check, script, self.examples, self.made()), "no old sheet is stored")
+        (self.examples / "old").mkdir()
+        for name in ("one", "two"):
+            (self.examples / "old" / f"{name}.sheet").write_bytes(b"")
+        (self.examples / "one.sheet").write_bytes(join_convert.case_1("0"))
+        self.assertIsNone(self.outcome(check, script, self.examples, self.made()))
+        (self.examples / "two.sheet").write_bytes(b"")
+        self.assertEqual(self.outcome(check, script, self.examples, self.made()), "two.sheet becomes another sheet")
+
+    def test_refused(self):
+        check = join_convert.what_is_no_old_sheet
+        say = "echo join: the old sheet is refused by 1: the sheet >&2; exit 1"
+        self.assertIn("it says", self.outcome(check, say, self.examples, self.made()))
+        self.assertIn("status 0 and not 1", self.outcome(check, 'echo > "$3"', self.examples, self.made()))
+
+    def test_precedences(self):
+        check = join_convert.precedences_are_printed
+        script = 'case $1 in --listing) echo ok;; *0.grammar) printf "e:\\n e PLUS e n?\\n;\\n";; *) printf "e:\\n %s\\n;\\n";; esac'
+        self.assertIsNone(self.outcome(check, script % "e PLUS e^7 n?^7", self.examples, self.made()))
+        self.assertIn("it prints", self.outcome(check, script % "e PLUS e n?", self.examples, self.made()))
+        self.assertEqual(self.outcome(check, script.replace("echo ok", "echo $2") % "e PLUS e^7 n?^7", self.examples, self.made()), "the listing tells it")
 
 
 class Grouping(unittest.TestCase):

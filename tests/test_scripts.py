@@ -77,7 +77,7 @@ class Join(unittest.TestCase):
 
     def test_built_once(self):
         (self.room / "at-hand").write_text("")
-        asked = "archives --at-hand pass plans facts sheet"
+        asked = "archives --at-hand pass plans facts sheet convert"
         status, out, said, calls = self.run_join("g")
         self.assertEqual((status, out, calls), (0, "joined\n", [asked, "cargo target/staticlib", "join g"]))
         self.assertIn("join: building the program, which takes some seconds\n", said)
@@ -103,11 +103,11 @@ class Join(unittest.TestCase):
     def test_looked_at_first(self):
         status, out, said, calls = self.run_join("missing")
         self.assertEqual((status, out, said), (3, "", "join: cannot read missing\n"))
-        self.assertEqual(calls, ["archives --at-hand pass plans facts sheet", "cargo dist", "join --check missing"])
+        self.assertEqual(calls, ["archives --at-hand pass plans facts sheet convert", "cargo dist", "join --check missing"])
         status, _, said, calls = self.run_join("g")
         self.assertEqual(status, 0)
         self.assertIn("join: the pass is proved and built first, which takes minutes where little is proved yet\n", said)
-        self.assertEqual(calls[2:], ["join --check g", "archives pass plans facts sheet", "cargo target/staticlib", "join g"])
+        self.assertEqual(calls[2:], ["join --check g", "archives pass plans facts sheet convert", "cargo target/staticlib", "join g"])
 
     def test_standard_input_is_read_once(self):
         self.assertNotIn("join --check -", self.run_join("-")[3])
@@ -115,13 +115,13 @@ class Join(unittest.TestCase):
     def test_look_that_cannot_be_had(self):
         (self.room / "broken").write_text("")
         status, _, said, calls = self.run_join("g")
-        self.assertEqual((status, calls[2]), (4, "archives pass plans facts sheet"))
+        self.assertEqual((status, calls[2]), (4, "archives pass plans facts sheet convert"))
         self.assertTrue(said.endswith("join: the program was not built\n"))
 
     def test_proved_where_asked(self):
         calls = self.run_join("--textbook", "--prove", "g")[3]
-        self.assertEqual(calls[0], "archives --prove --at-hand pass plans facts sheet")
-        self.assertEqual(calls[2:4], ["join --check --textbook g", "archives --prove pass plans facts sheet"])
+        self.assertEqual(calls[0], "archives --prove --at-hand pass plans facts sheet convert")
+        self.assertEqual(calls[2:4], ["join --check --textbook g", "archives --prove pass plans facts sheet convert"])
         self.assertEqual(calls[-1], "join --textbook g")
 
     def test_not_proved(self):

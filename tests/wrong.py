@@ -6,10 +6,10 @@
 Each edit of tests/wrong (its form is in edits.py) is tried on copies of the crates. An edited definition is computed on
 the stored answer, the call of `outcome` or the sheet of tests/reading that the edit names, as check_answers.py does, or
 shown wrong by a string that a grammar derives or does not (derived.py); edited code is run, unproved, on the sheet that it
-names, by the program in tests/wrong/main.txt, which prints the digest in driver.txt, or that in pass.txt where the sheet is named
-for the whole pass. What comes out must differ from what the unedited one gives, and the prover must refuse the edit: edited code in its crate, an edited
-definition at the module of laws that the edit names, which is checked with what it uses alone. An edit that is accepted,
-that is refused at another module, or that answers as before, fails.
+names, by the program in tests/wrong/main.txt, which prints the digest in driver.txt, or that in pass.txt or convert.txt where the
+sheet is named for the whole pass or for the conversion. What comes out must differ from what the unedited one gives, and the prover
+must refuse the edit: edited code in its crate, an edited definition at the module of laws that the edit names, which is checked with
+what it uses alone. An edit that is accepted, that is refused at another module, or that answers as before, fails.
 
 The edits of tests/equal are definitions written otherwise, with the same answers. The prover refuses them too, so each
 must be found to answer as before: a refusal alone shows nothing wrong.
@@ -37,7 +37,8 @@ from derived import STRING, Derivations, strings
 
 HERE = Path(__file__).resolve().parent
 DEFINITIONS, PROGRAMS = 'definitions', 'programs'
-ASKED = {'plan': ('driver', b'p'), 'pass': ('pass', b'')}   # the digest and its letter, by what a sheet's name begins with
+# The digest and its letter, by what a sheet's name begins with.
+ASKED = {'plan': ('driver', b'p'), 'pass': ('pass', b''), 'convert': ('convert', b'')}
 MANY = 8   # edits that one program shows
 
 

@@ -9,7 +9,7 @@ use std::env;
 use std::fs;
 use std::path::{Path, PathBuf};
 
-const NAMES: [&str; 4] = ["pass", "plans", "facts", "sheet"];
+const NAMES: [&str; 5] = ["pass", "plans", "facts", "sheet", "convert"];
 
 /// A folder of archives, and what is written there about them.
 struct Found {

@@ -62,7 +62,7 @@ OF_ANSWERS = [
     ('two plans', 'written.txt: written 91', (0, 0, 1)),
     ('unchanged', 'examples.txt: example 3', (2, 2, 2)),
     ('rules 20', 'edges.txt: rules 20', (0, 0, 0)),
-    ('result of 32768 bytes', 'edges.txt: edge-9 with 34 options', (0, 0, 0)),
+    ('result of 32768 bytes', 'edges.txt: edge-9 with 38 options', (0, 0, 0)),
     ('result one byte short', 'examples.txt: example 1', (-1, 0, 0)),
     ('trail one byte short', 'examples.txt: example 1', (0, -1, 0)),
     ('work one byte short', 'examples.txt: example 1', (0, 0, -1)),

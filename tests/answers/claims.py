@@ -56,5 +56,5 @@ def claim(index, asked, differs=False):
     """The declaration of one equation: what is computed is what is stored, or is shown to be something else."""
     computed, stored, same = asked.terms() if hasattr(asked, 'terms') else answer_terms(asked)
     text = f'{same} ({computed})\n  ({stored}) ≡ false' if differs else f'{computed}\n  ≡ {stored}'
-    opened = f'to from call counted joined left blanked {same}'
+    opened = f'to from call convert counted joined left blanked {same}'
     return f'a{index} : {text}\nunfolding {opened}\na{index} = refl\n\n'

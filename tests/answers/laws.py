@@ -1,15 +1,19 @@
 """Runs of the definition compared (SPECIFICATION 18), each an equation like an answer's: on the original's own result, on sheets with
-other names, and on sheets with other carried numbers. Which words are names and carried numbers is told here by a walk of its own over
-the words of a sheet."""
+other names, with other carried numbers and with other precedences of calls. Which words are names, carried numbers and precedences is
+told here by a walk of its own over the words of a sheet."""
+import itertools
+
 from answers.claims import answer_term, asked_term, literal, sheet_term
 from answers.stored import Stored, bytes_of, words_of
 
-KEPT, NAME, LABEL, CARRIED = range(4)
+KEPT, NAME, LABEL, CARRIED, PRECEDENCE = range(5)
 EPSILON, ACTION, PREDICATE, CALL, TOKEN, OTHER, BLOCK, END_OF_INPUT = range(8)
 TRAILER = 8
 # The starred grammars, one in which both rules can be the hub and options of three names are joined, and one with the end of input.
 COMPARED = [f'example {at}' for at in range(1, 12)] + ['written 96', 'end of input 40']
 MOST_NAME = 4294967295
+# The words that decide nothing, by what a comparison on them is called.
+OTHERS = {'carried': CARRIED, 'precedence': PRECEDENCE}
 
 
 class Sorts:
@@ -47,17 +51,18 @@ class Sorts:
         if kind in (ACTION, PREDICATE):
             self.pairs(self.take(KEPT, KEPT), (KEPT, NAME))
         elif kind == CALL:
-            self.take(NAME, KEPT)
+            self.take(NAME, KEPT, PRECEDENCE)
         elif kind == TOKEN:
             self.take(NAME)
         elif kind == BLOCK:
             self.alternatives()
 
 
-def changed(words, name=lambda word: word, carried=lambda word: word):
-    """The same sheet with other names and other carried numbers; no label has no name."""
-    by_sort = {KEPT: lambda word: word, NAME: name, LABEL: lambda word: name(word) if word else 0, CARRIED: carried}
-    return [by_sort[sort](word) for sort, word in zip(Sorts(words).sorts, words)]
+def changed(words, name=lambda word: word, **others):
+    """The same sheet with other names, and other words of the sorts that are numbered by the keys of `OTHERS`; no label has no name."""
+    by_sort = {NAME: name, LABEL: lambda word: name(word) if word else 0}
+    by_sort |= {OTHERS[sort]: change for sort, change in others.items()}
+    return [by_sort.get(sort, lambda word: word)(word) for sort, word in zip(Sorts(words).sorts, words)]
 
 
 def renamed(word):
@@ -78,13 +83,17 @@ class Answered:
         return asked_term(self.stored), answer_term(self.stored), 'same_answer'
 
 
-class AlikeButCarried(Answered):
-    """The same, once the carried numbers of the result are 0."""
+class AlikeBut(Answered):
+    """The same, once all words of a sort are 0 in the result."""
+
+    def __init__(self, sort, *asked):
+        super().__init__(*asked)
+        self.sort = sort
 
     def terms(self):
-        carried = [at for at, sort in enumerate(Sorts(self.stored.result).sorts) if sort == CARRIED]
-        self.stored.result = changed(self.stored.result, carried=lambda word: 0)
-        return f'blanked ({literal(carried)}) (to rust {sheet_term(self.sheet)})', answer_term(self.stored), 'same_answer'
+        places = [at for at, sort in enumerate(Sorts(self.stored.result).sorts) if sort == OTHERS[self.sort]]
+        self.stored.result = changed(self.stored.result, **{self.sort: lambda word: 0})
+        return f'blanked ({literal(places)}) (to rust {sheet_term(self.sheet)})', answer_term(self.stored), 'same_answer'
 
 
 def short(stored):
@@ -99,14 +108,15 @@ def own_results(stored):
 
 
 def compared(stored):
-    """Some grammars with other names, and with carried numbers counted up; and every result once more."""
+    """Some grammars with other names, and with carried numbers and precedences counted up; and every result once more."""
     by_name, made = {short(one): one for one in stored if one.reading == 'rust'}, own_results(stored)
     for name in COMPARED:
         one = by_name[name]
         words = words_of(one.sheet)
-        numbers = iter(range(1, len(words)))
         made.append(Answered(f'renamed: {name}', changed(words, name=renamed), one.plans, one.steps, changed(one.result, name=renamed),
                              one.trail))
-        made.append(AlikeButCarried(f'carried: {name}', changed(words, carried=lambda word, numbers=numbers: next(numbers)), one.plans,
-                                    one.steps, one.result, one.trail))
+        for sort in OTHERS:
+            numbers = itertools.count(1)
+            sheet = changed(words, **{sort: lambda word, numbers=numbers: next(numbers)})
+            made.append(AlikeBut(sort, f'{sort}: {name}', sheet, one.plans, one.steps, one.result, one.trail))
     return made

@@ -14,7 +14,7 @@ HEAD = Path(__file__).with_name('head.txt')
 NAMES = '''OptionDecl ElementHead Leaf Element leaf block AlternativeOf Block Rule body_depth Sheet got bad label_of leaf_at
     bytes encode sheet_of rules_end read refused sheet body_ids same Corners rust textbook grammar_of left_corner_cycles
     clause_number decided declined overfull standard plan_cycle Node Origin Entry provenance origins inner_depth Answer
-    refusal answer answer_reading answer_to Outcome outcome'''.split()
+    refusal answer answer_reading answer_to Outcome outcome first_form Converted conversion'''.split()
 # what the checker says where it ends for its own limits
 STOPS = ('stopped at the step limit', 'outgrew the memory limit', 'antt ran out of')
 CHECKED = 'answers'   # the crate of the checks

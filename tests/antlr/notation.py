@@ -1,4 +1,4 @@
-"""Grammars in the notation (docs/NOTATION.md), read into trees. Ids, flags, arguments, bodies and the labels of alternatives are passed
+"""Grammars in the notation (docs/NOTATION.md), read into trees. Ids, flags, arguments, precedences, bodies and the labels of alternatives are passed
 over, and carried numbers but for that of a kind 5 element, which is its name. A name without a text, `r%7`, is `r_7` in the harness's
 notation and for ANTLR, and so it is here."""
 
@@ -94,6 +94,8 @@ class Reader:
         kind, name, alternatives = self.atom()
         quantifier = self.word() if self.ahead() in ("?", "*", "+") else ""
         quantifier += "?" if quantifier and self.take("?") else ""
+        # a call's precedence, or the id of the next element
+        self.number("^")
         options, carried = self.options(), self.number("~")
         return Element(kind, carried or "0" if kind == "other" else name, quantifier, label, options, alternatives)
 

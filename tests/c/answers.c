@@ -1,6 +1,7 @@
 /* Asks all archives about sheets, which come from standard input, each behind its length in four bytes. Writes for each sheet a line
  * with its number, then a line for each call: the function, what it was asked, its numbers, and a digest of all that it handed
  * over. What is lent is full of junk, so that nothing is told of bytes that nobody wrote. */
+#include "convert.h"
 #include "facts.h"
 #include "pass.h"
 #include "plans.h"
@@ -91,12 +92,23 @@ static void ask_pass(size_t length, uint32_t textbook) {
     end_line(numbers, PASS_NUMBERS);
 }
 
+static void ask_convert(size_t length) {
+    uint32_t numbers[CONVERT_NUMBERS];
+    begin();
+    memset(result, JUNK, sizeof result);
+    convert(sheet, length, result, sizeof result, work, sizeof work, numbers);
+    see(result, sizeof result);
+    printf("convert");
+    end_line(numbers, CONVERT_NUMBERS);
+}
+
 int main(void) {
     uint32_t length, textbook, count = 0;
     while (fread(&length, sizeof length, 1, stdin) == 1) {
         if (length > LONGEST || fread(sheet, 1, length, stdin) != length) return 2;
         printf("sheet %u\n", count++);
         ask_sheet(length);
+        ask_convert(length);
         for (textbook = 0; textbook < 2; textbook++) {
             ask_plans(length, textbook, ask_facts(length, textbook));
             ask_pass(length, textbook);

@@ -10,7 +10,7 @@ first_form = record { precedences = false }
 
 -- The form of every sheet that is handed in or out today.
 abbrev pub newest : Form
-newest = first_form
+newest = record { precedences = true }
 
 -- How many words a call's payload has.
 abbrev pub call_words : Form → ℕ

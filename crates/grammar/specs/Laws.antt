@@ -14,3 +14,4 @@ pub mod Codec
 pub mod Lists
 pub mod Few
 pub mod Trailer
+pub mod Convert

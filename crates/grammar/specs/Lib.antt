@@ -2,6 +2,7 @@ pub mod Numbers
 pub mod Lists
 pub mod Tree
 pub mod Form
+pub mod Convert
 pub mod Words
 pub mod Encode
 pub mod Parse

@@ -28,6 +28,7 @@ pub mod Facts
 pub mod Answers
 pub mod Refusals
 pub mod Table
+pub mod Conversion
 pub mod Kept
 pub mod Marks
 pub mod WordSorts

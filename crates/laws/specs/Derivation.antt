@@ -6,6 +6,7 @@ pub mod From
 pub mod Same
 pub mod Could
 pub mod Strings
+pub mod Unseen
 pub mod Empty
 pub mod Corners
 pub mod Counting

@@ -57,8 +57,9 @@ abbrev labelled_head : ElementHead
 labelled_head =
     record { id = 3; carried = 24; quantifier = optional_greedy; label = labelled 4 15; options = record { name = 16; value = 32 } ∷ [] }
 
--- e: ~21 # <o=31> {$i}~22 &{$j::k}~23 x=a[33]?<p=32>~24 INT~25 .~26 EOF~30 (~28 <q=34> NAME~29)~27; n: -; where n is 10, e 11, and
--- o, i, j, x, p, a, INT, q, NAME are 12 to 20: a name at each place where one can stand. No other word is from 10 to 30.
+-- e: ~21 # <o=31> {$i}~22 &{$j::k}~23 x=a[33]?^3<p=32>~24 INT~25 .~26 EOF~30 (~28 <q=34> NAME~29)~27; n: -; where n is 10, e 11,
+-- and o, i, j, x, p, a, INT, q, NAME are 12 to 20: a name at each place where one can stand, and a precedence. No other word is from
+-- 10 to 30.
 abbrev pub every_sort : Sheet
 every_sort =
     unit (record { alternative = 7; element = 9; label = 5; action = 2; predicate = 2 }) (2 ∷ [])
@@ -73,7 +74,7 @@ every_sort =
         options = record { name = 12; value = 31 } ∷ [];
         elements = leaf (bare 1 22 once) (action (record { id = 1; references = record { kind = attribute; name = 13 } ∷ [] }))
             ∷ leaf (bare 2 23 once) (predicate (record { id = 1; references = record { kind = non_local; name = 14 } ∷ [] }))
-            ∷ leaf labelled_head (call (record { name = 17; arguments = 33; precedence = 0 }))
+            ∷ leaf labelled_head (call (record { name = 17; arguments = 33; precedence = 4 }))
             ∷ leaf (bare 4 25 once) (token 18)
             ∷ leaf (bare 5 26 once) terminal
             ∷ leaf (bare 8 30 once) end_of_input
@@ -208,3 +209,40 @@ behind_joined =
 -- n: EOF; where n is 1, with a quantifier.
 abbrev pub only_end : (quantifier : ℕ) → List Rule
 only_end q = rule 1 1 (alternative 10 (element 20 q end_of_input ∷ []) ∷ []) ∷ []
+
+-- `e: a | INT; a: e PLUS e;` in words: its sheet in the first form, and the one of today.
+abbrev pub sum_of_before : List ℕ
+sum_of_before =
+    1 ∷ 1 ∷ 0 ∷ 2
+    ∷ 10 ∷ 0 ∷ 0 ∷ 0 ∷ 1
+    ∷ 20 ∷ 0 ∷ 3 ∷ 0 ∷ 0 ∷ 0 ∷ 2 ∷ 0
+    ∷ 11 ∷ 0 ∷ 0 ∷ 0 ∷ 1
+    ∷ 21 ∷ 0 ∷ 4 ∷ 0 ∷ 0 ∷ 0 ∷ 3
+    ∷ 2 ∷ 2 ∷ 0 ∷ 1
+    ∷ 12 ∷ 0 ∷ 0 ∷ 0 ∷ 3
+    ∷ 22 ∷ 0 ∷ 3 ∷ 0 ∷ 0 ∷ 0 ∷ 1 ∷ 0
+    ∷ 23 ∷ 0 ∷ 4 ∷ 0 ∷ 0 ∷ 0 ∷ 4
+    ∷ 24 ∷ 0 ∷ 3 ∷ 0 ∷ 0 ∷ 0 ∷ 1 ∷ 0
+    ∷ 2 ∷ 61 ∷ 0 ∷ 13 ∷ 25 ∷ 0 ∷ 0 ∷ 0 ∷ []
+
+abbrev pub sum_of_today : List ℕ
+sum_of_today =
+    1 ∷ 1 ∷ 0 ∷ 2
+    ∷ 10 ∷ 0 ∷ 0 ∷ 0 ∷ 1
+    ∷ 20 ∷ 0 ∷ 3 ∷ 0 ∷ 0 ∷ 0 ∷ 2 ∷ 0 ∷ 0
+    ∷ 11 ∷ 0 ∷ 0 ∷ 0 ∷ 1
+    ∷ 21 ∷ 0 ∷ 4 ∷ 0 ∷ 0 ∷ 0 ∷ 3
+    ∷ 2 ∷ 2 ∷ 0 ∷ 1
+    ∷ 12 ∷ 0 ∷ 0 ∷ 0 ∷ 3
+    ∷ 22 ∷ 0 ∷ 3 ∷ 0 ∷ 0 ∷ 0 ∷ 1 ∷ 0 ∷ 0
+    ∷ 23 ∷ 0 ∷ 4 ∷ 0 ∷ 0 ∷ 0 ∷ 4
+    ∷ 24 ∷ 0 ∷ 3 ∷ 0 ∷ 0 ∷ 0 ∷ 1 ∷ 0 ∷ 0
+    ∷ 2 ∷ 64 ∷ 0 ∷ 13 ∷ 25 ∷ 0 ∷ 0 ∷ 0 ∷ []
+
+-- A rule without alternatives and the preserved id 0 in a parser unit; and the same words with two zeros more, which are a lexer unit
+-- with the preserved ids 0, 2 and 5.
+abbrev pub ends_early : List ℕ
+ends_early = 7 ∷ 1 ∷ 0 ∷ 0 ∷ 0 ∷ 2 ∷ 5 ∷ 1 ∷ 7 ∷ 3 ∷ 0 ∷ 0 ∷ 0 ∷ []
+
+abbrev pub ends_late : List ℕ
+ends_late = 7 ∷ 1 ∷ 0 ∷ 0 ∷ 0 ∷ 2 ∷ 5 ∷ 1 ∷ 7 ∷ 3 ∷ 0 ∷ 0 ∷ 0 ∷ 0 ∷ 0 ∷ []

@@ -3,4 +3,5 @@ pub mod Count
 pub mod Every
 pub mod Lookup
 pub mod Mapped
+pub mod Flat
 pub mod Told

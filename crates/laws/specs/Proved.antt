@@ -12,6 +12,8 @@ pub mod Answered
 pub mod OtherUnits
 pub mod Refusals
 pub mod Table
+pub mod Conversion
 pub mod Kept
 pub mod All
+pub mod Others
 pub mod Met

@@ -13,6 +13,7 @@ pub mod Later
 pub mod Once
 pub mod Preserved
 pub mod Stay
+pub mod Copied
 pub mod Facts
 pub mod Removes
 pub mod Onward

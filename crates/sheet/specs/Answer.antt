@@ -1,7 +1,7 @@
 -- The reader's answer (SPECIFICATION 3.9): the refusal's number, or the sheet's parts and its rules.
-use Rattle.std.specs.Prelude.{ℕ, ◌+◌, ◌-◌, ◌/◌, ◌≤◌, ◌≡◌, List, [], ◌∷◌, true, false, length, get_or, replicate, leb}
+use Rattle.std.specs.Prelude.{ℕ, ◌+◌, ◌-◌, ◌*◌, ◌/◌, ◌<◌, ◌≤◌, ◌≡◌, List, [], ◌∷◌, true, false, length, get_or, replicate, leb}
 use Rattle.std.specs.Prelude.{Option, Some, is_some, Result, Ok, Err}
-use Rattle.grammar.specs.Numbers.{least_bytes, most_bytes, trailer_words, work_bytes}
+use Rattle.grammar.specs.Numbers.{least_bytes, trailer_words, word_end, rule_limit, work_bytes}
 use Rattle.grammar.specs.Numbers.{bad_length, short_buffer}
 use Rattle.grammar.specs.Tree as tree
 use Rattle.grammar.specs.Words.{words}
@@ -93,11 +93,12 @@ pub record ReadAs (found : reading.Reading) (r : Result Reading Refusal) : Type 
   pub values : values_of r ≡ values_in found
   pub rows : (s : tree.Sheet) (x : Reading) → found ≡ sheet s → r ≡ Ok x → RowsOf s.rules x.rules
 
--- A sheet of good length, and a work area that is long enough.
+-- Bytes that a trailer fits into and a word counts, and a work area with room for the sheet and for a word of each rule. Every sheet of
+-- good length is lent so, with a work area that is long enough; and so are longer ones.
 pub record Lent (bs work : List ℕ) : Type 0 where
   pub least : least_bytes ≤ length bs
-  pub most : length bs ≤ most_bytes
-  pub room : work_bytes ≤ length work
+  pub most : length bs < word_end
+  pub room : length bs + 4 * rule_limit ≤ length work
 
 -- Whether the words at t are a good trailer, and the kind of unit that it names.
 pub record TrailerRead (ws : List ℕ) (t : ℕ) (r : Option UnitKind) : Type 0 where

@@ -82,7 +82,7 @@ fn judged(
     })
 }
 
-// The whole reading of a sheet of good length. Of the work area its length stays, and nothing else is known.
+// The whole reading of a sheet, which may be longer than one that is handed in. Of the work area its length stays, and nothing else is known.
 pub fn examine(s: &[u8], work: &mut [u8]) -> Result<Reading, Refusal>
     requires { Lent s.now work.old }
     ensures read_as { ReadAs (read_words (words s.now)) result }

@@ -5,7 +5,7 @@ ghost use Rattle.words.specs.Form.{form_of};
 
 // What a form has a place for: a third word of each call, its precedence.
 // Stays: a form is the set of places that it has, and no enum of forms. Each place is there or not by itself, and what depends on
-// one asks for that one alone; with an enum each of those would go through all forms. The first form and the newest have the same.
+// one asks for that one alone; with an enum each of those would go through all forms.
 #[derive(Clone, Copy, Debug, PartialEq, Eq)]
 pub struct Form {
     pub precedences: bool,
@@ -15,7 +15,7 @@ impl Form {
     pub const FIRST: Form = Form { precedences: false };
 
     // The form of every sheet that is handed in or out today.
-    pub const NEWEST: Form = Form { precedences: false };
+    pub const NEWEST: Form = Form { precedences: true };
 
     // How many words a call's payload has.
     pub fn call_words(self) -> usize

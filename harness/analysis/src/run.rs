@@ -12,7 +12,7 @@ use crate::compare::{Call, Finder, Lent, WORK};
 use crate::{grow, wide};
 
 /// The sheet number `index` of the run `seed`: raw bytes, good and damaged sheets of the reader's
-/// generator, of the profiles, and of `grow`; three in four with other names.
+/// generator, of the profiles, and of `grow`; three in four with other names, one in two with other precedences.
 pub fn sheet(seed: u64, index: u64) -> Vec<u8> {
     let mut random = Random::of(seed, index);
     let bytes = match index % 16 {
@@ -26,7 +26,7 @@ pub fn sheet(seed: u64, index: u64) -> Vec<u8> {
             sheet.bytes()
         }
     };
-    wide::renamed(bytes, &mut random)
+    wide::altered(bytes, &mut random)
 }
 
 fn profile(random: &mut Random) -> Vec<u8> {

@@ -93,7 +93,7 @@ fn fourteen_is_refused_or_without_rules() {
 #[test]
 fn case_1_word_by_word() {
     let sheet = include_bytes!("../../../examples/case-1.sheet");
-    assert_eq!(sheet.len(), 276);
+    assert_eq!(sheet.len(), 288);
     let mut expected = Facts::NONE;
     expected.numbers = [0, 2, 1];
     expected.calls[..2].copy_from_slice(&[[0b10, 0], [0b01, 0]]);

@@ -8,9 +8,11 @@
 
 use std::fmt::Write as _;
 
-use sheets::codec::{bytes_of, encode, words_of};
+use sheets::codec::{self, bytes_of, encode, encode_in, words_of};
+use sheets::form::Form;
 use sheets::generate;
 use sheets::parse::sheet;
+use sheets::walk::without_precedences;
 
 use crate::ends::ENDS;
 use crate::folded::Reading;
@@ -24,7 +26,7 @@ pub struct File {
     pub parts: &'static [Part],
 }
 
-/// The first `sheets` seeds of a profile whose sheet has at most `words` words.
+/// The first `sheets` seeds of a profile whose sheet has at most `words` words in the first form: the same ones in every form.
 pub enum Part {
     Examples,
     Written,
@@ -103,6 +105,7 @@ pub const FILES: [File; 9] = [
             seeds("outside-base", 15, 150),
             seeds("hollow", 20, 130),
             seeds("long-chain", 12, 600),
+            seeds("precedences", 30, 150),
         ],
     ),
     file(
@@ -206,7 +209,7 @@ fn from_seeds(name: &str, sheets: usize, words: usize) -> Vec<Question> {
     let made = |seed| generate::bytes(name, seed).expect("the files name profiles that exist");
     let all = (0..).map(|seed| (seed, made(seed)));
     let small = all
-        .filter(|(_, bytes)| bytes.len() <= 4 * words)
+        .filter(|(_, bytes)| words_in_first_form(bytes) <= words)
         .take(sheets);
     small
         .map(|(seed, bytes)| Question {
@@ -215,6 +218,14 @@ fn from_seeds(name: &str, sheets: usize, words: usize) -> Vec<Question> {
             bytes,
         })
         .collect()
+}
+
+/// Bytes that are no records have as many in each form.
+fn words_in_first_form(bytes: &[u8]) -> usize {
+    match codec::tree(bytes) {
+        Ok(sheet) => encode_in(Form::FIRST, &without_precedences(&sheet)).len(),
+        Err(_) => bytes.len().div_ceil(4),
+    }
 }
 
 pub fn record(asked: &Question, answer: &Answer) -> String {

@@ -22,7 +22,8 @@ pub fn edges() -> Vec<Edge> {
         order_of_work(),
         copies(),
         single_points(),
-        [34, 35].map(result_near_nine).into(),
+        precedences(),
+        [38, 39].map(result_near_nine).into(),
         results_too_long(),
         reasons(),
         wide_names(),
@@ -219,20 +220,42 @@ fn single_points() -> Vec<Edge> {
     ]
 }
 
-/// One plan of 300 new alternatives, and two words of its result for each option: 34 are the most
+/// The word of a precedence decides nothing: it is copied with its call, and goes with a call in whose place others are spliced.
+fn precedences() -> Vec<Edge> {
+    vec![
+        edge(
+            "a spliced call with a precedence",
+            "e: a^3 | INT; a: e PLUS;",
+        ),
+        edge(
+            "a copied call with a precedence",
+            "e: a | INT; a: e PLUS e^3;",
+        ),
+        edge(
+            "a split call with a precedence",
+            "e: a | e?^3 X | INT; a: e PLUS;",
+        ),
+        edge(
+            "a spliced call with a precedence and a split one behind it",
+            "e: a^7 | INT; a: e PLUS | b?^4294967294 Y; b: e^0 zz[9]^1;",
+        ),
+    ]
+}
+
+/// One plan of 289 new alternatives, and two words of its result for each option: 38 are the most
 /// that 32,768 bytes hold.
 fn result_near_nine(options: usize) -> Edge {
     let options_of: Vec<String> = (0..options).map(|at| format!("o{at}=1")).collect();
     let grammar = format!(
         "e: a | <{}> INT; a: {}; b: {};",
         options_of.join(","),
-        alternatives(15, "b T"),
-        alternatives(20, "e T")
+        alternatives(17, "b T"),
+        alternatives(17, "e T")
     );
     (format!("edge-9 with {options} options"), grammar)
 }
 
-/// A cycle whose joined rule has so many words: 16 for itself and INT, and 8 times 20 and two for each
+/// A cycle whose joined rule has so many words: 16 for itself and INT, and 8 times 21 and two for each
 /// option of the token.
 fn eight_long(hub: &str, satellite: &str, options: usize) -> String {
     let token = format!("T{}", with_options(options, ""));
@@ -241,14 +264,14 @@ fn eight_long(hub: &str, satellite: &str, options: usize) -> String {
 }
 
 /// Results over 32,768 bytes, each for a reason of its own (SPECIFICATION 4.9), and 9 where 7 or 8 would
-/// be met later. With 500 options eight copies have 8,184 words with the trailer; 8,192 are allowed.
+/// be met later. With 500 options eight copies have 8,192 words with the trailer, as many as are allowed.
 fn results_too_long() -> Vec<Edge> {
     let fits = eight_long("e", "a", 500);
     let too_long = eight_long("f", "g", 501);
     let own = with_options(256, "a");
     let token = format!("T{}", with_options(245, ""));
     let eight = alternatives(8, "e");
-    let block = alternatives(92, ".");
+    let block = alternatives(91, ".");
     let full = full_of_options();
     vec![
         edge("9 by options of elements", &too_long),
@@ -260,10 +283,7 @@ fn results_too_long() -> Vec<Edge> {
             "9 by nested alternatives",
             &format!("e: a ( {block} ) | INT; a: {eight};"),
         ),
-        edge(
-            "9 by one preserved id",
-            &format!("%preserve 900 901 902 903 904 905 906 907 908; {fits}"),
-        ),
+        edge("9 by one preserved id", &format!("%preserve 900; {fits}")),
         edge(
             "9 by a satellite that stays",
             &format!("%preserve a; {fits}"),

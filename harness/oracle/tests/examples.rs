@@ -163,6 +163,6 @@ fn case_1_is_listed_as_in_the_specification() {
     let listed = "ok 1 1\nr 1 1\na 0 13\ne 0 25 3 0 1\ne 0 26 4 0 4\ne 0 27 3 0 1\na 0 11\n\
                   e 0 21 4 0 3\nt 2 13 1 12\nt 3 25 2 22\nt 3 26 2 23\nt 3 27 2 24\nt 1 1 1 1\n";
     let case_1 = &examples()[0];
-    assert_eq!(case_1.bytes.len(), 276);
+    assert_eq!(case_1.bytes.len(), 288);
     assert_eq!(text::listing(&ask(&case_1.bytes)), listed);
 }

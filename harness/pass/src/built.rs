@@ -75,9 +75,9 @@ pub fn declined_and_joined(declined: usize, joined: usize) -> Sheet {
     })
 }
 
-/// A list of 300 alternatives, and ids of no rule that are preserved, so that the result has exactly 32,768 bytes.
+/// A list of 280 alternatives, and ids of no rule that are preserved, so that the result has exactly 32,768 bytes.
 pub fn full_result() -> Sheet {
-    let (a, b) = (many("b T", 15), many("e T", 20));
+    let (a, b) = (many("b T", 14), many("e T", 20));
     let mut tree = sheet(&format!("e: a | INT; a: {a}; b: {b};"));
     let words = original(&tree).result.len() / 4;
     tree.preserved = (1_000..).take(MOST - words).collect();

@@ -1,11 +1,11 @@
-//! Changes of a sheet under which the pass should answer alike: other names, other carried numbers.
+//! Changes of a sheet under which the pass should answer alike: other names, other carried numbers, other precedences.
 
 use std::collections::{BTreeSet, HashMap};
 
 use reader::random::Random;
 use sheets::codec::MOST_NAME;
 use sheets::tree::Sheet;
-use sheets::walk::{Mark, marks, rename};
+use sheets::walk::{Mark, marks, precedences, rename};
 
 /// A change of a sheet in place.
 pub type Change<'a> = &'a dyn Fn(&mut Sheet);
@@ -71,4 +71,23 @@ pub fn carried_in(sheet: &Sheet) -> Vec<u32> {
         }
     });
     carried
+}
+
+/// The third word of every call is one of these, in the order of the sheet's words; there must be enough.
+pub fn raise(sheet: &mut Sheet, mut words: impl Iterator<Item = u32>) {
+    precedences(sheet, &mut |word| {
+        *word = words.next().expect("a word for each");
+    });
+}
+
+/// No call has a precedence.
+pub fn raise_nothing(sheet: &mut Sheet) {
+    raise(sheet, std::iter::repeat(0));
+}
+
+/// The third words of a sheet's calls.
+pub fn raised_in(sheet: &Sheet) -> Vec<u32> {
+    let mut raised = Vec::new();
+    precedences(&mut sheet.clone(), &mut |word| raised.push(*word));
+    raised
 }

@@ -105,7 +105,7 @@ impl Yard {
 }
 
 /// A copy at the fence, which can only be read.
-fn lend_sheet<'a>(area: &'a mut Fenced, sheet: &[u8], side: Side) -> &'a [u8] {
+pub(crate) fn lend_sheet<'a>(area: &'a mut Fenced, sheet: &[u8], side: Side) -> &'a [u8] {
     if area.room() < sheet.len() {
         *area = Fenced::new(sheet.len());
     }
@@ -123,7 +123,7 @@ fn lend_numbers(area: &mut Fenced, side: Side) -> &mut [u32; 5] {
 }
 
 /// Junk, no byte of it 0.
-fn spoil(area: &mut [u8]) {
+pub(crate) fn spoil(area: &mut [u8]) {
     for (byte, at) in area.iter_mut().zip(0_usize..) {
         *byte = (at * 29 / 3) as u8 | 1;
     }

@@ -1,16 +1,17 @@
-//! A run of the three laws: of which sheets they are asked, and of whom.
+//! A run of the four laws: of which sheets they are asked, and of whom.
 
 use std::fmt;
 use std::ops::Range;
 use std::sync::atomic::AtomicBool;
 
 use analysis::run::Difference;
+use reader::grow::any_precedence;
 use reader::random::Random;
 use sheets::codec;
 use sheets::tree::Sheet;
 use sheets::walk::names_in;
 
-use crate::changes::{Renaming, carried_in, carry};
+use crate::changes::{Renaming, carried_in, carry, raise, raised_in};
 use crate::compare::{Lent, Pass};
 use crate::laws::{self, Asked, Breach};
 use crate::outcome::Outcome;
@@ -35,6 +36,7 @@ pub struct Counts {
     pub answers: [Answers; 2],
     pub renamed: Changed,
     pub carried: Changed,
+    pub raised: Changed,
     /// Results of the original that it joins in the other reading.
     pub across: [u64; 2],
     /// Calls of the pass that is not the original.
@@ -59,6 +61,7 @@ impl Counts {
         }
         self.renamed.and(&other.renamed);
         self.carried.and(&other.carried);
+        self.raised.and(&other.raised);
         for (own, more) in self.across.iter_mut().zip(other.across) {
             *own += more;
         }
@@ -123,6 +126,7 @@ struct Case<'a> {
     tree: Sheet,
     renaming: Renaming,
     carried: Vec<u32>,
+    raised: Vec<u32>,
 }
 
 /// What was answered for the sheet of a case, and which results the other reading joins.
@@ -137,6 +141,10 @@ impl<'a> Case<'a> {
             bytes,
             renaming: Renaming::random(&names_in(&tree), random),
             carried: carried_in(&tree).iter().map(|_| random.any()).collect(),
+            raised: raised_in(&tree)
+                .iter()
+                .map(|_| any_precedence(random))
+                .collect(),
             tree,
         }
     }
@@ -149,6 +157,8 @@ impl<'a> Case<'a> {
         laws::renamed(ask, &self.tree, &first, &rename).map_err(|own| own.of("renaming"))?;
         let carry = |sheet: &mut Sheet| carry(sheet, self.carried.iter().copied());
         laws::carried(ask, &self.tree, &first, &carry).map_err(|own| own.of("carried numbers"))?;
+        let raise = |sheet: &mut Sheet| raise(sheet, self.raised.iter().copied());
+        laws::raised(ask, &self.tree, &first, &raise).map_err(|own| own.of("precedences"))?;
         Ok(Answered { first, across })
     }
 }
@@ -240,6 +250,9 @@ impl<'a> LawRun<'a> {
         }
         if carried_in(&case.tree) != case.carried {
             self.counts.carried.add(number);
+        }
+        if raised_in(&case.tree) != case.raised {
+            self.counts.raised.add(number);
         }
     }
 }

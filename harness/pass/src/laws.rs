@@ -1,14 +1,15 @@
-//! Three laws of a pass, each on one sheet and in both readings. A law compares calls of one pass with each other, and asks
+//! Four laws of a pass, each on one sheet and in both readings. A law compares calls of one pass with each other, and asks
 //! no other pass.
 //!
 //! - Own result: where a call returned 0, there is nothing to do with the sheet that it left.
 //! - Renaming: of a sheet with other names, as many, the outcome is the same with the result renamed.
 //! - Carried numbers: of a sheet with other carried numbers the outcome is the same but for the result's carried numbers.
+//! - Precedences: of a sheet with other precedences the outcome is the same but for the result's precedences.
 
 use sheets::codec::{bytes_of, encode, tree};
 use sheets::tree::Sheet;
 
-use crate::changes::{Change, carry_nothing};
+use crate::changes::{Change, carry_nothing, raise_nothing};
 use crate::outcome::{Outcome, judged};
 
 /// Who answers sheets, by the original's reading of left corners and by the textbook's. A fault is told where buffers are
@@ -79,10 +80,30 @@ pub fn carried(
     first: &[Outcome; 2],
     carry: Change,
 ) -> Result<(), Breach> {
-    let second = changed(sheet, carry);
+    but_for(ask, sheet, first, [carry, &carry_nothing])
+}
+
+/// Of a sheet that passes 1 to 4, what was answered, and a change of precedences.
+pub fn raised(
+    ask: Asked,
+    sheet: &Sheet,
+    first: &[Outcome; 2],
+    raise: Change,
+) -> Result<(), Breach> {
+    but_for(ask, sheet, first, [raise, &raise_nothing])
+}
+
+/// With a change the outcome is the same but for what the second change takes away of a result.
+fn but_for(
+    ask: Asked,
+    sheet: &Sheet,
+    first: &[Outcome; 2],
+    [change, clear]: [Change; 2],
+) -> Result<(), Breach> {
+    let second = changed(sheet, change);
     let answers = asked(ask, &second)?;
     for (reading, answer) in answers.iter().enumerate() {
-        let both = [answer, &first[reading]].map(|own| with_result(own, &carry_nothing));
+        let both = [answer, &first[reading]].map(|own| with_result(own, clear));
         let [got, wanted] = both.map(|own| own.map_err(|what| breach(reading, what, &second)));
         held(reading, &got?, &wanted?, &second)?;
     }

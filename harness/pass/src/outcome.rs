@@ -64,6 +64,8 @@ pub struct Judged {
     pub ends: bool,
     /// Whether two names have one remainder modulo 65,536.
     pub alike: bool,
+    /// Whether a call has a precedence.
+    pub raised: bool,
 }
 
 /// For any bytes. Refusals 1 and 3 to 6 are told by two readers, which must agree.
@@ -84,6 +86,7 @@ pub fn judged(sheet: &[u8]) -> Judged {
                 folded: false,
                 ends: false,
                 alike: false,
+                raised: false,
             };
         }
     };
@@ -93,6 +96,7 @@ pub fn judged(sheet: &[u8]) -> Judged {
         folded: textbook.is_some(),
         ends: has_end_of_input(&tree),
         alike: sheets::walk::shares_a_remainder(&tree),
+        raised: sheets::walk::has_precedences(&tree),
         readings: [original.clone(), textbook.unwrap_or(original)],
     }
 }

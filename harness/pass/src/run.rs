@@ -31,7 +31,7 @@ fn sort(index: u64) -> u64 {
 }
 
 /// The sheet number `index` of the run `seed`: raw bytes, good and damaged sheets of the reader's generator, of the
-/// profiles, of the planner's generator, and of `grow`; three in four with other names.
+/// profiles, of the planner's generator, and of `grow`; three in four with other names, one in two with other precedences.
 pub fn sheet(seed: u64, index: u64) -> Vec<u8> {
     let mut random = Random::of(seed, index);
     let bytes = match sort(index) {
@@ -50,7 +50,7 @@ pub fn sheet(seed: u64, index: u64) -> Vec<u8> {
         }
         _ => grow::sheet(&mut random),
     };
-    wide::renamed(bytes, &mut random)
+    wide::altered(bytes, &mut random)
 }
 
 /// Asks about the sheets of these numbers in the run `seed`, up to the first that fails, or until it is told to stop.

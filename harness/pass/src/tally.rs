@@ -26,6 +26,9 @@ pub struct Tally {
     /// Accepted sheets in which two names have one remainder modulo 65,536; those of them that are joined.
     pub alike: u64,
     pub alike_joined: u64,
+    /// Accepted sheets in which a call has a precedence; those of them that are joined.
+    pub raised: u64,
+    pub raised_joined: u64,
     /// Calls, and those with a buffer that is too short.
     pub calls: u64,
     pub short: u64,
@@ -51,6 +54,8 @@ impl Tally {
         let accepted = original.number() == 0;
         self.alike += u64::from(judged.alike && accepted);
         self.alike_joined += u64::from(judged.alike && original.plans() != 0);
+        self.raised += u64::from(judged.raised && accepted);
+        self.raised_joined += u64::from(judged.raised && original.plans() != 0);
         self.result = self.result.max(original.result.len());
         self.trail = self.trail.max(original.trail.len());
     }
@@ -65,6 +70,8 @@ impl Tally {
         self.ends.and(&other.ends);
         self.alike += other.alike;
         self.alike_joined += other.alike_joined;
+        self.raised += other.raised;
+        self.raised_joined += other.raised_joined;
         self.calls += other.calls;
         self.short += other.short;
         self.result = self.result.max(other.result);

@@ -1,6 +1,6 @@
-//! The words that a change of a sheet moves: all names, or all carried numbers, and nothing else.
+//! The words that a change of a sheet moves: all names, all carried numbers, or all precedences, and nothing else.
 
-use pass::changes::{Renaming, carried_in, carry, carry_nothing};
+use pass::changes::{Renaming, carried_in, carry, carry_nothing, raise, raise_nothing, raised_in};
 use reader::grow::{self, Limits};
 use reader::random::Random;
 use reader::tree::{Field, Sheet, Unit};
@@ -43,6 +43,31 @@ fn a_renaming_moves_names_and_nothing_else() {
         all += places.len();
     }
     assert!(all > 10_000, "{all}");
+}
+
+#[test]
+fn precedences_are_the_third_words_of_calls() {
+    let mut all = 0;
+    for (_, sheet) in grown() {
+        let mut changed = tree(&sheet);
+        let up: Vec<u32> = raised_in(&changed)
+            .iter()
+            .map(|own| own.wrapping_add(1))
+            .collect();
+        raise(&mut changed, up.iter().copied());
+        assert_eq!(raised_in(&changed), up);
+        let places = moved(&sheet.words, &encode(&changed));
+        assert_eq!(places.len(), up.len());
+        // Each stands behind the arguments of a call, and these behind a name.
+        assert!(places.iter().all(|at| {
+            let three = [at - 2, at - 1, *at].map(|at| sheet.fields[at]);
+            three == [Field::Name, Field::Free, Field::Free]
+        }));
+        raise_nothing(&mut changed);
+        assert!(raised_in(&changed).iter().all(|own| *own == 0));
+        all += places.len();
+    }
+    assert!(all > 1_000, "{all}");
 }
 
 #[test]

@@ -6,9 +6,9 @@ use std::sync::atomic::AtomicBool;
 
 use common::{Change, answering, bytes, leaving};
 use oracle::ask;
-use pass::changes::{Renaming, carried_in, carry};
+use pass::changes::{Renaming, carried_in, carry, raise, raised_in};
 use pass::law_run::{Broken, Counts, LawRun, side_by_side};
-use pass::laws::{Breach, carried, original, own_result, renamed};
+use pass::laws::{Breach, carried, original, own_result, raised, renamed};
 use pass::outcome::{Outcome, judged};
 use pass::program::{Fault, hex};
 use sheets::codec::{bytes_of, encode, tree, words_of};
@@ -66,7 +66,7 @@ fn the_original_keeps_the_laws() {
             "{answers}"
         );
     }
-    for changed in [counts.renamed, counts.carried] {
+    for changed in [counts.renamed, counts.carried, counts.raised] {
         assert!(changed.sheets > 300, "{changed}");
         assert!(changed.refused.iter().all(|count| *count > 1), "{changed}");
     }
@@ -170,6 +170,31 @@ fn a_pass_that_looks_at_carried_numbers_is_stopped() {
             Outcome::refused(5 + u32::from(carried[0] == 0))
         }
         _ => right(bytes),
+    });
+}
+
+#[test]
+fn a_pass_that_looks_at_precedences_is_stopped() {
+    let raises = |bytes: &[u8]| {
+        let words = raised_in(&tree(bytes).expect("a sheet"));
+        words.iter().any(|word| *word != 0)
+    };
+    breaks("precedences", |bytes| {
+        let outcome = right(bytes);
+        match outcome.plans() != 0 && raises(bytes) {
+            true => Outcome::still(bytes),
+            false => outcome,
+        }
+    });
+    breaks("precedences", |bytes| match right(bytes).number() {
+        6 => Outcome::refused(5 + u32::from(raises(bytes))),
+        _ => right(bytes),
+    });
+    breaks("precedences", |bytes| {
+        with_result(bytes, |before, after| {
+            let many = raised_in(before).iter().filter(|word| **word != 0).count();
+            after.counters.label = after.counters.label.saturating_add(many as u32);
+        })
     });
 }
 
@@ -329,6 +354,24 @@ fn carried_numbers_come_through() {
     assert_eq!(result.rules[0].alternatives[0].carried, 5);
     // With the law of renaming it would be a breach: there carried numbers stay.
     assert!(renamed(&mut original, &sheet(JOINED), &first, &numbers).is_err());
+}
+
+/// A copied call has the precedence of the call that was copied, so that results are alike and not equal.
+#[test]
+fn precedences_come_through() {
+    let first = judged(&bytes(JOINED)).readings;
+    let words = |tree: &mut Sheet| raise(tree, 5..);
+    assert_eq!(
+        raised(&mut original, &sheet(JOINED), &first, &words),
+        Ok(())
+    );
+    let mut second = sheet(JOINED);
+    words(&mut second);
+    let second = right(&bytes_of(&encode(&second)));
+    assert_eq!(second.numbers, first[0].numbers);
+    assert_ne!(second.result, first[0].result);
+    let left = raised_in(&tree(&second.result).expect("a sheet"));
+    assert!(left.iter().all(|word| 5 <= *word), "{left:?}");
 }
 
 /// The carried number of kind 5 makes another symbol of it, and no other outcome.

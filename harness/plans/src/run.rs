@@ -16,7 +16,7 @@ use crate::judge::{Judged, judged};
 use crate::tally::Tally;
 
 /// The sheet number `index` of the run `seed`: of the analysis' run, of the profiles, and of `grow`; three in four with other
-/// names.
+/// names, one in two with other precedences.
 pub fn sheet(seed: u64, index: u64) -> Vec<u8> {
     let mut random = Random::of(seed, index);
     let bytes = match index % 16 {
@@ -30,7 +30,7 @@ pub fn sheet(seed: u64, index: u64) -> Vec<u8> {
             sheet.bytes()
         }
     };
-    wide::renamed(bytes, &mut random)
+    wide::altered(bytes, &mut random)
 }
 
 /// Of a profile; those about applying a plan seldom.

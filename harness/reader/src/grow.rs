@@ -303,11 +303,16 @@ pub fn give_precedences(unit: &mut Unit, random: &mut Random) {
     }
 }
 
+/// The third word of a call.
+pub fn any_precedence(random: &mut Random) -> u32 {
+    PRECEDENCES[random.below(PRECEDENCES.len())]
+}
+
 fn give_in(alternatives: &mut [Alternative], random: &mut Random) {
     for element in alternatives.iter_mut().flat_map(|own| &mut own.elements) {
         match &mut element.payload {
             Payload::Call(_, _, precedence) => {
-                *precedence = PRECEDENCES[random.below(PRECEDENCES.len())];
+                *precedence = any_precedence(random);
             }
             Payload::Block(inner) => give_in(inner, random),
             _ => {}

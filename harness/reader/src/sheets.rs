@@ -36,8 +36,11 @@ fn good_in(form: Form, random: &mut Random) -> Sheet {
 }
 
 fn grown(form: Form, limits: Limits, random: &mut Random) -> Sheet {
-    let limits = Limits { form, ..limits };
-    Sheet::of_in(form, &grow::unit(random, limits))
+    let mut unit = grow::unit(random, Limits { form, ..limits });
+    if form.precedences && random.once_in(2) {
+        grow::give_precedences(&mut unit, random);
+    }
+    Sheet::of_in(form, &unit)
 }
 
 fn raw(random: &mut Random, length: usize) -> Vec<u8> {

@@ -15,7 +15,7 @@ const KINDS: [(u32, &[u32]); 8] = [
     (0, &[]),
     (1, &[0, 0]),
     (2, &[0, 0]),
-    (3, &[1, 0]),
+    (3, &[1, 0, 0]),
     (4, &[1]),
     (5, &[]),
     (6, &[0]),
@@ -73,7 +73,7 @@ fn parts() {
 
 #[test]
 fn cut_short() {
-    let whole = rule(1, 1, &[alternative(0, &[element(0, 3, &[1, 0])])]);
+    let whole = rule(1, 1, &[alternative(0, &[element(0, 3, &[1, 0, 0])])]);
     assert_eq!(number(&sheet(std::slice::from_ref(&whole), &[], FAR)), 0);
     for end in 1..whole.len() {
         let cut = whole[..end].to_vec();
@@ -153,7 +153,7 @@ fn names() {
         &|n| sheet(&[rule(1, n, &[])], &[], FAR),
         &|n| sheet(&[rule(1, 1, &[vec![0, 0, 0, 1, 0, n, 0]])], &[], FAR),
         &|n| with(&[vec![0, 0, 5, 0, 0, 1, n, 0]]),
-        &|n| with(&[element(0, 3, &[n, 0])]),
+        &|n| with(&[element(0, 3, &[n, 0, 0])]),
         &|n| with(&[element(0, 4, &[n])]),
         &|n| with(&[element(0, 1, &[0, 1, 0, n])]),
         &|n| with(&[element(0, 2, &[0, 1, 0, n])]),
@@ -187,7 +187,7 @@ fn references() {
 fn free_words() {
     let all = u32::MAX;
     let option = vec![0, all, 5, 0, 0, 1, 1, all];
-    let call = vec![1, all, 3, 0, 0, 0, 1, all];
+    let call = vec![1, all, 3, 0, 0, 0, 1, all, all];
     let one = vec![0, all, 0, 1, 2, 1, all];
     let one = [one, option, call].concat();
     assert_eq!(number(&sheet(&[rule(all, 1, &[one])], &[all], FAR)), 0);

@@ -10,7 +10,7 @@ impl Form {
     pub const FIRST: Form = Form { precedences: false };
 
     /// The form of every sheet that is handed in or out today.
-    pub const NEWEST: Form = Form::FIRST;
+    pub const NEWEST: Form = Form { precedences: true };
 
     /// How many words a call's payload has.
     pub const fn call_words(self) -> usize {

@@ -2,11 +2,12 @@
 //!
 //! `e: a? DOTS | x=INT {$INT}; a: e PLUS;` and, where wanted, every word of a
 //! sheet: ids `@7` (of an element `^7`, in front of it), carried numbers `~7`,
-//! arguments `a[5]`, options `<o=1>` in front of an alternative or behind an
-//! element, a labelled alternative `#`, rule flags `!2`, predicates `&{..}`,
-//! own ids `{@3 $x}`, epsilon `_`, kind 5 `.`, the end of input `EOF`, which is
-//! no token, no alternatives at all `-`; `%kind lexer;`, `%preserve a 9;`,
-//! `%counters 13 25 0 0 0;`. References: `$x`, `$x.a`, `$x::a`.
+//! arguments `a[5]`, the precedence of a call `a^3` or `a[5]?^3`, with no gap in
+//! front of it, options `<o=1>` in front of an alternative or behind an element,
+//! a labelled alternative `#`, rule flags `!2`, predicates `&{..}`, own ids
+//! `{@3 $x}`, epsilon `_`, kind 5 `.`, the end of input `EOF`, which is no token,
+//! no alternatives at all `-`; `%kind lexer;`, `%preserve a 9;`, `%counters 13 25
+//! 0 0 0;`. References: `$x`, `$x.a`, `$x::a`.
 //!
 //! An id left out is one more than the last of its sort; alternatives start at
 //! 10, elements at 20, rules at 1, the others at 0. A counter left out is one

@@ -122,6 +122,7 @@ impl Printer<'_> {
         self.atom(element);
         let marks = ["", "?", "??", "*", "*?", "+", "+?"];
         self.out.push_str(marks[element.quantifier as usize]);
+        self.precedence(&element.kind);
         self.options(&element.options);
         if self.style == Style::Full || element.kind == Kind::Other {
             self.carried("", element.carried);
@@ -149,6 +150,16 @@ impl Printer<'_> {
                 self.alternatives(alternatives);
                 self.out.push_str(" )");
             }
+        }
+    }
+
+    fn precedence(&mut self, kind: &Kind) {
+        if let Kind::Call {
+            precedence: word @ 1..,
+            ..
+        } = kind
+        {
+            let _ = write!(self.out, "^{}", word - 1);
         }
     }
 

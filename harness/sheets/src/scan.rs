@@ -6,6 +6,8 @@ pub enum Token {
     Number(u32),
     /// A single mark, or `::`.
     Mark(&'static str),
+    /// The `^` of a precedence, which touches the call in front of it; behind a gap it is that of the next element's id.
+    Raised,
 }
 
 const MARKS: [&str; 26] = [
@@ -17,8 +19,13 @@ pub fn scan(text: &str) -> Result<Vec<Token>, String> {
     let mut tokens = Vec::new();
     let mut rest = text.trim_start();
     while !rest.is_empty() {
-        let (token, after) = first_token(rest)?;
+        let (token, mut after) = first_token(rest)?;
+        let ends_call = matches!(token, Token::Name(_) | Token::Mark("]" | "?" | "*" | "+"));
         tokens.push(token);
+        if let Some(behind) = after.strip_prefix('^').filter(|_| ends_call) {
+            tokens.push(Token::Raised);
+            after = behind;
+        }
         rest = after.trim_start();
     }
     Ok(tokens)

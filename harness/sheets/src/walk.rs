@@ -102,6 +102,10 @@ pub fn precedences(sheet: &mut Sheet, change: &mut impl FnMut(&mut u32)) {
     }
 }
 
+pub fn has_precedences(sheet: &Sheet) -> bool {
+    without_precedences(sheet) != *sheet
+}
+
 /// The sheet without any.
 pub fn without_precedences(sheet: &Sheet) -> Sheet {
     let mut made = sheet.clone();

@@ -24,15 +24,15 @@ fn edited(place: usize, value: u32) -> Option<u32> {
 #[test]
 fn case_1_is_laid_out_as_the_specification_says() {
     let e = [1, 1, 0, 2];
-    let call_a = [10, 0, 0, 0, 1, 20, 0, 3, 0, 0, 0, 2, 0];
+    let call_a = [10, 0, 0, 0, 1, 20, 0, 3, 0, 0, 0, 2, 0, 0];
     let int = [11, 0, 0, 0, 1, 21, 0, 4, 0, 0, 0, 3];
     let a = [2, 2, 0, 1, 12, 0, 0, 0, 3];
     let sum = [
-        22, 0, 3, 0, 0, 0, 1, 0, 23, 0, 4, 0, 0, 0, 4, 24, 0, 3, 0, 0, 0, 1, 0,
+        22, 0, 3, 0, 0, 0, 1, 0, 0, 23, 0, 4, 0, 0, 0, 4, 24, 0, 3, 0, 0, 0, 1, 0, 0,
     ];
-    let trailer = [2, 61, 0, 13, 25, 0, 0, 0];
+    let trailer = [2, 64, 0, 13, 25, 0, 0, 0];
     let words = [&e[..], &call_a, &int, &a, &sum, &trailer].concat();
-    assert_eq!(words.len() * 4, 276);
+    assert_eq!(words.len() * 4, 288);
     assert_eq!(case_1(), words);
 }
 
@@ -104,7 +104,7 @@ fn lengths_are_refused_by_1() {
 
 #[test]
 fn trailers_are_refused_by_3() {
-    for (place, value) in [(61, 0), (61, 4), (62, 60), (62, 62), (63, 62)] {
+    for (place, value) in [(64, 0), (64, 4), (65, 63), (65, 65), (66, 65)] {
         assert_eq!(edited(place, value), Some(3), "word {place} as {value}");
     }
 }
@@ -115,7 +115,7 @@ fn records_are_refused_by_4() {
     let faults = [(1, 0), (2, 4), (3, 3), (3, u32::MAX), (6, 2), (11, 8)];
     for (place, value) in faults
         .into_iter()
-        .chain([(11, 3 + 256 * 7), label_id_alone, (63, 61)])
+        .chain([(11, 3 + 256 * 7), label_id_alone, (66, 64)])
     {
         assert_eq!(edited(place, value), Some(4), "word {place} as {value}");
     }
@@ -130,11 +130,11 @@ fn shared_ids_are_refused_by_5_and_counters_by_6() {
     for (place, value) in [(0, 2), (1, 2), (4, 12), (9, 24)] {
         assert_eq!(edited(place, value), Some(5), "word {place} as {value}");
     }
-    assert_eq!(edited(64, 12), Some(6));
-    assert_eq!(edited(65, 24), Some(6));
+    assert_eq!(edited(67, 12), Some(6));
+    assert_eq!(edited(68, 24), Some(6));
     // 5 is the lower number where both hold.
     let mut words = case_1();
-    (words[4], words[64]) = (12, 12);
+    (words[4], words[67]) = (12, 12);
     assert_eq!(refusal(&words), Some(5));
 }
 
@@ -143,7 +143,7 @@ fn shared_ids_are_refused_by_5_and_counters_by_6() {
 fn the_word_of_kind_and_quantifier_has_56_good_values() {
     let payload = |kind: u32| match kind {
         1 | 2 => vec![0, 0],
-        3 => vec![1, 0],
+        3 => vec![1, 0, 0],
         4 => vec![1],
         6 => vec![0],
         _ => vec![],

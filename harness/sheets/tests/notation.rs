@@ -4,7 +4,7 @@ use sheets::generate::PROFILES;
 use sheets::names::Names;
 use sheets::parse::{parse, sheet};
 use sheets::print::{Style, print};
-use sheets::tree::{Kind, Label, Reference};
+use sheets::tree::{Element, Kind, Label, Reference};
 
 #[test]
 fn every_sheet_is_printed_and_parsed_back() {
@@ -22,7 +22,7 @@ fn every_sheet_is_printed_and_parsed_back() {
 fn plain_text_comes_back_as_it_was_written() {
     let text = "%kind combined;\n%preserve a;\n\
                 e !1: a? DOTS | # <o=1,p=2> x=INT {$INT $x.a} |;\n\
-                a: e[5]+? .~7 &{$e::a} ( e | X ) ( - ) _* PLUS<q=9>;\n";
+                a: e[5]+?^3<o=3> e?^0 e^4294967294 e[1]^2 .~7 &{$e::a} ( e | X ) ( - ) _* PLUS<q=9>;\n";
     let (made, names) = parse(text).expect("the notation");
     assert_eq!(print(&made, &names, Style::Plain), text);
 }
@@ -114,5 +114,33 @@ fn faults_are_told() {
         "%preserve q; e: X;",
     ] {
         assert!(parse(text).is_err(), "{text}");
+    }
+}
+
+/// It touches the call, while the id of an element stands behind a gap.
+#[test]
+fn a_precedence_is_one_less_than_its_word() {
+    let words = |text: &str| -> Vec<u32> {
+        let own = sheet(text).rules[0].alternatives[0].elements.clone();
+        let word = |element: &Element| match element.kind {
+            Kind::Call { precedence, .. } => precedence,
+            _ => panic!("no call"),
+        };
+        own.iter().map(word).collect()
+    };
+    assert_eq!(words("e: a^0 a[5]^3 a?^4294967294 a;"), [1, 4, u32::MAX, 0]);
+    let apart = sheet("e: a ^7 a;").rules[0].alternatives[0]
+        .elements
+        .clone();
+    assert_eq!((apart[0].id, apart[1].id), (20, 7));
+    assert_eq!(words("e: a ^7 a^2;"), [0, 3]);
+    for bad in [
+        "e: a^4294967295;",
+        "e: a^;",
+        "e: X^3;",
+        "e: ( a )^3;",
+        "e: a^3?;",
+    ] {
+        assert!(parse(bad).is_err(), "{bad}");
     }
 }

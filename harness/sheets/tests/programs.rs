@@ -26,7 +26,7 @@ fn done(arguments: &[&str], input: &[u8]) -> Vec<u8> {
 #[test]
 fn a_sheet_goes_through_every_form() {
     let sheet = done(&["make"], b"e: a~9 | INT; a: e PLUS e;");
-    assert_eq!(sheet.len(), 276);
+    assert_eq!(sheet.len(), 288);
     let shown = done(&["show"], &sheet);
     assert_eq!(shown, b"r_1: r_2~9 | T_3;\nr_2: r_1 T_4 r_1;\n");
     assert_eq!(done(&["make"], &shown), sheet);
@@ -42,7 +42,7 @@ fn a_sheet_goes_through_every_form() {
 #[test]
 fn every_profile_that_is_named_can_be_generated() {
     let names = String::from_utf8(done(&["profiles"], b"")).expect("text");
-    assert_eq!(names.lines().count(), 43);
+    assert_eq!(names.lines().count(), 44);
     for name in names.lines() {
         let sheet = done(&["generate", name, "3"], b"");
         assert_eq!(sheet, done(&["generate", name, "3"], b""), "{name}");

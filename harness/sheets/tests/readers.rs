@@ -6,6 +6,7 @@ use reader::sheets::sheet_in;
 use sheets::codec::{self, MOST_BYTES, bytes_of, encode_in};
 use sheets::form::Form;
 use sheets::generate::give_precedences;
+use sheets::parse::sheet;
 use sheets::rng::Rng;
 
 const SEED: u64 = 1;
@@ -128,4 +129,28 @@ fn the_conversion_writes_the_tree_that_is_read() {
     for number in [0, 1, 3, 4, 5, 6, 9] {
         assert!(met[number] > 0, "no sheet was answered by {number}");
     }
+}
+
+/// Cases 1 and 2 (SPECIFICATION 15) as they were before a call had a third word.
+#[test]
+fn the_old_examples_become_those_of_today() {
+    let case_1 = include_bytes!("../../../examples/old/case-1.sheet");
+    let case_2 = include_bytes!("../../../examples/old/case-2.sheet");
+    let grammars = [
+        (&case_1[..], "e: a | INT; a: e PLUS e;"),
+        (&case_2[..], "%preserve a; e: a | INT; a: e PLUS e;"),
+    ];
+    for (old, grammar) in grammars {
+        assert_eq!(old, bytes_of(&encode_in(Form::FIRST, &sheet(grammar))));
+        let (mut result, mut work) = (vec![0; RESULT], vec![0; WORK]);
+        let (number, length) = convert_to(second_form(THIRD), old, &mut result, &mut work);
+        assert_eq!((number, length as usize), (0, old.len() + 12));
+        let new = bytes_of(&encode_in(THIRD, &sheet(grammar)));
+        assert_eq!(result[..length as usize], new, "{grammar}");
+    }
+    let today = include_bytes!("../../../examples/case-1.sheet");
+    assert_eq!(
+        today[..],
+        bytes_of(&encode_in(THIRD, &sheet(grammars[0].1)))
+    );
 }

@@ -7,7 +7,7 @@ use std::os::unix::fs::MetadataExt as _;
 use std::path::{Path, PathBuf};
 use std::process;
 
-use crate::options::Options;
+use crate::options::{Conversion, Options};
 use crate::stop::{Status, Stop};
 
 /// The file system's own name of a file, which all links to it share; of one that is not there yet that of its folder,
@@ -19,16 +19,12 @@ struct Identity {
     missing: Option<OsString>,
 }
 
+/// Files that no other is written over, and what each of them is.
+type Taken = Vec<(Option<Identity>, &'static str)>;
+
 /// That no file that is written is one that is read, standard output, or named twice; through links too.
 pub fn apart(options: &Options, names_are_read: bool) -> Result<(), Stop> {
-    let standard = options.grammar.as_os_str() == "-";
-    let grammar = if standard {
-        Path::new("/dev/stdin")
-    } else {
-        &options.grammar
-    };
-    let mut taken = vec![(identity(grammar), "is the grammar")];
-    taken.push((identity(Path::new("/dev/stdout")), "is standard output"));
+    let mut taken = taken(&options.grammar, "is the grammar");
     let names = options.names.as_deref();
     let mut written = vec![
         ("--sheet", options.sheet.as_deref()),
@@ -38,6 +34,26 @@ pub fn apart(options: &Options, names_are_read: bool) -> Result<(), Stop> {
         true => taken.push((names.and_then(identity), "is the table of names")),
         false => written.push(("--names", names)),
     }
+    apart_from(taken, &written)
+}
+
+/// That the new sheet is written neither over the old one nor over standard output.
+pub fn converted_apart(asked: &Conversion) -> Result<(), Stop> {
+    let taken = taken(&asked.old, "is the old sheet");
+    apart_from(taken, &[("--convert", Some(&asked.new))])
+}
+
+/// What is read first, and standard output.
+fn taken(read: &Path, what: &'static str) -> Taken {
+    let read = match read.as_os_str() == "-" {
+        true => Path::new("/dev/stdin"),
+        false => read,
+    };
+    let output = identity(Path::new("/dev/stdout"));
+    vec![(identity(read), what), (output, "is standard output")]
+}
+
+fn apart_from(mut taken: Taken, written: &[(&str, Option<&Path>)]) -> Result<(), Stop> {
     for (option, path) in written {
         let Some(path) = path else { continue };
         let own = identity(path);

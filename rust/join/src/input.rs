@@ -116,7 +116,7 @@ fn shown(path: &Path) -> String {
 }
 
 /// Of a file that is longer than any text and any sheet, only so much as tells that.
-fn read_file(path: &Path) -> Result<Vec<u8>, Stop> {
+pub fn read_file(path: &Path) -> Result<Vec<u8>, Stop> {
     let bytes = match path.as_os_str() == "-" {
         true => first_part(io::stdin().lock()),
         false => File::open(path).and_then(first_part),

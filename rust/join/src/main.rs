@@ -2,6 +2,7 @@
 #![forbid(unsafe_code)]
 
 mod answer;
+mod convert;
 mod ends;
 mod files;
 mod input;
@@ -34,6 +35,7 @@ fn main() -> ExitCode {
         Ok(Asked::Help) => printed(HELP),
         Ok(Asked::Version) => printed(&version()),
         Ok(Asked::Join(options)) => run(&options),
+        Ok(Asked::Convert(asked)) => convert::run(&asked),
         Err(stop) => Err(stop),
     };
     match done {

@@ -13,6 +13,17 @@ pub enum Asked {
     Help,
     Version,
     Join(Options),
+    Convert(Conversion),
+}
+
+/// `--convert OLD NEW`.
+#[derive(Clone, Debug, Eq, PartialEq)]
+pub struct Conversion {
+    /// `-` is standard input.
+    pub old: PathBuf,
+    pub new: PathBuf,
+    /// The words are looked at, and nothing is converted.
+    pub check: bool,
 }
 
 #[derive(Clone, Debug, Default, Eq, PartialEq)]
@@ -53,6 +64,9 @@ pub fn asked(words: impl Iterator<Item = OsString>) -> Result<Asked, Stop> {
     if words.iter().any(|word| word == "--version") {
         return Ok(Asked::Version);
     }
+    if words.iter().any(|word| word == "--convert") {
+        return conversion(words).map(Asked::Convert);
+    }
     let mut words = words.into_iter();
     let mut options = Options::default();
     let mut grammar = None;
@@ -73,6 +87,27 @@ pub fn asked(words: impl Iterator<Item = OsString>) -> Result<Asked, Stop> {
     }
     options.grammar = grammar.ok_or_else(|| misused("no grammar"))?;
     Ok(Asked::Join(options))
+}
+
+/// Of the options `--check` alone stands beside it.
+fn conversion(words: Vec<OsString>) -> Result<Conversion, Stop> {
+    let is_other = |word: &&OsString| is_option(word) && *word != "--convert" && *word != "--check";
+    if let Some(word) = words.iter().find(is_other) {
+        let what = format!("--convert takes no option {}", word.display());
+        return Err(misused(&what));
+    }
+    let check = words.iter().any(|word| word == "--check");
+    let files: Vec<OsString> = words.into_iter().filter(|word| !is_option(word)).collect();
+    match <[OsString; 2]>::try_from(files) {
+        Ok([old, new]) if !new.is_empty() && new != "-" => Ok(Conversion {
+            old: old.into(),
+            new: new.into(),
+            check,
+        }),
+        _ => Err(misused(
+            "--convert takes two files: an old sheet, and where the new one goes",
+        )),
+    }
 }
 
 /// An option, and what stands behind its `=`; anything else as it is.
@@ -155,6 +190,20 @@ mod tests {
     }
 
     #[test]
+    fn conversions() {
+        let wanted = |old: &str, check| {
+            Ok(Asked::Convert(Conversion {
+                old: old.into(),
+                new: "new".into(),
+                check,
+            }))
+        };
+        assert_eq!(of("--convert old new"), wanted("old", false));
+        assert_eq!(of("old --convert new"), wanted("old", false));
+        assert_eq!(of("--check --convert - new"), wanted("-", true));
+    }
+
+    #[test]
     fn help_before_all_else() {
         assert_eq!(of("--sheet --help --other"), Ok(Asked::Help));
         assert_eq!(of("-h --version"), Ok(Asked::Help));
@@ -177,6 +226,23 @@ mod tests {
             ("a --sheet -", "--sheet takes a file"),
             ("a --trail --listing", "--trail takes a file"),
             ("a --names n --names=n", "--names stands twice"),
+            ("--convert=a b", "no option --convert=a"),
+            (
+                "--convert a b --listing",
+                "--convert takes no option --listing",
+            ),
+            (
+                "--convert a",
+                "--convert takes two files: an old sheet, and where the new one goes",
+            ),
+            (
+                "--convert a b c",
+                "--convert takes two files: an old sheet, and where the new one goes",
+            ),
+            (
+                "--convert a -",
+                "--convert takes two files: an old sheet, and where the new one goes",
+            ),
         ] {
             let stop = of(line).expect_err(line);
             assert_eq!(stop.status, Status::File);

@@ -1,6 +1,6 @@
 //! What is said where a sheet is refused: of a text with its rules and lines.
 
-use mutual_recursion::{CycleLeft, Decision, Reading, Refusal, cycles, join};
+use mutual_recursion::{CycleLeft, Decision, Reading, Refusal, convert, cycles, join};
 use notation::{Place, Printer, Rule, Sheet, Sort, Style, Text};
 
 use crate::input::Input;
@@ -14,11 +14,15 @@ const STOPPED: u32 = 3;
 pub fn told(refusal: Refusal, input: &Input, reading: Reading) -> String {
     let number = refusal.number();
     let Some(text) = &input.text else {
-        let length = match refusal {
+        let more = match refusal {
             Refusal::BadLength => format!("; it has {} bytes", input.bytes.len()),
+            Refusal::BadRecord if convert(&input.bytes).is_ok() => {
+                "; it can be read as an old sheet, of which join --convert makes one of today"
+                    .to_owned()
+            }
             _ => String::new(),
         };
-        return format!("the sheet is refused by {number}: {refusal}{length}");
+        return format!("the sheet is refused by {number}: {refusal}{more}");
     };
     let cause = match refusal {
         Refusal::BadLength => too_long(text, input.bytes.len()),

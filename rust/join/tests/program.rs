@@ -92,7 +92,7 @@ fn names_go_with_a_sheet() {
     let tail =
         format!("%sheet sha256_{digest};\n%names\n    e=1\n    a=2\n    INT=3\n    PLUS=4\n;\n");
     assert!(table.ends_with(&tail), "{table}");
-    assert!(printed.contains(&format!("sheet handed back: SHA-256 {digest}, 208 bytes")));
+    assert!(printed.contains(&format!("sheet handed back: SHA-256 {digest}, 216 bytes")));
 
     let named = join(&[&sheet, "--names", &names]).answer();
     assert_eq!(rules(&named), ["e: e PLUS e | INT;"]);
@@ -214,6 +214,7 @@ fn help() {
         "--sheet FILE",
         "--trail FILE",
         "--names FILE",
+        "--convert OLD NEW",
         "--help",
     ] {
         assert!(printed.contains(option), "{option}");

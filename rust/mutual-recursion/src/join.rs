@@ -102,13 +102,13 @@ impl Default for Buffers {
 /// use mutual_recursion::{Entry, Kind, Reading, Reason, join};
 ///
 /// // e: a | INT;  a: e PLUS e;    with the names e 1, a 2, INT 3, PLUS 4
-/// let words: [u32; 69] = [
+/// let words: [u32; 72] = [
 ///     1, 1, 0, 2, // rule 1 of name 1, with two alternatives
-///     10, 0, 0, 0, 1, 20, 0, 3, 0, 0, 0, 2, 0, // alternative 10: the call of a
+///     10, 0, 0, 0, 1, 20, 0, 3, 0, 0, 0, 2, 0, 0, // alternative 10: the call of a
 ///     11, 0, 0, 0, 1, 21, 0, 4, 0, 0, 0, 3, // alternative 11: the token INT
 ///     2, 2, 0, 1, // rule 2 of name 2, with one
-///     12, 0, 0, 0, 3, 22, 0, 3, 0, 0, 0, 1, 0, 23, 0, 4, 0, 0, 0, 4, 24, 0, 3, 0, 0, 0, 1, 0,
-///     2, 61, 0, 13, 25, 0, 0, 0, // a parser unit, and the next free ids
+///     12, 0, 0, 0, 3, 22, 0, 3, 0, 0, 0, 1, 0, 0, 23, 0, 4, 0, 0, 0, 4, 24, 0, 3, 0, 0, 0, 1, 0, 0,
+///     2, 64, 0, 13, 25, 0, 0, 0, // a parser unit, and the next free ids
 /// ];
 /// let sheet: Vec<u8> = words.iter().flat_map(|word| word.to_le_bytes()).collect();
 ///

@@ -180,3 +180,23 @@ pub fn read_sheet(
         );
     }
 }
+
+/// Makes a sheet of today of an old one, as [`convert`](crate::convert()) says. The numbers are the refusal or 0, and the length
+/// of the new sheet in bytes.
+///
+/// Refusals 1 and 2 leave both buffers as they were, every other one leaves zeros in them. Where nothing is refused the result
+/// has zeros behind its length, and the work area has zeros everywhere.
+pub fn convert(sheet: &[u8], result: &mut [u8], work: &mut [u8], numbers: &mut [u32; 2]) {
+    // SAFETY: as in `pass`.
+    unsafe {
+        archives::convert(
+            sheet.as_ptr(),
+            sheet.len(),
+            result.as_mut_ptr(),
+            result.len(),
+            work.as_mut_ptr(),
+            work.len(),
+            numbers,
+        );
+    }
+}

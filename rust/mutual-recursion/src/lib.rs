@@ -5,7 +5,8 @@
 //! says where each new node came from. [`join_in`] does the same in [`Buffers`] that are made once. A sheet that is refused is
 //! answered with a [`Refusal`], which has the cause in words. [`cycles`] lists the cycles of a sheet as it stands, each with its
 //! plan or with the [`Clause`] by which it is declined; [`origins`] tells of each alternative of the result whose place it fills
-//! and where it was taken from. [`lent`] has the archives' functions as they are.
+//! and where it was taken from. [`convert()`] makes a sheet of today of one that was written before calls had a precedence. [`lent`]
+//! has the archives' functions as they are.
 //!
 //! What the pass does is proved of the archives that this crate links; here their numbers are only put into types. No function
 //! panics, whatever the bytes. The archives are for x86-64 Linux and stand in dist/ of the repository, so that a dependency
@@ -16,9 +17,9 @@
 //!
 //! // e: a | INT;  a: e PLUS;    with the names e 1, a 2, INT 3, PLUS 4
 //! let words = [
-//!     1, 1, 0, 2, 10, 0, 0, 0, 1, 20, 0, 3, 0, 0, 0, 2, 0, 11, 0, 0, 0, 1, 21, 0, 4, 0, 0, 0, 3,
-//!     2, 2, 0, 1, 12, 0, 0, 0, 2, 22, 0, 3, 0, 0, 0, 1, 0, 23, 0, 4, 0, 0, 0, 4,
-//!     2, 53, 0, 13, 24, 0, 0, 0u32,
+//!     1, 1, 0, 2, 10, 0, 0, 0, 1, 20, 0, 3, 0, 0, 0, 2, 0, 0, 11, 0, 0, 0, 1, 21, 0, 4, 0, 0, 0, 3,
+//!     2, 2, 0, 1, 12, 0, 0, 0, 2, 22, 0, 3, 0, 0, 0, 1, 0, 0, 23, 0, 4, 0, 0, 0, 4,
+//!     2, 55, 0, 13, 24, 0, 0, 0u32,
 //! ];
 //! let sheet: Vec<u8> = words.iter().flat_map(|word| word.to_le_bytes()).collect();
 //!
@@ -39,6 +40,7 @@
 #![warn(missing_docs)]
 
 mod clause;
+mod convert;
 mod cycles;
 mod join;
 pub mod lent;
@@ -48,6 +50,7 @@ mod refusal;
 mod trail;
 
 pub use clause::Clause;
+pub use convert::convert;
 pub use cycles::{CycleLeft, Decision, Plan, cycles};
 pub use join::{Buffers, Joined, Reading, View, join, join_in};
 pub use origins::{Origin, origins};

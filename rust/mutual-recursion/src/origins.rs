@@ -28,10 +28,10 @@ pub struct Origin {
 /// use mutual_recursion::{Origin, Reading, origins};
 ///
 /// // e: a | INT;  a: e PLUS e;    with the names e 1, a 2, INT 3, PLUS 4
-/// let words: [u32; 69] = [
-///     1, 1, 0, 2, 10, 0, 0, 0, 1, 20, 0, 3, 0, 0, 0, 2, 0, 11, 0, 0, 0, 1, 21, 0, 4, 0, 0, 0, 3,
-///     2, 2, 0, 1, 12, 0, 0, 0, 3, 22, 0, 3, 0, 0, 0, 1, 0, 23, 0, 4, 0, 0, 0, 4, 24, 0, 3, 0, 0, 0, 1, 0,
-///     2, 61, 0, 13, 25, 0, 0, 0,
+/// let words: [u32; 72] = [
+///     1, 1, 0, 2, 10, 0, 0, 0, 1, 20, 0, 3, 0, 0, 0, 2, 0, 0, 11, 0, 0, 0, 1, 21, 0, 4, 0, 0, 0, 3,
+///     2, 2, 0, 1, 12, 0, 0, 0, 3, 22, 0, 3, 0, 0, 0, 1, 0, 0, 23, 0, 4, 0, 0, 0, 4, 24, 0, 3, 0, 0, 0, 1, 0, 0,
+///     2, 64, 0, 13, 25, 0, 0, 0,
 /// ];
 /// let sheet: Vec<u8> = words.iter().flat_map(|word| word.to_le_bytes()).collect();
 ///
@@ -122,7 +122,7 @@ fn past_element(sheet: &[u8], at: usize) -> usize {
     let payload = at + 6 + 2 * word(sheet, at + 5) as usize;
     match word(sheet, at + 2) % 256 {
         1 | 2 => payload + 2 + 2 * word(sheet, payload + 1) as usize,
-        3 => payload + 2,
+        3 => payload + 3,
         4 => payload + 1,
         6 => (0..word(sheet, payload)).fold(payload + 1, |place, _| past_alternative(sheet, place)),
         _ => payload,

@@ -6,6 +6,7 @@ use std::fmt;
 /// Why a sheet is refused (SPECIFICATION 4), with the cause in words as its text.
 ///
 /// Of the first six the lowest that holds is given. Then the pass runs, and the first of the others that it meets ends it.
+/// A conversion ([`convert`](crate::convert())) gives one of the first six, or else the last.
 ///
 /// ```
 /// use mutual_recursion::{Reading, Refusal, join};
@@ -19,7 +20,7 @@ use std::fmt;
 pub enum Refusal {
     /// The sheet is too short, too long or not made of whole words.
     BadLength = 1,
-    /// A lent buffer is too short. Not by [`join`](crate::join), [`join_in`](crate::join_in) and [`cycles`](crate::cycles), whose buffers are long enough.
+    /// A lent buffer is too short. Only by the functions of [`lent`](crate::lent): all others have buffers that are long enough.
     ShortBuffer,
     /// The sheet does not end as a sheet does.
     BadTrailer,
@@ -99,7 +100,7 @@ impl Refusal {
             }
             Refusal::CounterPastEnd => "applying a plan would take a counter above 4,294,967,295",
             Refusal::ResultTooLarge => {
-                "applying a plan would give a sheet over 32,768 bytes or a trail over 4,096 entries"
+                "what would be handed back is too large: a sheet over 32,768 bytes or a trail over 4,096 entries"
             }
         }
     }

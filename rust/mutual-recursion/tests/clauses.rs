@@ -167,7 +167,7 @@ fn budgets() {
         panic!("no plan")
     };
     assert_eq!(plan.steps, 65);
-    let call = |id: u32, name: u32| element(id, 3, [0, 0], &[name, 0]);
+    let call = |id: u32, name: u32| element(id, 3, [0, 0], &[name, 0, 0]);
     let other = |id: u32| alternative(id, &[token(id)]);
     let hub = rule(1, 1, &[alternative(0, &[call(0, 2)]), other(1)]);
     let mut loops = vec![
@@ -185,7 +185,7 @@ fn budgets() {
 /// The action of `e: a {$a} | INT; a: e PLUS;` as a predicate.
 #[test]
 fn predicates_refer_too() {
-    const KIND: usize = 4 * (4 + 5 + 8 + 2);
+    const KIND: usize = 4 * (4 + 5 + 9 + 2);
     let record = stored()
         .into_iter()
         .find(|own| own.grammar == "e: a {$a} | INT; a: e PLUS;");

@@ -253,12 +253,12 @@ fn facts_and_parts() {
         &mut names,
         &mut places,
     );
-    assert_eq!(numbers, [0, 2, 63, 0, 14, 24, 0, 0, 0, 3, 4, 4]);
+    assert_eq!(numbers, [0, 2, 66, 0, 14, 24, 0, 0, 0, 3, 4, 4]);
     assert_eq!(
         (ids[..4].to_vec(), names[..4].to_vec()),
         (vec![1, 2, 3, 0], vec![1, 2, 4, 0])
     );
-    assert_eq!(places[..4], [0, 29, 54, 0]);
+    assert_eq!(places[..4], [0, 30, 57, 0]);
 }
 
 /// Stored sheets with some words changed: nothing panics, and what is refused is refused alike.

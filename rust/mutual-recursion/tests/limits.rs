@@ -60,10 +60,10 @@ fn limits() {
     check(
         Refusal::ResultTooLarge,
         &[
-            ("applying a plan would give", vec![]),
+            ("what would be handed back is too large", vec![]),
             (
                 "a sheet over 32,768 bytes",
-                sides("edge-9 with 35 options", "edge-9 with 34 options"),
+                sides("edge-9 with 39 options", "edge-9 with 38 options"),
             ),
             // no plan that is known has so long a trail with so small a sheet
             ("a trail over 4,096 entries", vec![]),

@@ -102,7 +102,11 @@ fn put_element(own: &Element, out: &mut Vec<u32>) {
             out.extend([body.id, body.references.len() as u32]);
             out.extend(body.references.iter().flat_map(|one| [one.kind, one.name]));
         }
-        Kind::Call { name, arguments } => out.extend([*name, *arguments]),
+        Kind::Call {
+            name,
+            arguments,
+            precedence,
+        } => out.extend([*name, *arguments, *precedence]),
         Kind::Token(name) => out.push(*name),
         Kind::Block(inner) => put_alternatives(inner, out),
     }
@@ -187,6 +191,7 @@ impl Cursor<'_> {
             3 => Kind::Call {
                 name: self.word()?,
                 arguments: self.word()?,
+                precedence: self.word()?,
             },
             4 => Kind::Token(self.word()?),
             5 => Kind::Other,

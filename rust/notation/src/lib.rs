@@ -15,12 +15,13 @@
 //! | `EOF` | the end of input, kind 7; no token has this name |
 //! | `{$x $x.text $r::a}`, `&{..}` | an action, a predicate, each with its references |
 //! | `x=INT`, `a[5]`, `INT<o=1>` | a label, arguments, options of an element |
+//! | `a^3`, `a[5]?^3` | the precedence of a call, which touches what stands in front of it |
 //! | `#`, `<o=1>` in front of an alternative | that it is labelled, its options; `#:` where a token comes first |
 //! | `e !2:`, `e: -;` | a rule's flags; a rule or block without alternatives |
 //! | `%kind lexer;` `%preserve a 9;` | the unit's kind; preserved rules by name, or by id |
 //! | `%names e=1 INT=3;` | the numbers of names, in front of where they are used |
 //! | `@7` behind a rule's name or a label, in front of an alternative, first in `{..}` | an id |
-//! | `^7` in front of an element | its id |
+//! | `^7` in front of an element, behind a space | its id |
 //! | `~7` in front of an alternative, behind an element | its carried number |
 //! | `%counters 13 25 0 0 0;` | the counters |
 //!
@@ -34,7 +35,7 @@
 //!
 //! ```
 //! let grammar = notation::parse("e: a | INT; a: e PLUS e;").unwrap();
-//! assert_eq!(grammar.sheet.bytes().len(), 276);
+//! assert_eq!(grammar.sheet.bytes().len(), 288);
 //! let fault = notation::parse("e: a | INT;\na e PLUS e;").unwrap_err();
 //! assert_eq!(fault.to_string(), "line 2, column 3: expected `:`, found `e`");
 //! ```

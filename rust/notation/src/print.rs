@@ -171,6 +171,7 @@ impl<'a> Printer<'a> {
         }
         out += &self.atom(&own.kind);
         out += ["", "?", "??", "*", "*?", "+", "+?"][own.quantifier as usize];
+        out += &precedence(&own.kind);
         out += &self.options(&own.options);
         out + &carried("", own.carried)
     }
@@ -180,7 +181,9 @@ impl<'a> Printer<'a> {
             Kind::Epsilon => "_".to_owned(),
             Kind::Action(body) => self.semantics("{", body, Sort::Action),
             Kind::Predicate(body) => self.semantics("&{", body, Sort::Predicate),
-            Kind::Call { name, arguments } => {
+            Kind::Call {
+                name, arguments, ..
+            } => {
                 let name = self.name(*name, Place::Call);
                 match arguments {
                     0 => name,
@@ -243,6 +246,17 @@ impl<'a> Printer<'a> {
             true => format!("{mark}{id}"),
             false => String::new(),
         }
+    }
+}
+
+/// Behind the quantifier, which stands behind the arguments.
+fn precedence(kind: &Kind) -> String {
+    match kind {
+        Kind::Call {
+            precedence: word @ 1..,
+            ..
+        } => format!("^{}", word - 1),
+        _ => String::new(),
     }
 }
 

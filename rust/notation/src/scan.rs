@@ -24,6 +24,8 @@ pub(crate) struct Token<'a> {
     pub what: What<'a>,
     pub line: usize,
     pub column: usize,
+    /// Whether it touches what stands in front of it, without white space or a comment between.
+    pub is_close: bool,
 }
 
 impl Token<'_> {
@@ -84,8 +86,8 @@ pub(crate) fn scan(text: &str) -> (Vec<Token<'_>>, Vec<Fault>) {
     };
     let (mut tokens, mut faults) = (Vec::new(), Vec::new());
     loop {
-        cursor.skip_gaps();
-        match cursor.token() {
+        let is_close = !cursor.skip_gaps();
+        match cursor.token(is_close) {
             Ok(token) => tokens.push(token),
             Err(fault) => faults.push(fault),
         }
@@ -114,15 +116,16 @@ struct Cursor<'a> {
 }
 
 impl<'a> Cursor<'a> {
-    /// White space, and comments from `//` to the end of the line.
-    fn skip_gaps(&mut self) {
+    /// White space, and comments from `//` to the end of the line; whether there was any.
+    fn skip_gaps(&mut self) -> bool {
+        let before = self.rest.len();
         loop {
             let gap = match self.rest.strip_prefix("//") {
                 Some(_) => self.rest.find('\n').unwrap_or(self.rest.len()),
                 None => self.rest.len() - self.rest.trim_start().len(),
             };
             if gap == 0 {
-                return;
+                return self.rest.len() < before;
             }
             self.take(gap);
         }
@@ -142,7 +145,7 @@ impl<'a> Cursor<'a> {
         taken
     }
 
-    fn token(&mut self) -> Result<Token<'a>, Fault> {
+    fn token(&mut self, is_close: bool) -> Result<Token<'a>, Fault> {
         let (line, column) = (self.line, self.column);
         let what = self.what().map_err(|(expected, found, advice)| Fault {
             line,
@@ -151,7 +154,12 @@ impl<'a> Cursor<'a> {
             found: quoted(found),
             advice: advice.to_owned(),
         })?;
-        Ok(Token { what, line, column })
+        Ok(Token {
+            what,
+            line,
+            column,
+            is_close,
+        })
     }
 
     fn what(&mut self) -> Result<What<'a>, Wrong<'a>> {

@@ -69,6 +69,8 @@ pub enum Kind {
         name: u32,
         /// 0 without.
         arguments: u32,
+        /// 0 without, else one more than the precedence.
+        precedence: u32,
     },
     Token(u32),
     /// Kind 5: any other terminal, a range or a set.

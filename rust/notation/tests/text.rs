@@ -1,14 +1,15 @@
 //! What a text means, and that it comes back as it was written.
 
 use notation::{
-    Kind, Label, Names, Place, Printer, Reference, Style, Table, parse, parse_table, print,
+    Kind, Label, Names, Node, Place, Printer, Reference, Style, Table, alternatives, parse,
+    parse_table, print,
 };
 
 const ALL: &str = "\
 %kind combined;
 %preserve a;
 e !1: a? DOTS | ~3 # <o=1,p=2> x=INT {$INT $x.text} |;
-a@5: e[5]+? .~7 &{$e::depth} ( e | X ) ( - ) _* PLUS<q=9>~8;
+a@5: e[5]+? .~7 &{$e::depth} ( e^0 | X ) ( - ) _* PLUS<q=9>~8 e[5]?^4294967294<o=1>~7;
 ";
 
 #[test]
@@ -28,14 +29,56 @@ fn comments_and_gaps_mean_nothing() {
 fn the_first_worked_grammar() {
     let made = parse("e: a | INT; a: e PLUS e;").unwrap();
     let rows = [
-        &[1, 1, 0, 2, 10, 0, 0, 0, 1, 20, 0, 3, 0, 0, 0, 2, 0][..],
+        &[1, 1, 0, 2, 10, 0, 0, 0, 1, 20, 0, 3, 0, 0, 0, 2, 0, 0][..],
         &[11, 0, 0, 0, 1, 21, 0, 4, 0, 0, 0, 3],
-        &[2, 2, 0, 1, 12, 0, 0, 0, 3, 22, 0, 3, 0, 0, 0, 1, 0],
-        &[23, 0, 4, 0, 0, 0, 4, 24, 0, 3, 0, 0, 0, 1, 0],
-        &[2, 61, 0, 13, 25, 0, 0, 0],
+        &[2, 2, 0, 1, 12, 0, 0, 0, 3, 22, 0, 3, 0, 0, 0, 1, 0, 0],
+        &[23, 0, 4, 0, 0, 0, 4, 24, 0, 3, 0, 0, 0, 1, 0, 0],
+        &[2, 64, 0, 13, 25, 0, 0, 0],
     ];
     assert_eq!(made.sheet.words(), rows.concat());
-    assert_eq!(made.sheet.bytes().len(), 276);
+    assert_eq!(made.sheet.bytes().len(), 288);
+}
+
+/// Behind a call and its quantifier; its word is one more, since 0 is for none.
+#[test]
+fn precedences_of_calls() {
+    let words = |text: &str| -> Vec<u32> {
+        let made = parse(text).expect(text);
+        let mut found = Vec::new();
+        alternatives(&made.sheet.rules[0].alternatives, &mut |node| {
+            if let Node::Element(_, own) = node
+                && let Kind::Call { precedence, .. } = own.kind
+            {
+                found.push(precedence);
+            }
+        });
+        assert_eq!(print(&made, Style::Plain), text);
+        found
+    };
+    assert_eq!(
+        words("e: e PLUS e^3 x=e?^0 ( e[5]*?^4294967294<o=1>~2 | e^7 );\n"),
+        [0, 4, 1, u32::MAX, 8]
+    );
+}
+
+/// Behind a gap the mark is that of the next element's id, as it was before calls had a precedence.
+#[test]
+fn a_gap_tells_ids_from_precedences() {
+    let own = |text: &str| {
+        let made = parse(text).expect(text);
+        let elements = made.sheet.rules[0].alternatives[0].elements.clone();
+        let Kind::Call { precedence, .. } = elements[0].kind else {
+            panic!("a call")
+        };
+        (precedence, elements[1].id)
+    };
+    assert_eq!(own("e: e^50 X;"), (51, 21));
+    for text in ["e: e ^50 X;", "e: e// a gap\n^50 X;"] {
+        assert_eq!(own(text), (0, 50));
+    }
+    assert_eq!(own("e: e^3 ^50 X;"), (4, 50));
+    let full = print(&parse("e: e^3 ^50 X;").unwrap(), Style::Full);
+    assert!(full.ends_with("e: e^3 ^50 X;\n"), "{full}");
 }
 
 #[test]

@@ -52,8 +52,8 @@ pub record NullableHubReturns (corners : Corners) : Type 0 where
       → member t.plan.hub cycle ≡ false)
       → ⊥
 
--- SPECIFICATION 18. A sheet with a name at each place where one can stand, and carried numbers: its words, its names, and its words
--- with 100 added to each name and 1000 to each carried number.
+-- SPECIFICATION 18. A sheet with a name at each place where one can stand, carried numbers and a precedence: its words, its names, and
+-- its words with 100 added to each name, 1000 to each carried number and 10 to the precedence.
 pub record MarksShown : Type 0 where
   pub is_valid : valid every_sort ≡ true
   pub words : encode every_sort
@@ -61,7 +61,7 @@ pub record MarksShown : Type 0 where
       ∷ 5 ∷ 21 ∷ 1 ∷ 1 ∷ 7 ∷ 12 ∷ 31
       ∷ 1 ∷ 22 ∷ 1 ∷ 0 ∷ 0 ∷ 0 ∷ 1 ∷ 1 ∷ 0 ∷ 13
       ∷ 2 ∷ 23 ∷ 2 ∷ 0 ∷ 0 ∷ 0 ∷ 1 ∷ 1 ∷ 2 ∷ 14
-      ∷ 3 ∷ 24 ∷ 259 ∷ 4 ∷ 15 ∷ 1 ∷ 16 ∷ 32 ∷ 17 ∷ 33
+      ∷ 3 ∷ 24 ∷ 259 ∷ 4 ∷ 15 ∷ 1 ∷ 16 ∷ 32 ∷ 17 ∷ 33 ∷ 4
       ∷ 4 ∷ 25 ∷ 4 ∷ 0 ∷ 0 ∷ 0 ∷ 18
       ∷ 5 ∷ 26 ∷ 5 ∷ 0 ∷ 0 ∷ 0
       ∷ 8 ∷ 30 ∷ 7 ∷ 0 ∷ 0 ∷ 0
@@ -70,14 +70,14 @@ pub record MarksShown : Type 0 where
       ∷ 7 ∷ 29 ∷ 4 ∷ 0 ∷ 0 ∷ 0 ∷ 20
       ∷ 2 ∷ 10 ∷ 0 ∷ 0
       ∷ 2
-      ∷ 2 ∷ 86 ∷ 1 ∷ 7 ∷ 9 ∷ 5 ∷ 2 ∷ 2 ∷ []
+      ∷ 2 ∷ 87 ∷ 1 ∷ 7 ∷ 9 ∷ 5 ∷ 2 ∷ 2 ∷ []
   pub names : names_in every_sort ≡ 11 ∷ 12 ∷ 13 ∷ 14 ∷ 15 ∷ 16 ∷ 17 ∷ 18 ∷ 19 ∷ 20 ∷ 10 ∷ []
-  pub changed : encode (on_sheet (λ n. n + 100) (λ n. n + 1000) every_sort)
+  pub changed : encode (on_sheet (λ n. n + 100) (λ n. n + 1000) (λ n. n + 10) every_sort)
       ≡ 1 ∷ 111 ∷ 2 ∷ 1
       ∷ 5 ∷ 1021 ∷ 1 ∷ 1 ∷ 7 ∷ 112 ∷ 31
       ∷ 1 ∷ 1022 ∷ 1 ∷ 0 ∷ 0 ∷ 0 ∷ 1 ∷ 1 ∷ 0 ∷ 113
       ∷ 2 ∷ 1023 ∷ 2 ∷ 0 ∷ 0 ∷ 0 ∷ 1 ∷ 1 ∷ 2 ∷ 114
-      ∷ 3 ∷ 1024 ∷ 259 ∷ 4 ∷ 115 ∷ 1 ∷ 116 ∷ 32 ∷ 117 ∷ 33
+      ∷ 3 ∷ 1024 ∷ 259 ∷ 4 ∷ 115 ∷ 1 ∷ 116 ∷ 32 ∷ 117 ∷ 33 ∷ 14
       ∷ 4 ∷ 1025 ∷ 4 ∷ 0 ∷ 0 ∷ 0 ∷ 118
       ∷ 5 ∷ 1026 ∷ 5 ∷ 0 ∷ 0 ∷ 0
       ∷ 8 ∷ 1030 ∷ 7 ∷ 0 ∷ 0 ∷ 0
@@ -86,7 +86,7 @@ pub record MarksShown : Type 0 where
       ∷ 7 ∷ 1029 ∷ 4 ∷ 0 ∷ 0 ∷ 0 ∷ 120
       ∷ 2 ∷ 110 ∷ 0 ∷ 0
       ∷ 2
-      ∷ 2 ∷ 86 ∷ 1 ∷ 7 ∷ 9 ∷ 5 ∷ 2 ∷ 2 ∷ []
+      ∷ 2 ∷ 87 ∷ 1 ∷ 7 ∷ 9 ∷ 5 ∷ 2 ∷ 2 ∷ []
 
 -- The string DOTS.
 abbrev pub dots : Word

@@ -1,5 +1,5 @@
--- A sheet with other names and other carried numbers, each name by one function and each carried number by another; and the names
--- that stand in a sheet (SPECIFICATION 18).
+-- A sheet with other names, other carried numbers and other precedences, those of each sort by one function; and the names that stand
+-- in a sheet (SPECIFICATION 18).
 use Rattle.std.specs.Prelude.{ℕ, zero, suc, List, [], ◌∷◌, ◌++◌, map}
 use Rattle.grammar.specs.Lists.{each}
 use Rattle.grammar.specs.Tree.{OptionDecl, Reference, Label, unlabelled, labelled, ElementHead, Call, Leaf, epsilon, action, predicate}
@@ -7,7 +7,7 @@ use Rattle.grammar.specs.Tree.{call, token, terminal, end_of_input, Element, lea
 use Rattle.grammar.specs.Tree.{body_depth}
 use Rattle.reference.specs.Walks.{label_names}
 
-module _ (f r : ℕ → ℕ) where
+module _ (f r pr : ℕ → ℕ) where
   abbrev pub on_option : OptionDecl → OptionDecl
   on_option o = record { name = f o.name; value = o.value }
 
@@ -29,7 +29,7 @@ module _ (f r : ℕ → ℕ) where
       }
 
   abbrev pub on_call : Call → Call
-  on_call c = record { name = f c.name; arguments = c.arguments; precedence = c.precedence }
+  on_call c = record { name = f c.name; arguments = c.arguments; precedence = pr c.precedence }
 
   unfoldable pub on_leaf : Leaf → Leaf
   on_leaf epsilon = epsilon

@@ -3,6 +3,8 @@ use Rattle.std.specs.Prelude.{ℕ, ◌≤◌, ◌≡◌, true}
 use mathlib.Core.List.{List, ◌∷◌, ◌++◌, Memᴰ}
 use Rattle.std.proofs.Math.Option.{some}
 use Rattle.grammar.specs.Lists.{AllOf, member}
+use Rattle.grammar.specs.Form.{first_form}
+use Rattle.grammar.specs.Convert.{conversion}
 use Rattle.grammar.specs.Tree.{Block, Call, ElementHead, Element, RuleOf, Rule, Sheet, body_depth}
 use Rattle.grammar.specs.Valid.{valid, fits}
 use Rattle.grammar.specs.Numbers.{parser, once}
@@ -45,6 +47,8 @@ pub record Met : Type 0 where
       × ((outcome limits c bs result trail work).number ≡ 0)
   pub plain_symbols : (bs : List ℕ) × AreBytes bs × (s : Sheet) × (read bs ≡ sheet s)
       × ((s : Sheet) → read bs ≡ sheet s → NoOptionalSymbol s.rules)
+  -- An old sheet that is converted.
+  pub a_conversion : (bs : List ℕ) × (result : List ℕ) × (work : List ℕ) × AreBytes bs × ((conversion first_form bs result work).number ≡ 0)
   -- Rules without end of input, and bytes of a sheet of such rules.
   pub no_end : (d : ℕ) × (rs : List (RuleOf (Block d))) × NoEnd d rs
   pub bytes_no_end : (bs : List ℕ) × AreBytes bs × (s : Sheet) × (read bs ≡ sheet s)
@@ -52,9 +56,11 @@ pub record Met : Type 0 where
   -- A rule in a cycle.
   pub a_member : (s : Sheet) × (valid s ≡ true) × (hub : Rule) × Memᴰ hub s.rules × (cycle : List ℕ)
       × (member hub.id cycle ≡ true)
-  -- A renaming that changes every name; two sheets that differ in carried numbers; a call that is refused behind 2.
+  -- A renaming that changes every name; two sheets that differ in carried numbers, and two in precedences; a call that is refused behind 2.
   pub a_renaming : (bs : List ℕ) × AreBytes bs × (t : Sheet) × TreeIn bs t × (f : ℕ → ℕ) × Renames f t
   pub other_carried : (bs : List ℕ) × AreBytes bs × (t : Sheet) × TreeIn bs t × (bs' : List ℕ) × AreBytes bs' × (t' : Sheet) × TreeIn bs' t'
-      × (on_sheet same none t ≡ on_sheet same none t')
+      × (on_sheet same none same t ≡ on_sheet same none same t')
+  pub other_precedences : (bs : List ℕ) × AreBytes bs × (t : Sheet) × TreeIn bs t × (bs' : List ℕ) × AreBytes bs' × (t' : Sheet)
+      × TreeIn bs' t' × (on_sheet same same none t ≡ on_sheet same same none t')
   pub a_refused_call : (limits : Limits) × (c : Corners) × (bs : List ℕ) × (result : List ℕ) × (trail : List ℕ) × (work : List ℕ)
       × AreBytes bs × (3 ≤ (outcome limits c bs result trail work).number)

@@ -1,6 +1,6 @@
 -- Runs compared (SPECIFICATION 1.15 to 1.17, 18): the pass on a sheet with other names, and on two sheets alike but for
--- carried numbers. (On its own result: `OwnResult`, in Kept.) A sheet with other names and other carried numbers is `on_sheet`
--- of the sheet.
+-- carried numbers or but for precedences. (On its own result: `OwnResult`, in Kept.) A sheet with other names, other carried numbers
+-- and other precedences is `on_sheet` of the sheet.
 use Rattle.std.specs.Prelude.{ℕ, zero, suc, ◌≡◌, List, true, take}
 use Rattle.grammar.specs.Tree.{Sheet}
 use Rattle.grammar.specs.Lists.{member}
@@ -23,19 +23,19 @@ pub record TreeIn (bs : List ℕ) (t : Sheet) : Type 0 where
   pub records : rules_of (words bs) ≡ got t.rules next
   pub is_sheet : sheet_of (words bs) t.rules ≡ t
 
--- A number left as it is, and 0 in place of each: what becomes of carried numbers, or of names.
+-- A number left as it is, and 0 in place of each: what becomes of carried numbers, of precedences, or of names.
 abbrev pub same : ℕ → ℕ
 same a = a
 
 abbrev pub none : ℕ → ℕ
 none a = 0
 
-module _ (f r : ℕ → ℕ) where
-  -- The bytes of the same sheet with other names and carried numbers. Bytes that hold no sheet stay.
+module _ (f r pr : ℕ → ℕ) where
+  -- The bytes of the same sheet with other names, carried numbers and precedences. Bytes that hold no sheet stay.
   unfoldable pub on_bytes : List ℕ → List ℕ
-  on_bytes bs = elim (read bs) [ refused n ↦ bs | sheet s ↦ bytes (encode (on_sheet f r s)) ]
+  on_bytes bs = elim (read bs) [ refused n ↦ bs | sheet s ↦ bytes (encode (on_sheet f r pr s)) ]
 
-  -- An outcome whose result has other names and carried numbers, and nothing else that is other. A refusal has no result.
+  -- An outcome whose result has other names, carried numbers and precedences, and nothing else that is other. A refusal has no result.
   unfoldable pub on_outcome : Outcome → Outcome
   on_outcome o =
       elim o.number [
@@ -61,9 +61,15 @@ module _ (limits : Limits) (c : Corners) (result trail work : List ℕ) where
   -- Renamed before the pass or after it: the same number, plans, steps and lengths, and the same bytes in every buffer.
   abbrev pub Renamed : (bs : List ℕ) → Sheet → (ℕ → ℕ) → Type 0
   Renamed bs t f =
-      outcome limits c (bytes (encode (on_sheet f same t))) result trail work ≡ on_outcome f same (outcome limits c bs result trail work)
+      outcome limits c (bytes (encode (on_sheet f same same t))) result trail work
+      ≡ on_outcome f same same (outcome limits c bs result trail work)
 
   -- The same number, plans, steps, lengths, trail and work area, and the same result once every carried number in it is 0.
   abbrev pub AlikeButCarried : (bs bs' : List ℕ) → Type 0
   AlikeButCarried bs bs' =
-      on_outcome same none (outcome limits c bs result trail work) ≡ on_outcome same none (outcome limits c bs' result trail work)
+      on_outcome same none same (outcome limits c bs result trail work) ≡ on_outcome same none same (outcome limits c bs' result trail work)
+
+  -- The same for precedences: no run looks at them.
+  abbrev pub AlikeButPrecedences : (bs bs' : List ℕ) → Type 0
+  AlikeButPrecedences bs bs' =
+      on_outcome same same none (outcome limits c bs result trail work) ≡ on_outcome same same none (outcome limits c bs' result trail work)

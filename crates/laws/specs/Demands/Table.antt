@@ -9,7 +9,8 @@ use Rattle.grammar.specs.Words.{words, bytes}
 use Rattle.grammar.specs.Encode.{encode}
 use Rattle.grammar.specs.Ids.{is_distinct, is_below}
 use Rattle.grammar.specs.Parse.{got, bad}
-use Rattle.grammar.specs.Reading.{is_trailer, rules_of, counters_of, sheet_of}
+use Rattle.grammar.specs.Form.{Form, newest}
+use Rattle.grammar.specs.Reading.{is_trailer, rules_of_in, counters_of, sheet_of}
 use Rattle.grammar.specs.Corners.{Corners}
 use Rattle.reference.specs.Substitute.{Limits}
 use Rattle.reference.specs.Run.{Stage, ended, stopped, eliminate_mutual_left_recursion, sheet_after, Outcome}
@@ -27,24 +28,32 @@ pub record Lent (result trail work : List ℕ) : Type 0 where
   pub for_trail : trail_bytes ≤ length trail
   pub for_work : work_bytes ≤ length work
 
--- The words of a sheet fail a test of the reader, the first in this order: the trailer; records and preserved ids; no two ids
--- of a sort and no two names are equal; all ids are below their counters.
-pub data Fails (ws : List ℕ) : (number : ℕ) → Type 0 where
-  trailer : is_trailer ws ≡ false → Fails ws 3
-  records : is_trailer ws ≡ true → rules_of ws ≡ bad → Fails ws 4
-  equal_ids : is_trailer ws ≡ true → {rules : List Rule} {next : ℕ} → rules_of ws ≡ got rules next → is_distinct rules ≡ false → Fails ws 5
-  high_ids : is_trailer ws ≡ true → {rules : List Rule} {next : ℕ} → rules_of ws ≡ got rules next → is_distinct rules ≡ true
-      → is_below (counters_of ws) rules ≡ false → Fails ws 6
+-- The words of a sheet of a form fail a test of the reader, the first in this order: the trailer; records and preserved ids; no two
+-- ids of a sort and no two names are equal; all ids are below their counters.
+pub data FailsIn (f : Form) (ws : List ℕ) : (number : ℕ) → Type 0 where
+  trailer : is_trailer ws ≡ false → FailsIn f ws 3
+  records : is_trailer ws ≡ true → rules_of_in f ws ≡ bad → FailsIn f ws 4
+  equal_ids : is_trailer ws ≡ true → {rules : List Rule} {next : ℕ} → rules_of_in f ws ≡ got rules next → is_distinct rules ≡ false
+      → FailsIn f ws 5
+  high_ids : is_trailer ws ≡ true → {rules : List Rule} {next : ℕ} → rules_of_in f ws ≡ got rules next → is_distinct rules ≡ true
+      → is_below (counters_of ws) rules ≡ false → FailsIn f ws 6
 
 -- They pass all of them, and are a sheet.
-pub record Passes (ws : List ℕ) (s : Sheet) : Type 0 where
+pub record PassesIn (f : Form) (ws : List ℕ) (s : Sheet) : Type 0 where
   pub trailer : is_trailer ws ≡ true
   pub rules : List Rule
   pub next : ℕ
-  pub records : rules_of ws ≡ got rules next
+  pub records : rules_of_in f ws ≡ got rules next
   pub distinct_ids : is_distinct rules ≡ true
   pub low_ids : is_below (counters_of ws) rules ≡ true
   pub is_sheet : sheet_of ws rules ≡ s
+
+-- In the newest form.
+abbrev pub Fails : List ℕ → (number : ℕ) → Type 0
+Fails = FailsIn newest
+
+abbrev pub Passes : List ℕ → Sheet → Type 0
+Passes = PassesIn newest
 
 -- What stands in a buffer: zeros alone; or words and zeros behind them.
 abbrev pub zeros : List ℕ → List ℕ

@@ -3,6 +3,8 @@ use Rattle.std.specs.Prelude.{ℕ, suc, ◌≡◌, ◌↔◌, true}
 use mathlib.Core.List.{List, [], ◌∷◌, ◌++◌, map, Memᴰ}
 use Rattle.std.proofs.Math.Option.{some}
 use Rattle.grammar.specs.Lists.{AllOf, member}
+use Rattle.grammar.specs.Form.{Form, first_form}
+use Rattle.grammar.specs.Convert.{conversion}
 use Rattle.grammar.specs.Tree.{OptionDecl, ElementHead, Call, Element, leaf, call, Block, RuleOf, Sheet, body_depth, Alternative, Rule}
 use Rattle.grammar.specs.Valid.{valid, fits}
 use Rattle.grammar.specs.Reading.{sheet, read}
@@ -49,8 +51,10 @@ use Rattle.laws.specs.Demands.Hub.{HubTold}
 use Rattle.laws.specs.Demands.Decision.{Decision}
 use Rattle.laws.specs.Demands.Refusals.{HasRoom, RefusedSo}
 use Rattle.laws.specs.Demands.Table.{Row}
+use Rattle.laws.specs.Demands.Conversion.{CodecIn, ConvertRow, ConvertReads, ConvertApart, ConvertLength, SumConverted, LengthTells}
+use Rattle.laws.specs.Demands.Conversion.{PrecedencesUnseen, CallsCopied}
 use Rattle.laws.specs.Demands.Kept.{OwnResult, EveryCall}
-use Rattle.laws.specs.Demands.Sameness.{TreeIn, same, none, Renames, Renamed, AlikeButCarried}
+use Rattle.laws.specs.Demands.Sameness.{TreeIn, same, none, Renames, Renamed, AlikeButCarried, AlikeButPrecedences}
 use Rattle.laws.specs.Demands.Marks.{on_sheet}
 use Rattle.laws.specs.Demands.WordSorts.{MarksTold}
 
@@ -65,10 +69,21 @@ pub record Theorems : Type 0 where
   pub numbers_bought : NumbersBought
   -- The format, and what is good in a sheet.
   pub format_told : FormatTold
+  -- Words and tree in every form; and the conversion of an old sheet: of every call its row, and what it means if it is on bytes.
+  pub codec_in : (f : Form) → CodecIn f
+  pub convert_row : (bs result work : List ℕ) → ConvertRow bs result work (conversion first_form bs result work)
+  pub convert_reads : (bs result work : List ℕ) → AreBytes bs → (conversion first_form bs result work).number ≡ 0
+      → ConvertReads bs result (conversion first_form bs result work)
+  pub convert_apart : (bs bs' result result' work work' : List ℕ) → AreBytes bs → AreBytes bs'
+      → ConvertApart bs bs' result result' work work'
+  pub convert_length : (bs result work : List ℕ) → ConvertLength bs result work
+  pub sum_converted : SumConverted
+  pub length_tells : LengthTells
   -- What is derived, of every sheet that the reader accepts: the first wording agrees with a second. Strings of
-  -- small grammars, and how many derivations some have.
+  -- small grammars, how many derivations some have, and that precedences are not looked at.
   pub derives_told : (s : Sheet) → valid s ≡ true → DerivesTold inner_depth s.rules
   pub strings_told : StringsTold
+  pub precedences_unseen : (f : ℕ → ℕ) (s : Sheet) → PrecedencesUnseen f s
   pub readings_counted : ReadingsCounted
   -- With a lower last name, 65,535 say, those sheets would be valid that are valid and have no name above it.
   pub names_fitted : NamesFitted
@@ -159,11 +174,13 @@ pub record Theorems : Type 0 where
   pub trail_told : (limits : Limits) (c : Corners) (s : Sheet) (stages : List Stage) → Ends limits c s stages → (t : Stage)
       → Memᴰ t stages → TrailTold t
   pub slots_kept : (p : Planned inner_depth) (i : ℕ) → SlotsKept p i
-  -- Of every plan: copies differ in ids alone, and what can be removed is. Of every run: ids in order, and rules that stay.
+  -- Of every plan: copies differ in ids alone, and what can be removed is. Of every run: ids in order, calls copied with their
+  -- precedences, and rules that stay.
   pub copies_alike : (limits : Limits) (c : Corners) (s : Sheet) (stages : List Stage) → Ends limits c s stages
       → (t : Stage) → Memᴰ t stages → CopiesAlike t
   pub fresh_ids : (limits : Limits) (c : Corners) (s : Sheet) (stages : List Stage) → fits s ≡ true → Ends limits c s stages
       → FreshIds s stages
+  pub calls_copied : (limits : Limits) (c : Corners) (s : Sheet) (stages : List Stage) → Ends limits c s stages → CallsCopied s stages
   pub rules_stay : (limits : Limits) (c : Corners) (s : Sheet) (stages : List Stage) → Ends limits c s stages → RulesStay s stages
   pub removes_most : (limits : Limits) (c : Corners) (s : Sheet) (stages : List Stage) → Ends limits c s stages
       → (t : Stage) → Memᴰ t stages → RemovesMost s.preserved t
@@ -200,8 +217,11 @@ pub record Theorems : Type 0 where
   pub renamed : (limits : Limits) (c : Corners) (result trail work bs : List ℕ) → AreBytes bs → (t : Sheet) → TreeIn bs t
       → (f : ℕ → ℕ) → Renames f t → Renamed limits c result trail work bs t f
   pub carried_apart : (limits : Limits) (c : Corners) (result trail work bs : List ℕ) → AreBytes bs → (t : Sheet) → TreeIn bs t
-      → (bs' : List ℕ) → AreBytes bs' → (t' : Sheet) → TreeIn bs' t' → on_sheet same none t ≡ on_sheet same none t'
+      → (bs' : List ℕ) → AreBytes bs' → (t' : Sheet) → TreeIn bs' t' → on_sheet same none same t ≡ on_sheet same none same t'
       → AlikeButCarried limits c result trail work bs bs'
-  -- What other names and carried numbers are: of every sheet by the sorts of its words, and of one sheet by its words.
+  pub precedences_apart : (limits : Limits) (c : Corners) (result trail work bs : List ℕ) → AreBytes bs → (t : Sheet) → TreeIn bs t
+      → (bs' : List ℕ) → AreBytes bs' → (t' : Sheet) → TreeIn bs' t' → on_sheet same same none t ≡ on_sheet same same none t'
+      → AlikeButPrecedences limits c result trail work bs bs'
+  -- What other names, carried numbers and precedences are: of every sheet by the sorts of its words, and of one sheet by its words.
   pub marks_told : (s : Sheet) → MarksTold s
   pub marks_shown : MarksShown

@@ -1,4 +1,4 @@
--- A sheet with other names and other carried numbers, told a second time, by its words: the sort of each word, record by record as
+-- A sheet with other names, carried numbers and precedences, told a second time, by its words: the sort of each word, record by record as
 -- SPECIFICATION 2.7 and 2.11 list them, and what becomes of a word of each sort (18). No definition here uses one of Marks.
 use Rattle.std.specs.Prelude.{ℕ, zero, suc, ◌≡◌, Bool, true, false, length}
 use mathlib.Core.List.{List, [], ◌∷◌, ◌++◌, map, flat_map, flatten, zip_with}
@@ -8,11 +8,12 @@ use Rattle.grammar.specs.Encode.{encode}
 use Rattle.grammar.specs.Form.{newest}
 use Rattle.laws.specs.Demands.Marks.{on_sheet, names_in}
 
--- A name, a carried number, or a word of any other sort.
+-- A name, a carried number, a call's precedence, or a word of any other sort.
 pub data Sort : Type 0 where
   kept : Sort
   name : Sort
   carried : Sort
+  precedence : Sort
 
 abbrev pub option_sorts : OptionDecl → List Sort
 option_sorts o = name ∷ kept ∷ []
@@ -29,10 +30,10 @@ label_sort (labelled i n) = name
 unfoldable pub head_sorts : ElementHead → List Sort
 head_sorts h = kept ∷ carried ∷ kept ∷ kept ∷ label_sort h.label ∷ kept ∷ flat_map option_sorts h.options
 
--- One word that is kept, where a test holds.
-abbrev pub kept_where : Bool → List Sort
-kept_where true = kept ∷ []
-kept_where false = []
+-- The word of a precedence, where there is a place for it.
+abbrev pub precedence_where : Bool → List Sort
+precedence_where true = precedence ∷ []
+precedence_where false = []
 
 -- The payload: an id, a number of references and the references; a name, arguments and, if there is a place for it, a precedence; a
 -- name; or nothing.
@@ -40,7 +41,7 @@ unfoldable pub leaf_sorts : Leaf → List Sort
 leaf_sorts epsilon = []
 leaf_sorts (action a) = kept ∷ kept ∷ flat_map reference_sorts a.references
 leaf_sorts (predicate p) = kept ∷ kept ∷ flat_map reference_sorts p.references
-leaf_sorts (call c) = name ∷ kept ∷ kept_where newest.precedences
+leaf_sorts (call c) = name ∷ kept ∷ precedence_where newest.precedences
 leaf_sorts (token n) = name ∷ []
 leaf_sorts terminal = []
 leaf_sorts end_of_input = []
@@ -70,11 +71,12 @@ sorts_of s =
     (flat_map (rule_sorts (block_sorts body_depth)) s.rules ++ map (λ i. kept) s.preserved)
     ++ (kept ∷ kept ∷ kept ∷ kept ∷ kept ∷ kept ∷ kept ∷ kept ∷ [])
 
-module _ (f r : ℕ → ℕ) where
+module _ (f r pr : ℕ → ℕ) where
   abbrev pub moved_word : Sort → ℕ → ℕ
   moved_word kept w = w
   moved_word name w = f w
   moved_word carried w = r w
+  moved_word precedence w = pr w
 
   -- Each word as its sort says.
   unfoldable pub moved : List Sort → List ℕ → List ℕ
@@ -84,14 +86,15 @@ abbrev pub if_name : Sort → ℕ → List ℕ
 if_name kept w = []
 if_name name w = w ∷ []
 if_name carried w = []
+if_name precedence w = []
 
 -- The words that are names, in their order.
 unfoldable pub names_among : List Sort → List ℕ → List ℕ
 names_among ss ws = flatten (zip_with if_name ss ws)
 
--- Each word has a sort; `on_sheet` changes the names by one function, the carried numbers by another, and no other word; `names_in` lists
--- the names. So both are held to the words of a sheet.
+-- Each word has a sort; `on_sheet` changes names, carried numbers and precedences, each sort by a function of its own, and no other word;
+-- `names_in` lists the names. So both are held to the words of a sheet.
 pub record MarksTold (s : Sheet) : Type 0 where
   pub one_each : length (sorts_of s) ≡ length (encode s)
-  pub words : (f r : ℕ → ℕ) → encode (on_sheet f r s) ≡ moved f r (sorts_of s) (encode s)
+  pub words : (f r pr : ℕ → ℕ) → encode (on_sheet f r pr s) ≡ moved f r pr (sorts_of s) (encode s)
   pub names : names_in s ≡ names_among (sorts_of s) (encode s)

@@ -4,6 +4,7 @@ use Rattle.std.proofs.Math.Bool.{and-true}
 use Rattle.std.proofs.Common.{arith, le-leb}
 use Rattle.grammar.specs.Numbers.{most_name}
 use Rattle.laws.specs.Demands.Numbers.{NumbersBought}
+use Rattle.laws.specs.Demands.Sameness.{same, none}
 use Rattle.laws.specs.Demands.Theorems.{Theorems}
 use Rattle.laws.specs.Validity.Names.{names_fitted_lem}
 use Rattle.laws.specs.Running.Readings.{plan_readings_lem}
@@ -16,6 +17,7 @@ use Rattle.laws.specs.Lists.Told.{lists_told_lem}
 use Rattle.laws.specs.Format.Told.{format_told_lem}
 use Rattle.laws.specs.Derivation.Same.{sheet_derives}
 use Rattle.laws.specs.Derivation.Strings.{strings_told_lem}
+use Rattle.laws.specs.Derivation.Unseen.{precedences_unseen_lem}
 use Rattle.laws.specs.Derivation.Counted.{readings_counted_lem}
 use Rattle.laws.specs.Derivation.Corners.{sheet_left_corners}
 use Rattle.laws.specs.Planning.PlanCycle.{decision}
@@ -52,8 +54,11 @@ use Rattle.laws.specs.Proved.Applied.{one_origin_each, removes_all, copies_alike
 use Rattle.laws.specs.Proved.Answered.{answered}
 use Rattle.laws.specs.Proved.Refusals.{stage_room, refused_so_lem}
 use Rattle.laws.specs.Proved.Table.{table}
+use Rattle.laws.specs.Proved.Conversion.{codec_in_lem, convert_row_lem, convert_reads_lem, convert_apart_lem, convert_length_lem}
+use Rattle.laws.specs.Proved.Conversion.{sum_converted_lem, length_tells_lem}
+use Rattle.laws.specs.Running.Copied.{calls_copied_lem}
 use Rattle.laws.specs.Proved.Kept.{own_result_lem, every_call_lem}
-use Rattle.laws.specs.Sameness.Outcomes.{renamed, carried_alike}
+use Rattle.laws.specs.Sameness.Outcomes.{renamed, others_alike}
 use Rattle.laws.specs.Sameness.Sorts.{marks_told_lem, marks_shown_lem}
 
 numbers_bought_lem : NumbersBought
@@ -128,8 +133,16 @@ theorems =
       lists_told = lists_told_lem;
       numbers_bought = numbers_bought_lem;
       format_told = format_told_lem;
+      codec_in = codec_in_lem;
+      convert_row = convert_row_lem;
+      convert_reads = convert_reads_lem;
+      convert_apart = convert_apart_lem;
+      convert_length = convert_length_lem;
+      sum_converted = sum_converted_lem;
+      length_tells = length_tells_lem;
       derives_told = sheet_derives;
       strings_told = strings_told_lem;
+      precedences_unseen = precedences_unseen_lem;
       readings_counted = readings_counted_lem;
       names_fitted = names_fitted_lem;
       empty_derivation = sheet_empty;
@@ -189,6 +202,7 @@ theorems =
       copies_alike = λ limits c s ts r. copies_alike_lem limits c s r.0 ts r.1;
       fresh_ids = λ limits c s ts f r. fresh_ids_lem limits c s r.0 ts r.1 f;
       removes_most = λ limits c s ts r. removes_all limits c s r.0 ts r.1;
+      calls_copied = λ limits c s ts r. calls_copied_lem limits c s ts r.1;
       rules_stay = λ limits c s ts r. rules_as_they_were limits c s r.0 ts r.1;
       facts_stay = λ limits c s ts r. facts_stay_lem limits c s (valid_told s r.0) ts r.1;
       comes_back = other_units;
@@ -201,7 +215,8 @@ theorems =
       every_call = every_call_lem;
       own_result = own_result_lem;
       renamed = renamed;
-      carried_apart = carried_alike;
+      carried_apart = λ limits c result trail work. others_alike limits c result trail work none same;
+      precedences_apart = λ limits c result trail work. others_alike limits c result trail work same none;
       marks_told = marks_told_lem;
       marks_shown = marks_shown_lem;
     }

@@ -7,7 +7,7 @@ use Rattle.std.proofs.Math.ListN.{take}
 use Rattle.grammar.specs.Form.{newest}
 use Rattle.grammar.specs.Tree.{Rule, Sheet}
 use Rattle.grammar.specs.Words.{words, bytes}
-use Rattle.grammar.specs.Reading.{sheet, read, judge, read_in, read_words_in}
+use Rattle.grammar.specs.Reading.{sheet, read}
 use Rattle.grammar.specs.Corners.{Corners, rust, textbook}
 use Rattle.grammar.specs.Laws.Words.{AreBytes, words_bytes, in_words}
 use Rattle.grammar.specs.Laws.Codec.{accepted_valid}
@@ -24,7 +24,7 @@ use Rattle.laws.specs.Proved.Refusals.{refused_so_lem}
 use Rattle.std.proofs.Math.Bool.{true, false}
 use Rattle.laws.specs.Demands.Shape.{Elements, NoOptionalSymbol, NoLeftCorner, OnlyPastSymbols}
 use Rattle.laws.specs.Demands.Run.{Demand3}
-use Rattle.laws.specs.Demands.Table.{GoodLength, Fails, trailer, records, equal_ids, high_ids, Passes, trail_words, Delivered, Row}
+use Rattle.laws.specs.Demands.Table.{trail_words, Delivered, Row}
 use Rattle.laws.specs.Demands.Table.{bad_length, not_lent, not_read, not_ended, is_ended}
 use Rattle.laws.specs.Demands.Kept.{same_bytes, OwnResult, Kept, KeptRust, Bought, EveryCall}
 use Rattle.laws.specs.Running.Leaves.{Told}
@@ -38,7 +38,7 @@ use Rattle.laws.specs.Proved.Applied.{one_origin_each}
 use Rattle.laws.specs.Proved.Demand3.{bound, preserved_rules_stay}
 use Rattle.laws.specs.Proved.OtherUnits.{other_outcome}
 use Rattle.laws.specs.Sameness.Again.{again}
-use Rattle.laws.specs.Proved.Table.{length_good, lent_are, filled_none, trail_words_lem, trail_entries, table}
+use Rattle.laws.specs.Proved.Table.{passes_reads, fails_number, lent_are, filled_none, trail_words_lem, trail_entries, table}
 
 -- A buffer filled with nothing is zeros.
 nothing_else : (bs result trail work : List ℕ)
@@ -65,19 +65,6 @@ nothing_else bs result trail work =
       work = w;
     }) (filled_none trail) (filled_none work)
 
--- What passes the reader's tests is read.
-passes_reads : (bs : List ℕ) (s : Sheet) → GoodLength bs → Passes (words bs) s → read bs ≡ sheet s
-unfolding read_in read_words_in judge
-passes_reads bs s g p =
-    rw (length_good bs g, read_in)
-    (rw (p.trailer, read_words_in) (rw (p.records, judge) (rw (p.distinct_ids, p.low_ids) (ap sheet p.is_sheet))))
-
-fails_number : {ws : List ℕ} {n : ℕ} → Fails ws n → 1 ≤ n
-fails_number (trailer t) = omega arith
-fails_number (records t r) = omega arith
-fails_number (equal_ids t r d) = omega arith
-fails_number (high_ids t r d b) = omega arith
-
 module _ (limits : Limits) (bs : List ℕ) (b : AreBytes bs) (result trail work : List ℕ) (o : Outcome) where
   -- A run that ended and was delivered, by either reading.
   record Came (c : Corners) : Type 0 where
@@ -97,7 +84,7 @@ module _ (limits : Limits) (bs : List ℕ) (b : AreBytes bs) (result trail work 
   row_came c (not_ended g l p {n = n} u x e) z =
       never n (⊎_elim (λ y. omega arith) (⊎_elim (λ y. omega arith) (λ y. omega arith)) x) (ap (λ o. o.number) e) z
   row_came c (is_ended g l {s = s} p {stages = ts} u d) z =
-      record { handed_in = s; reads = passes_reads bs s g p; stages = ts; run = u; is_delivered = d }
+      record { handed_in = s; reads = passes_reads newest bs s g p; stages = ts; run = u; is_delivered = d }
 
   module _ (c : Corners) (x : Came c) where
     abbrev s : Sheet

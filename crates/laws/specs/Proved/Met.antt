@@ -26,17 +26,20 @@ use Rattle.reference.specs.Run.{Stage, eliminate_mutual_left_recursion, sheet_af
 use Rattle.reference.specs.Run.{answer, refusal, answer_run, answer_reading, answer_to, Outcome, are_lent, delivered, outcome}
 use Rattle.reference.specs.Computed.{computed}
 use Rattle.reference.specs.Written.{counted}
-use Rattle.laws.specs.Examples.{returning}
+use Rattle.laws.specs.Examples.{returning, sum_of_before}
 use Rattle.laws.specs.Demands.End.{NotEnd, NoEnd}
 use Rattle.laws.specs.Demands.Shape.{NoOptionalSymbol}
 use Rattle.laws.specs.Demands.Run.{rules_of}
 use Rattle.laws.specs.Demands.Table.{Lent}
-use Rattle.laws.specs.Demands.Marks.{on_element, on_leaf, on_block, on_sheet, element_names, names_of_leaf, block_names, names_in}
-use Rattle.laws.specs.Demands.Sameness.{TreeIn, same, none, Renames}
+use Rattle.laws.specs.Demands.Marks.{element_names, names_of_leaf, block_names, names_in}
+use Rattle.laws.specs.Demands.Sameness.{Renames}
 use Rattle.laws.specs.Demands.Theorems.{Ends}
 use Rattle.laws.specs.Demands.Met.{Met}
 use Rattle.laws.specs.BothReadings.Sheets.{stages_of, nullable_hub_returns_lem}
-use Rattle.laws.specs.Proved.Table.{good_length_lem, lent_are}
+use Rattle.laws.specs.Proved.Table.{lent_are}
+use Rattle.laws.specs.Proved.Others.{returning_bytes, tree_returning, carried_five, tree_five, same_but_carried, raised, tree_raised}
+use Rattle.laws.specs.Proved.Others.{same_but_precedences}
+use Rattle.laws.specs.Proved.Conversion.{sum_number}
 use Rattle.laws.specs.Proved.Kept.{every_call_lem}
 use Rattle.laws.specs.Sameness.Again.{bytes_are}
 
@@ -69,9 +72,6 @@ one_textbook = (_, refl)
 joined : (t : Stage) × Memᴰ t (stages_by rust) × (q : Rule) × Memᴰ q (rules_of returning (stages_by rust)) × (q.id ≡ t.plan.hub)
 unfolding computed
 joined = (_, Memᴰ.head refl, _, Memᴰ.head refl, refl)
-
-abbrev returning_bytes : List ℕ
-returning_bytes = bytes (encode returning)
 
 reads_returning : read returning_bytes ≡ sheet returning
 reads_returning = reads_back_lem newest returning valid_returning fits_returning
@@ -149,23 +149,6 @@ number_0 =
     ap (λ (o : Outcome). o.number)
     ((every_call_lem standard rust (bytes (encode bare)) (lent_zeros result_bytes) (lent_zeros trail_bytes) (lent_zeros work_bytes)
     (bytes_are (encode bare))).other_units zeros_lent bare reads_bare not_parser)
-
--- Its tree stands in its bytes, and so does that with other carried numbers.
-tree_returning : TreeIn returning_bytes returning
-unfolding computed
-tree_returning = record { good_length = good_length_lem returning_bytes refl; trailer = refl; next = _; records = refl; is_sheet = refl }
-
-abbrev carried_five : Sheet
-carried_five = on_sheet same (λ n. 5) returning
-
-tree_five : TreeIn (bytes (encode carried_five)) carried_five
-unfolding computed on_sheet on_block on_element on_leaf
-tree_five =
-    record { good_length = good_length_lem (bytes (encode carried_five)) refl; trailer = refl; next = _; records = refl; is_sheet = refl }
-
-same_but_carried : on_sheet same none returning ≡ on_sheet same none carried_five
-unfolding computed on_sheet on_block on_element on_leaf
-same_but_carried = refl
 
 -- Every name is 1 or 2, and 7 more is a name.
 names_returning : names_in returning ≡ 1 ∷ 2 ∷ 2 ∷ 1 ∷ 2 ∷ []
@@ -260,6 +243,16 @@ met =
         not_parser,
         number_0,
       );
+      a_conversion = (
+        bytes sum_of_before,
+        lent_zeros result_bytes,
+        lent_zeros work_bytes,
+        bytes_are sum_of_before,
+        sum_number (lent_zeros result_bytes) (lent_zeros work_bytes) (record {
+          for_result = zeros_lent.for_result;
+          for_work = zeros_lent.for_work;
+        }),
+      );
       no_end = (body_depth, returning.rules, no_end_returning);
       bytes_no_end = (returning_bytes, bytes_are (encode returning), returning, reads_returning, no_end_read);
       a_member = (returning, valid_returning, _, Memᴰ.head refl, 1 ∷ 2 ∷ [], first_member);
@@ -274,6 +267,17 @@ met =
         carried_five,
         tree_five,
         same_but_carried,
+      );
+      other_precedences = (
+        returning_bytes,
+        bytes_are (encode returning),
+        returning,
+        tree_returning,
+        bytes (encode raised),
+        bytes_are (encode raised),
+        raised,
+        tree_raised,
+        same_but_precedences,
       );
       a_refused_call = (
         standard,

@@ -9,14 +9,14 @@ use Rattle.std.proofs.Math.Dec.{leb}
 use Rattle.std.proofs.lemmas.Bool.{and_from}
 use Rattle.std.specs.Cmp.{first_so, second_so}
 use borrow.Author.Tests.{leb-true, le-leb, eqb-true, eq-eqb}
-use Rattle.grammar.specs.Form.{newest}
+use Rattle.grammar.specs.Form.{Form, newest}
 use Rattle.grammar.specs.Lists.{each, total}
 use Rattle.grammar.specs.Tree.{Rule, Sheet, Counters}
 use Rattle.grammar.specs.Words.{words, bytes}
 use Rattle.grammar.specs.Encode.{encode}
 use Rattle.grammar.specs.Ids.{is_distinct, is_below}
 use Rattle.grammar.specs.Parse.{Got, got, bad}
-use Rattle.grammar.specs.Reading.{Reading, refused, sheet, is_length, is_trailer, rules_of, counters_of, sheet_of, judge, read_words, read}
+use Rattle.grammar.specs.Reading.{Reading, refused, sheet, is_length, is_trailer, rules_of_in, counters_of, sheet_of, judge, read}
 use Rattle.grammar.specs.Reading.{read_in, read_words_in}
 use Rattle.grammar.specs.Corners.{Corners}
 use Rattle.grammar.specs.Laws.Lists.{each_append}
@@ -31,7 +31,8 @@ use Rattle.reference.specs.Run.{outcome}
 use Rattle.graph.specs.Entries.{entries_long}
 use Rattle.grammar.specs.Numbers.{least_bytes, most_bytes, result_bytes, trail_bytes, work_bytes, most_words}
 use Rattle.grammar.specs.Numbers.{short_buffer, bad_trailer, shared_number, id_past_counter}
-use Rattle.laws.specs.Demands.Table.{GoodLength, Lent, Fails, trailer, records, equal_ids, high_ids, Passes, zeros, Holds, trail_words}
+use Rattle.laws.specs.Demands.Table.{GoodLength, Lent, FailsIn, trailer, records, equal_ids, high_ids, PassesIn, Passes, zeros}
+use Rattle.laws.specs.Demands.Table.{Holds, trail_words}
 use Rattle.laws.specs.Demands.Table.{Delivered, cleared, Row, bad_length, not_lent, not_read, not_ended, is_ended}
 use Rattle.laws.specs.Running.Refused.{Refused, for_ids, for_length, is_refused}
 use Rattle.laws.specs.Running.Stages.{sheet_ends}
@@ -71,22 +72,22 @@ module _ (result trail work : List ℕ) where
       (and_from _ _ (le-leb trail_bytes (length trail) l.for_trail) (le-leb work_bytes (length work) l.for_work))
 
 -- The reader's tests.
-abbrev Judged : List ℕ → Reading → Type 0
-Judged ws (refused n) = Fails ws n
-Judged ws (sheet s) = Passes ws s
+abbrev pub Judged : Form → List ℕ → Reading → Type 0
+Judged f ws (refused n) = FailsIn f ws n
+Judged f ws (sheet s) = PassesIn f ws s
 
-judged : (ws : List ℕ) → Judged ws (read_words ws)
+judged : (f : Form) (ws : List ℕ) → Judged f ws (read_words_in f ws)
 unfolding read_words_in judge
-judged ws = whole (is_trailer ws) refl
+judged f ws = whole (is_trailer ws) refl
   where
-    low : is_trailer ws ≡ true → (rs : List Rule) (q : ℕ) → rules_of ws ≡ got rs q → is_distinct rs ≡ true → (b : Bool)
+    low : is_trailer ws ≡ true → (rs : List Rule) (q : ℕ) → rules_of_in f ws ≡ got rs q → is_distinct rs ≡ true → (b : Bool)
         → is_below (counters_of ws) rs ≡ b
-        → Judged ws (elim b as (λ x. Reading) [ false ↦ refused id_past_counter | true ↦ sheet (sheet_of ws rs) ])
+        → Judged f ws (elim b as (λ x. Reading) [ false ↦ refused id_past_counter | true ↦ sheet (sheet_of ws rs) ])
     low t rs q r d true k = record { trailer = t; rules = rs; next = q; records = r; distinct_ids = d; low_ids = k; is_sheet = refl }
     low t rs q r d false k = high_ids t r d k
 
-    apart : is_trailer ws ≡ true → (rs : List Rule) (q : ℕ) → rules_of ws ≡ got rs q → (b : Bool) → is_distinct rs ≡ b
-        → Judged ws (elim b as (λ x. Reading) [
+    apart : is_trailer ws ≡ true → (rs : List Rule) (q : ℕ) → rules_of_in f ws ≡ got rs q → (b : Bool) → is_distinct rs ≡ b
+        → Judged f ws (elim b as (λ x. Reading) [
           | false ↦ refused shared_number
           | true ↦ elim (is_below (counters_of ws) rs) as (λ x. Reading)
               [ false ↦ refused id_past_counter | true ↦ sheet (sheet_of ws rs) ]
@@ -94,14 +95,31 @@ judged ws = whole (is_trailer ws) refl
     apart t rs q r true d = low t rs q r d (is_below (counters_of ws) rs) refl
     apart t rs q r false d = equal_ids t r d
 
-    found : is_trailer ws ≡ true → (g : Got (List Rule)) → rules_of ws ≡ g → Judged ws (judge ws g)
+    found : is_trailer ws ≡ true → (g : Got (List Rule)) → rules_of_in f ws ≡ g → Judged f ws (judge ws g)
     found t bad r = records t r
     found t (got rs q) r = apart t rs q r (is_distinct rs) refl
 
-    whole : (b : Bool) → is_trailer ws ≡ b → Judged ws
-        (elim b as (λ x. Reading) [ false ↦ refused bad_trailer | true ↦ judge ws (rules_of ws) ])
-    whole true t = found t (rules_of ws) refl
+    whole : (b : Bool) → is_trailer ws ≡ b → Judged f ws
+        (elim b as (λ x. Reading) [ false ↦ refused bad_trailer | true ↦ judge ws (rules_of_in f ws) ])
+    whole true t = found t (rules_of_in f ws) refl
     whole false t = trailer t
+
+pub read_judged : (f : Form) (bs : List ℕ) → is_length (length bs) ≡ true → Judged f (words bs) (read_in f bs)
+unfolding read_in
+read_judged f bs t = rw (t, read_in) (judged f (words bs))
+
+-- What passes the reader's tests is read, and a number of what fails is none.
+pub passes_reads : (f : Form) (bs : List ℕ) (s : Sheet) → GoodLength bs → PassesIn f (words bs) s → read_in f bs ≡ sheet s
+unfolding read_in read_words_in judge
+passes_reads f bs s g p =
+    rw (length_good bs g, read_in)
+    (rw (p.trailer, read_words_in) (rw (p.records, judge) (rw (p.distinct_ids, p.low_ids) (ap sheet p.is_sheet))))
+
+pub fails_number : {f : Form} {ws : List ℕ} {n : ℕ} → FailsIn f ws n → 1 ≤ n
+fails_number (trailer t) = omega arith
+fails_number (records t r) = omega arith
+fails_number (equal_ids t r d) = omega arith
+fails_number (high_ids t r d b) = omega arith
 
 -- What a buffer holds that was filled.
 pub holds : (ws before : List ℕ) → 4 * length ws ≤ length before → Holds ws before (filled (bytes ws) before)
@@ -195,15 +213,11 @@ module _ (limits : Limits) (corners : Corners) (bs result trail work : List ℕ)
   running g l s k p (ended ts) u = is_ended g l p u (ended_delivered g l s k ts u)
   running g l s k p (stopped ts n) u = not_ended g l p u (stop_numbers limits corners s ts n u) (cleared_all n)
 
-  reading : GoodLength bs → Lent result trail work → (r : Reading) → read bs ≡ r → Judged (words bs) r
+  reading : GoodLength bs → Lent result trail work → (r : Reading) → read bs ≡ r → Judged newest (words bs) r
       → Row limits corners bs result trail work (delivered result trail work (answer_reading limits corners r))
   unfolding answer_reading
   reading g l (refused n) k p = not_read g l p (cleared_all n)
   reading g l (sheet s) k p = running g l s k p (eliminate_mutual_left_recursion limits corners s) refl
-
-  read_judged : is_length (length bs) ≡ true → Judged (words bs) (read bs)
-  unfolding read_in
-  read_judged t = rw (t, read_in) (judged (words bs))
 
   pub table : Row limits corners bs result trail work (outcome limits corners bs result trail work)
   unfolding outcome untouched answer_to
@@ -216,7 +230,7 @@ module _ (limits : Limits) (corners : Corners) (bs result trail work : List ℕ)
             | true ↦ delivered result trail work
                 (answer_to limits corners bs)
           ])
-      room t true l = reading (good_length_lem bs t) (are_lent_lem result trail work l) (read bs) refl (read_judged t)
+      room t true l = reading (good_length_lem bs t) (are_lent_lem result trail work l) (read bs) refl (read_judged newest bs t)
       room t false l = not_lent (good_length_lem bs t) (λ k. true≢false (sym (lent_are result trail work k) ∙ l)) refl
 
       sized : (b : Bool) → is_length (length bs) ≡ b

@@ -14,29 +14,30 @@ use Rattle.laws.specs.Sameness.Marked.{on_rules, ids_on}
 use Rattle.laws.specs.Sameness.Walks.{member_names}
 use Rattle.laws.specs.Sameness.Ids.{block_ids_lem}
 
-module _ (f r : ℕ → ℕ) (one : (a b : ℕ) → f a ≡ f b → a ≡ b) where
+module _ (f r pr : ℕ → ℕ) (one : (a b : ℕ) → f a ≡ f b → a ≡ b) where
   abbrev on_all : List Rule → List Rule
-  on_all = on_rules f r one body_depth
+  on_all = on_rules f r pr one body_depth
 
   -- Names told apart as before are as distinct, and ids are as they were.
   distinct_names : (xs : List ℕ) → distinct (map f xs) ≡ distinct xs
   unfolding distinct
   distinct_names [] = refl
-  distinct_names (x ∷ xs) = ap₂ (λ a b. not a && b) (member_names f r one x xs) (distinct_names xs)
+  distinct_names (x ∷ xs) = ap₂ (λ a b. not a && b) (member_names f r pr one x xs) (distinct_names xs)
 
   names_all : (rs : List Rule) → rule_names (on_all rs) ≡ map f (rule_names rs)
-  names_all rs = map-map (λ q. q.name) (on_rule f r (on_block f r body_depth)) rs ∙ sym (map-map f (λ q. q.name) rs)
+  names_all rs = map-map (λ q. q.name) (on_rule f r pr (on_block f r pr body_depth)) rs ∙ sym (map-map f (λ q. q.name) rs)
 
   body_ids_lem : (sort : ℕ) (rs : List Rule) → body_ids sort (on_all rs) ≡ body_ids sort rs
   body_ids_lem sort rs =
-      each_same (on_rule f r (on_block f r body_depth)) (λ q. block_ids sort body_depth q.body) (λ q. block_ids sort body_depth q.body)
-      (λ q. block_ids_lem f r sort body_depth q.body) rs
+      each_same (on_rule f r pr (on_block f r pr body_depth)) (λ q. block_ids sort body_depth q.body)
+      (λ q. block_ids sort body_depth q.body)
+      (λ q. block_ids_lem f r pr sort body_depth q.body) rs
 
   -- No number is shared where none was, and none is past its counter where none was.
   pub distinct_on : (rs : List Rule) → is_distinct (on_all rs) ≡ is_distinct rs
   unfolding is_distinct
   distinct_on rs =
-      ap₂ ◌&&◌ (ap distinct (ids_on f r one body_depth rs))
+      ap₂ ◌&&◌ (ap distinct (ids_on f r pr one body_depth rs))
       (ap₂ ◌&&◌ (ap distinct (names_all rs) ∙ distinct_names (rule_names rs))
       (ap₂ ◌&&◌ (ap distinct (body_ids_lem alternative_sort rs))
       (ap₂ ◌&&◌ (ap distinct (body_ids_lem element_sort rs))

@@ -29,7 +29,7 @@ use Rattle.laws.specs.Demands.Marks.{on_option, on_head, on_call, on_leaf, on_el
 abbrev skip : Bool → List ℕ → List ℕ
 skip b z = elim b [ true ↦ z | false ↦ [] ]
 
-module _ (f r : ℕ → ℕ) (one : (a b : ℕ) → f a ≡ f b → a ≡ b) where
+module _ (f r pr : ℕ → ℕ) (one : (a b : ℕ) → f a ≡ f b → a ≡ b) where
   -- Names are equal exactly where they were.
   pub same_names : (a b : ℕ) → eqb (f a) (f b) ≡ eqb a b
   same_names a b =
@@ -45,10 +45,10 @@ module _ (f r : ℕ → ℕ) (one : (a b : ℕ) → f a ≡ f b → a ≡ b) whe
   on_grammar g = record { names = map on_name g.names; nullable = g.nullable }
 
   abbrev pub on_rules : (d : ℕ) → List (RuleOf (Block d)) → List (RuleOf (Block d))
-  on_rules d = map (on_rule f r (on_block f r d))
+  on_rules d = map (on_rule f r pr (on_block f r pr d))
 
   names_on : (d : ℕ) (rs : List (RuleOf (Block d))) → map name_of (on_rules d rs) ≡ map on_name (map name_of rs)
-  names_on d rs = map-map name_of (on_rule f r (on_block f r d)) rs ∙ sym (map-map on_name name_of rs)
+  names_on d rs = map-map name_of (on_rule f r pr (on_block f r pr d)) rs ∙ sym (map-map on_name name_of rs)
 
   -- A name has the rule that it had.
   pub target_on : (g : Grammar) (n : ℕ) → target (on_grammar g) (f n) ≡ target g n
@@ -66,7 +66,7 @@ module _ (f r : ℕ → ℕ) (one : (a b : ℕ) → f a ≡ f b → a ≡ b) whe
 
   -- What can be empty is the same.
   module _ (g : Grammar) where
-    leaf_on : (l : Leaf) → leaf_nullable (on_grammar g) (on_leaf f r l) ≡ leaf_nullable g l
+    leaf_on : (l : Leaf) → leaf_nullable (on_grammar g) (on_leaf f r pr l) ≡ leaf_nullable g l
     unfolding leaf_nullable sort_of is_end on_leaf
     leaf_on epsilon = refl
     leaf_on (action a) = refl
@@ -77,24 +77,24 @@ module _ (f r : ℕ → ℕ) (one : (a b : ℕ) → f a ≡ f b → a ≡ b) whe
     leaf_on end_of_input = refl
 
     module _ {B : Type 0} (on_b : B → B) (test test' : B → Bool) (h : (b : B) → test' (on_b b) ≡ test b) where
-      pub element_on : (e : Element B) → element_nullable (on_grammar g) test' (on_element f r on_b e) ≡ element_nullable g test e
+      pub element_on : (e : Element B) → element_nullable (on_grammar g) test' (on_element f r pr on_b e) ≡ element_nullable g test e
       unfolding element_nullable on_element
       element_on (leaf x l) = ap (λ z. is_optional x || z) (leaf_on l)
       element_on (block x b) = ap (λ z. is_optional x || z) (h b)
 
       pub elements_on : (es : List (Element B))
-          → all (element_nullable (on_grammar g) test') (map (on_element f r on_b) es) ≡ all (element_nullable g test) es
-      elements_on = all_same (on_element f r on_b) (element_nullable (on_grammar g) test') (element_nullable g test) element_on
+          → all (element_nullable (on_grammar g) test') (map (on_element f r pr on_b) es) ≡ all (element_nullable g test) es
+      elements_on = all_same (on_element f r pr on_b) (element_nullable (on_grammar g) test') (element_nullable g test) element_on
 
-    pub block_on : (d : ℕ) (b : Block d) → block_is_nullable (on_grammar g) d (on_block f r d b) ≡ block_is_nullable g d b
+    pub block_on : (d : ℕ) (b : Block d) → block_is_nullable (on_grammar g) d (on_block f r pr d b) ≡ block_is_nullable g d b
     unfolding block_is_nullable on_block
     block_on zero b = absurd b
     block_on (suc d) as' =
-        any_same (on_alternative f r (on_block f r d)) _ (λ a. all (element_nullable g (block_is_nullable g d)) a.elements)
-        (λ a. elements_on (on_block f r d) (block_is_nullable g d) (block_is_nullable (on_grammar g) d) (block_on d) a.elements) as'
+        any_same (on_alternative f r pr (on_block f r pr d)) _ (λ a. all (element_nullable g (block_is_nullable g d)) a.elements)
+        (λ a. elements_on (on_block f r pr d) (block_is_nullable g d) (block_is_nullable (on_grammar g) d) (block_on d) a.elements) as'
 
     -- Left corners are of the same rules.
-    pub calls_on : (l : Leaf) → calls (on_grammar g) (on_leaf f r l) ≡ calls g l
+    pub calls_on : (l : Leaf) → calls (on_grammar g) (on_leaf f r pr l) ≡ calls g l
     unfolding calls sort_of on_leaf
     calls_on epsilon = refl
     calls_on (action a) = refl
@@ -104,7 +104,7 @@ module _ (f r : ℕ → ℕ) (one : (a b : ℕ) → f a ≡ f b → a ≡ b) whe
     calls_on terminal = refl
     calls_on end_of_input = refl
 
-    stop_on : (c : Corners) (l : Leaf) → is_stop c (on_grammar g) (on_leaf f r l) ≡ is_stop c g l
+    stop_on : (c : Corners) (l : Leaf) → is_stop c (on_grammar g) (on_leaf f r pr l) ≡ is_stop c g l
     unfolding is_stop sort_of is_end on_leaf
     stop_on textbook l = refl
     stop_on rust epsilon = refl
@@ -118,7 +118,7 @@ module _ (f r : ℕ → ℕ) (one : (a b : ℕ) → f a ≡ f b → a ≡ b) whe
     module _ (c : Corners) {B : Type 0} (on_b : B → B) (corners : B → List ℕ) (corners' : B → List ℕ) (test test' : B → Bool)
         (h : (b : B) → corners' (on_b b) ≡ corners b) (k : (b : B) → test' (on_b b) ≡ test b) where
       pub corners_on : (es : List (Element B))
-          → collect_left_corner_calls c (on_grammar g) corners' test' (map (on_element f r on_b) es)
+          → collect_left_corner_calls c (on_grammar g) corners' test' (map (on_element f r pr on_b) es)
           ≡ collect_left_corner_calls c g corners test es
       unfolding collect_left_corner_calls on_element element_nullable
       corners_on [] = refl
@@ -127,22 +127,23 @@ module _ (f r : ℕ → ℕ) (one : (a b : ℕ) → f a ≡ f b → a ≡ b) whe
           (ap (λ z. calls g l ++ skip (not (is_stop c g l) && (is_optional x || leaf_nullable g l)) z) (corners_on es))
       corners_on (block x b ∷ es) = rw (h b, k b) (ap (λ z. corners b ++ skip (is_optional x || test b) z) (corners_on es))
 
-    pub block_corners_on : (c : Corners) (d : ℕ) (b : Block d) → block_corners c (on_grammar g) d (on_block f r d b) ≡ block_corners c g d b
+    pub block_corners_on : (c : Corners) (d : ℕ) (b : Block d)
+        → block_corners c (on_grammar g) d (on_block f r pr d b) ≡ block_corners c g d b
     unfolding block_corners on_block
     block_corners_on c zero b = absurd b
     block_corners_on c (suc d) as' =
-        each_same (on_alternative f r (on_block f r d)) _
+        each_same (on_alternative f r pr (on_block f r pr d)) _
         (λ a. collect_left_corner_calls c g (block_corners c g d) (block_is_nullable g d) a.elements)
-        (λ a. corners_on c (on_block f r d) (block_corners c g d) (block_corners c (on_grammar g) d) (block_is_nullable g d)
+        (λ a. corners_on c (on_block f r pr d) (block_corners c g d) (block_corners c (on_grammar g) d) (block_is_nullable g d)
         (block_is_nullable (on_grammar g) d) (block_corners_on c d) (block_on d) a.elements) as'
 
     rows_on : (c : Corners) (d : ℕ) (rs : List (RuleOf (Block d))) → map (row_of c (on_grammar g) d) (on_rules d rs) ≡ map (row_of c g d) rs
     rows_on c d rs =
-        map-map (row_of c (on_grammar g) d) (on_rule f r (on_block f r d)) rs
+        map-map (row_of c (on_grammar g) d) (on_rule f r pr (on_block f r pr d)) rs
         ∙ ap (λ row. map row rs) (fun_ext (λ q. ap (λ (to : List ℕ). record { id = q.id; to = to }) (block_corners_on c d q.body)))
 
   pub ids_on : (d : ℕ) (rs : List (RuleOf (Block d))) → ids_of (on_rules d rs) ≡ ids_of rs
-  ids_on d rs = map-map (λ q. q.id) (on_rule f r (on_block f r d)) rs
+  ids_on d rs = map-map (λ q. q.id) (on_rule f r pr (on_block f r pr d)) rs
 
   pub cycles_on : (g : Grammar) (c : Corners) (d : ℕ) (rs : List (RuleOf (Block d)))
       → left_corner_cycles c (on_grammar g) d (on_rules d rs) ≡ left_corner_cycles c g d rs
@@ -150,9 +151,10 @@ module _ (f r : ℕ → ℕ) (one : (a b : ℕ) → f a ≡ f b → a ≡ b) whe
   cycles_on g c d rs = ap₂ (λ rows is. cycles_from (reach rows) (sorted is)) (rows_on g c d rs) (ids_on d rs)
 
   -- The rules that can be empty are found in the same rounds.
-  kept_on : (d : ℕ) (test test' : RuleOf (Block d) → Bool) → ((q : RuleOf (Block d)) → test' (on_rule f r (on_block f r d) q) ≡ test q)
+  kept_on : (d : ℕ) (test test' : RuleOf (Block d) → Bool)
+      → ((q : RuleOf (Block d)) → test' (on_rule f r pr (on_block f r pr d) q) ≡ test q)
       → (rs : List (RuleOf (Block d))) → ids_of (keep test' (on_rules d rs)) ≡ ids_of (keep test rs)
-  kept_on d test test' h rs = ap ids_of (keep_same (on_rule f r (on_block f r d)) test' test h rs) ∙ ids_on d (keep test rs)
+  kept_on d test test' h rs = ap ids_of (keep_same (on_rule f r pr (on_block f r pr d)) test' test h rs) ∙ ids_on d (keep test rs)
 
   round_on : (d : ℕ) (rs : List (RuleOf (Block d))) (xs : List ℕ) → nullable_round d (on_rules d rs) xs ≡ nullable_round d rs xs
   unfolding nullable_round names_of
@@ -162,7 +164,7 @@ module _ (f r : ℕ → ℕ) (one : (a b : ℕ) → f a ≡ f b → a ≡ b) whe
       (λ q. block_on (record { names = map name_of rs; nullable = xs }) d q.body) rs
 
   pub length_on : (d : ℕ) (rs : List (RuleOf (Block d))) → length (on_rules d rs) ≡ length rs
-  length_on d rs = length-map rs (on_rule f r (on_block f r d))
+  length_on d rs = length-map rs (on_rule f r pr (on_block f r pr d))
 
   pub grammar_on : (d : ℕ) (rs : List (RuleOf (Block d))) → grammar_of d (on_rules d rs) ≡ on_grammar (grammar_of d rs)
   unfolding grammar_of nullable_rules names_of
@@ -171,16 +173,16 @@ module _ (f r : ℕ → ℕ) (one : (a b : ℕ) → f a ≡ f b → a ≡ b) whe
       (ap₂ (λ round n. rounds round n []) (fun_ext (round_on d rs)) (length_on d rs))
 
   -- The corner that a step looks at.
-  pub bare_on : (h : ElementHead) (c : Call) → bare_reference (on_head f r h) (on_call f r c) ≡ bare_reference h c
+  pub bare_on : (h : ElementHead) (c : Call) → bare_reference (on_head f r pr h) (on_call f r pr c) ≡ bare_reference h c
   unfolding bare_reference
   bare_on h c = go h.label
     where
-      go : (l : Label) → bare_reference (on_head f r (with_label l h)) (on_call f r c) ≡ bare_reference (with_label l h) c
-      go unlabelled = ap (λ b. eqb c.arguments 0 && b) (empty_on (on_option f r) h.options)
+      go : (l : Label) → bare_reference (on_head f r pr (with_label l h)) (on_call f r pr c) ≡ bare_reference (with_label l h) c
+      go unlabelled = ap (λ b. eqb c.arguments 0 && b) (empty_on (on_option f r pr) h.options)
       go (labelled i n) = refl
 
   member_on : (hub : ℕ) (h : ElementHead) (c : Call) (t : ℕ)
-      → member_corner hub (on_head f r h) (on_call f r c) t ≡ member_corner hub h c t
+      → member_corner hub (on_head f r pr h) (on_call f r pr c) t ≡ member_corner hub h c t
   unfolding member_corner
   member_on hub h c t =
       ap {B = PlannedCorner} (λ b. elim (eqb h.quantifier optional_greedy && b) as (λ x. PlannedCorner) [
@@ -193,7 +195,7 @@ module _ (f r : ℕ → ℕ) (one : (a b : ℕ) → f a ≡ f b → a ≡ b) whe
       ]) (bare_on h c)
 
   pub corner_on : (g : Grammar) (cycle : List ℕ) (hub : ℕ) {B : Type 0} (on_b : B → B) (es : List (Element B))
-      → planned_corner (on_grammar g) cycle hub (map (on_element f r on_b) es) ≡ planned_corner g cycle hub es
+      → planned_corner (on_grammar g) cycle hub (map (on_element f r pr on_b) es) ≡ planned_corner g cycle hub es
   unfolding planned_corner on_element on_leaf sort_of member_corner
   corner_on g cycle hub on_b [] = refl
   corner_on g cycle hub on_b (leaf h epsilon ∷ es) = ap further (corner_on g cycle hub on_b es)

@@ -14,25 +14,26 @@ use Rattle.laws.specs.Lists.Mapped.{first_same}
 use Rattle.laws.specs.Demands.Marks.{on_option}
 use Rattle.laws.specs.Sameness.Marked.{same_names}
 
-module _ (f r : ℕ → ℕ) (one : (a b : ℕ) → f a ≡ f b → a ≡ b) where
+module _ (f r pr : ℕ → ℕ) (one : (a b : ℕ) → f a ≡ f b → a ≡ b) where
   abbrev on_options : List OptionDecl → List OptionDecl
-  on_options = map (on_option f r)
+  on_options = map (on_option f r pr)
 
   -- An option more, where the list has none of its name with another value.
   abbrev adding : List OptionDecl → OptionDecl → Option OptionDecl → Option (List OptionDecl)
   adding os o x = elim x [ none ↦ some (os ++ (o ∷ [])) | some p ↦ elim (eqb p.value o.value) [ true ↦ some os | false ↦ none ] ]
 
-  add_on : (os : List OptionDecl) (o : OptionDecl) → add_option (on_options os) (on_option f r o) ≡ Option.map on_options (add_option os o)
+  add_on : (os : List OptionDecl) (o : OptionDecl)
+      → add_option (on_options os) (on_option f r pr o) ≡ Option.map on_options (add_option os o)
   unfolding add_option
   add_on os o =
-      ap (adding (on_options os) (on_option f r o))
-      (first_same (on_option f r) (λ p. eqb p.name (f o.name)) (λ p. eqb p.name o.name)
-      (λ p. same_names f r one p.name o.name) os)
+      ap (adding (on_options os) (on_option f r pr o))
+      (first_same (on_option f r pr) (λ p. eqb p.name (f o.name)) (λ p. eqb p.name o.name)
+      (λ p. same_names f r pr one p.name o.name) os)
       ∙ go (first (λ p. eqb p.name o.name) os)
     where
       go : (x : Option OptionDecl)
-          → adding (on_options os) (on_option f r o) (Option.map (on_option f r) x) ≡ Option.map on_options (adding os o x)
-      go none = ap some (sym (map-append (on_option f r) os (o ∷ [])))
+          → adding (on_options os) (on_option f r pr o) (Option.map (on_option f r pr) x) ≡ Option.map on_options (adding os o x)
+      go none = ap some (sym (map-append (on_option f r pr) os (o ∷ [])))
       go (some p) = either (eqb p.value o.value) (λ t. rw (t, adding) refl) (λ m. rw (m, adding) refl)
 
   pub union_on : (os more : List OptionDecl)

@@ -68,22 +68,22 @@ module _ (bs : List ℕ) (b : AreBytes bs) (t : Sheet) (h : TreeIn bs t) where
   allowed : Records t
   allowed = subst Records h.is_sheet (stands_encoded newest (words bs) least h.trailer t.rules h.next h.records).1
 
-  -- Other names that 4 allows, and other carried numbers that are words.
-  module _ (f r : ℕ → ℕ) (word : (n : ℕ) → W n ≡ true → W (r n) ≡ true)
+  -- Other names that 4 allows, and other carried numbers and precedences that are words.
+  module _ (f r pr : ℕ → ℕ) (word : (n : ℕ) → W n ≡ true → W (r n) ≡ true) (third : (n : ℕ) → W n ≡ true → W (pr n) ≡ true)
       (good : (n : ℕ) → member n (names_in t) ≡ true → is_name (f n) ≡ true) where
     abbrev t' : Sheet
-    t' = on_sheet f r t
+    t' = on_sheet f r pr t
 
     abbrev bs' : List ℕ
-    bs' = bytes (encode (on_sheet f r t))
+    bs' = bytes (encode (on_sheet f r pr t))
 
     allowed_on : Records t'
     unfolding on_sheet names_in
     allowed_on =
         record {
           kind = allowed.kind;
-          few = ap (λ n. leb n rule_limit) (length-map t.rules (on_rule f r (on_block f r body_depth))) ∙ allowed.few;
-          rules = rules_good f r t.rules (all_members (Good f r) (names_in t) good) allowed.rules;
+          few = ap (λ n. leb n rule_limit) (length-map t.rules (on_rule f r pr (on_block f r pr body_depth))) ∙ allowed.few;
+          rules = rules_good f r pr t.rules (all_members (Good f r pr) (names_in t) good) allowed.rules;
           preserved = allowed.preserved;
         }
 
@@ -96,15 +96,16 @@ module _ (bs : List ℕ) (b : AreBytes bs) (t : Sheet) (h : TreeIn bs t) where
         let wb = wordy_left body tail w in
         wordy_both (encode_rules t'.rules ++ t.preserved) _
         (wordy_both (encode_rules t'.rules) t.preserved
-        (rules_words f r word t.rules (all_members (Good f r) (names_in t) good) (wordy_left (encode_rules t.rules) t.preserved wb))
+        (rules_words f r pr word third t.rules (all_members (Good f r pr) (names_in t) good)
+        (wordy_left (encode_rules t.rules) t.preserved wb))
         (wordy_right (encode_rules t.rules) t.preserved wb))
         (subst (λ n. Wordy (t.kind ∷ n ∷ length t.preserved ∷ encode_counters t.counters))
-        (sym (body_length f r t.rules t.preserved)) (wordy_right body tail w))
+        (sym (body_length f r pr t.rules t.preserved)) (wordy_right body tail w))
 
     bytes_length : length bs' ≡ length bs
     bytes_length =
         let l = length_bytes (encode t') in
-        let k = whole_length f r t ∙ ap length encoded in
+        let k = whole_length f r pr t ∙ ap length encoded in
         let w = length_words bs in
         let z = h.good_length.whole in
         omega arith

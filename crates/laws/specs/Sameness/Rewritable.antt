@@ -23,26 +23,26 @@ use Rattle.laws.specs.Sameness.Marked.{on_grammar, target_on, elements_on, block
 use Rattle.laws.specs.Sameness.Walks.{on}
 use Rattle.laws.specs.Sameness.Steps.{on_planned}
 
-module _ (f r : ℕ → ℕ) (one : (a b : ℕ) → f a ≡ f b → a ≡ b) (d : ℕ) (g : Grammar) (hub : ℕ) where
+module _ (f r pr : ℕ → ℕ) (one : (a b : ℕ) → f a ≡ f b → a ≡ b) (d : ℕ) (g : Grammar) (hub : ℕ) where
   abbrev g' : Grammar
-  g' = on_grammar f r one g
+  g' = on_grammar f r pr one g
 
   abbrev on_elements : Elements d → Elements d
-  on_elements = map (on f r one d)
+  on_elements = map (on f r pr one d)
 
   -- A call of the hub, and whether it has arguments.
-  hub_call_on : (e : Element (Block d)) → hub_call g' hub (on f r one d e) ≡ Option.map (on_call f r) (hub_call g hub e)
+  hub_call_on : (e : Element (Block d)) → hub_call g' hub (on f r pr one d e) ≡ Option.map (on_call f r pr) (hub_call g hub e)
   unfolding hub_call on_element on_leaf sort_of
   hub_call_on (leaf h epsilon) = refl
   hub_call_on (leaf h (action a)) = refl
   hub_call_on (leaf h (predicate p)) = refl
-  hub_call_on (leaf h (call c)) = rw (target_on f r one g c.name, hub_call) (go (target g c.name))
+  hub_call_on (leaf h (call c)) = rw (target_on f r pr one g c.name, hub_call) (go (target g c.name))
     where
       -- The call, where it is the hub's.
       hubs : Call → Option ℕ → Option Call
       hubs c x = elim x [ none ↦ none | some t ↦ elim (is_one h && eqb t hub) [ true ↦ some c | false ↦ none ] ]
 
-      go : (x : Option ℕ) → hubs (on_call f r c) x ≡ Option.map (on_call f r) (hubs c x)
+      go : (x : Option ℕ) → hubs (on_call f r pr c) x ≡ Option.map (on_call f r pr) (hubs c x)
       go none = refl
       go (some t) = either (is_one h && eqb t hub) (λ y. rw (y, hubs) refl) (λ n. rw (n, hubs) refl)
   hub_call_on (leaf h (token n)) = refl
@@ -51,17 +51,17 @@ module _ (f r : ℕ → ℕ) (one : (a b : ℕ) → f a ≡ f b → a ≡ b) (d 
   hub_call_on (block h b) = refl
 
   -- A question to the call that is found, which does not ask for its name.
-  asked_on : (ask : Call → Bool) → ((c : Call) → ask (on_call f r c) ≡ ask c) → (x : Option Call)
-      → ◌≡◌ {A = Bool} (elim (Option.map (on_call f r) x) as (λ y. Bool) [ none ↦ false | some c ↦ ask c ])
+  asked_on : (ask : Call → Bool) → ((c : Call) → ask (on_call f r pr c) ≡ ask c) → (x : Option Call)
+      → ◌≡◌ {A = Bool} (elim (Option.map (on_call f r pr) x) as (λ y. Bool) [ none ↦ false | some c ↦ ask c ])
       (elim x as (λ y. Bool) [ none ↦ false | some c ↦ ask c ])
   asked_on ask e none = refl
   asked_on ask e (some c) = e c
 
-  is_hub_call_on : (e : Element (Block d)) → is_hub_call g' hub (on f r one d e) ≡ is_hub_call g hub e
+  is_hub_call_on : (e : Element (Block d)) → is_hub_call g' hub (on f r pr one d e) ≡ is_hub_call g hub e
   unfolding is_hub_call
   is_hub_call_on e = rw (hub_call_on e, is_hub_call) (asked_on (λ c. true) (λ c. refl) (hub_call g hub e))
 
-  arguments_on : (e : Element (Block d)) → gives_hub_arguments g' hub (on f r one d e) ≡ gives_hub_arguments g hub e
+  arguments_on : (e : Element (Block d)) → gives_hub_arguments g' hub (on f r pr one d e) ≡ gives_hub_arguments g hub e
   unfolding gives_hub_arguments
   arguments_on e = rw (hub_call_on e, gives_hub_arguments) (asked_on (λ c. not (eqb c.arguments 0)) (λ c. refl) (hub_call g hub e))
 
@@ -75,14 +75,14 @@ module _ (f r : ℕ → ℕ) (one : (a b : ℕ) → f a ≡ f b → a ≡ b) (d 
       → all (element_nullable g' (block_is_nullable g' d)) (drop 1 (on_elements es))
       ≡ all (element_nullable g (block_is_nullable g d)) (drop 1 es)
   tail_on es =
-      ap (all (element_nullable g' (block_is_nullable g' d))) (drop_on (on f r one d) 1 es)
-      ∙ elements_on f r one g (on_block f r d) (block_is_nullable g d) (block_is_nullable g' d) (block_on f r one g d) (drop 1 es)
+      ap (all (element_nullable g' (block_is_nullable g' d))) (drop_on (on f r pr one d) 1 es)
+      ∙ elements_on f r pr one g (on_block f r pr d) (block_is_nullable g d) (block_is_nullable g' d) (block_on f r pr one g d) (drop 1 es)
 
   recursive_on : (es : Elements d) → is_recursive g' hub d (on_elements es) ≡ is_recursive g hub d es
   unfolding is_recursive
   recursive_on es = ap₂ (λ a b. a && not b) (starts_on es) (tail_on es)
 
-  silent_on : (e : Element (Block d)) → is_epsilon_only (on f r one d e) ≡ is_epsilon_only e
+  silent_on : (e : Element (Block d)) → is_epsilon_only (on f r pr one d e) ≡ is_epsilon_only e
   unfolding is_epsilon_only on_element on_leaf sort_of
   silent_on (leaf h epsilon) = refl
   silent_on (leaf h (action a)) = refl
@@ -97,9 +97,9 @@ module _ (f r : ℕ → ℕ) (one : (a b : ℕ) → f a ≡ f b → a ≡ b) (d 
     left_on : (es : Elements d) → left_corners c g' d (on_elements es) ≡ left_corners c g d es
     unfolding left_corners
     left_on es =
-        corners_on f r one g c (on_block f r d) (block_corners c g d) (block_corners c g' d)
+        corners_on f r pr one g c (on_block f r pr d) (block_corners c g d) (block_corners c g' d)
         (block_is_nullable g d) (block_is_nullable g' d)
-        (block_corners_on f r one g c d) (block_on f r one g d) es
+        (block_corners_on f r pr one g c d) (block_on f r pr one g d) es
 
     primary_on : (es : Elements d) → is_primary c g' cycle hub d (on_elements es) ≡ is_primary c g cycle hub d es
     unfolding is_primary
@@ -110,18 +110,18 @@ module _ (f r : ℕ → ℕ) (one : (a b : ℕ) → f a ≡ f b → a ≡ b) (d 
     fit_on es =
         ap₂ ◌&&◌
         (ap₂ (λ a b. not (a || b))
-        (any_same (on f r one d) (gives_hub_arguments g' hub) (gives_hub_arguments g hub) arguments_on es)
-        (all_same (on f r one d) is_epsilon_only is_epsilon_only silent_on es))
+        (any_same (on f r pr one d) (gives_hub_arguments g' hub) (gives_hub_arguments g hub) arguments_on es)
+        (all_same (on f r pr one d) is_epsilon_only is_epsilon_only silent_on es))
         (ap₂ ◌||◌ (primary_on es) (recursive_on es))
 
     -- The whole list.
     pub rewritable_on : (ps : List (Planned d))
-        → planned_hub_is_directly_rewritable c (on_grammar f r one g) cycle hub d (map (on_planned f r one d) ps)
+        → planned_hub_is_directly_rewritable c (on_grammar f r pr one g) cycle hub d (map (on_planned f r pr one d) ps)
         ≡ planned_hub_is_directly_rewritable c g cycle hub d ps
     unfolding planned_hub_is_directly_rewritable
     rewritable_on ps =
         ap₂ ◌&&◌
-        (all_same (on_planned f r one d) _ (λ p. is_fit c g cycle hub d p.elements) (λ p. fit_on p.elements) ps)
+        (all_same (on_planned f r pr one d) _ (λ p. is_fit c g cycle hub d p.elements) (λ p. fit_on p.elements) ps)
         (ap₂ ◌&&◌
-        (any_same (on_planned f r one d) _ (λ p. is_primary c g cycle hub d p.elements) (λ p. primary_on p.elements) ps)
-        (any_same (on_planned f r one d) _ (λ p. is_recursive g hub d p.elements) (λ p. recursive_on p.elements) ps))
+        (any_same (on_planned f r pr one d) _ (λ p. is_primary c g cycle hub d p.elements) (λ p. primary_on p.elements) ps)
+        (any_same (on_planned f r pr one d) _ (λ p. is_recursive g hub d p.elements) (λ p. recursive_on p.elements) ps))

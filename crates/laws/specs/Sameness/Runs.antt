@@ -28,9 +28,9 @@ use Rattle.laws.specs.Sameness.Plans.{on_plan, plan_on}
 use Rattle.laws.specs.Sameness.Applied.{on_fresh, apply_on}
 use Rattle.laws.specs.Sameness.Lengths.{whole_length}
 
-module _ (f r : ℕ → ℕ) (one : (a b : ℕ) → f a ≡ f b → a ≡ b) where
+module _ (f r pr : ℕ → ℕ) (one : (a b : ℕ) → f a ≡ f b → a ≡ b) where
   abbrev on_all : List Rule → List Rule
-  on_all = on_rules f r one body_depth
+  on_all = on_rules f r pr one body_depth
 
   -- What a plan leaves is refused as before: it has as many words.
   refusal_on : (kind : ℕ) (preserved : List ℕ) (x : Fresh (List Rule)) (recorded : ℕ)
@@ -41,7 +41,7 @@ module _ (f r : ℕ → ℕ) (one : (a b : ℕ) → f a ≡ f b → a ≡ b) whe
         | false ↦ counter_past_end
         | true ↦
             elim (leb n most_words && leb (recorded + length x.entries) most_entries) as (λ y. ℕ) [ false ↦ result_too_long | true ↦ 0 ]
-      ]) (whole_length f r (sheet_with kind preserved x))
+      ]) (whole_length f r pr (sheet_with kind preserved x))
 
   -- A stage and a run, changed throughout.
   abbrev pub on_stage : Stage → Stage
@@ -49,7 +49,7 @@ module _ (f r : ℕ → ℕ) (one : (a b : ℕ) → f a ≡ f b → a ≡ b) whe
       record {
         before = on_all t.before;
         cycle = t.cycle;
-        plan = on_plan f r one inner_depth t.plan;
+        plan = on_plan f r pr one inner_depth t.plan;
         after = on_fresh on_all t.after;
       }
 
@@ -60,25 +60,25 @@ module _ (f r : ℕ → ℕ) (one : (a b : ℕ) → f a ≡ f b → a ≡ b) whe
   -- The plan that a search finds is the one that it found, changed.
   abbrev on_search : Search → Search
   on_search no_plan = no_plan
-  on_search (planned cycle plan) = planned cycle (on_plan f r one inner_depth plan)
+  on_search (planned cycle plan) = planned cycle (on_plan f r pr one inner_depth plan)
   on_search too_large = too_large
 
   module _ (limits : Limits) (c : Corners) (preserved : List ℕ) where
     search_on : (g : Grammar) (rs : List Rule) (cycles : List (List ℕ))
-        → search_cycles limits c preserved (on_grammar f r one g) (on_all rs) cycles
+        → search_cycles limits c preserved (on_grammar f r pr one g) (on_all rs) cycles
         ≡ on_search (search_cycles limits c preserved g rs cycles)
     unfolding search_cycles
     search_on g rs [] = refl
     search_on g rs (cycle ∷ more) =
-        rw (plan_on f r one inner_depth limits c g rs preserved cycle, search_cycles)
+        rw (plan_on f r pr one inner_depth limits c g rs preserved cycle, search_cycles)
         (go (search_on g rs more) (plan_cycle limits c g inner_depth rs preserved cycle))
       where
-        go : search_cycles limits c preserved (on_grammar f r one g) (on_all rs) more
+        go : search_cycles limits c preserved (on_grammar f r pr one g) (on_all rs) more
             ≡ on_search (search_cycles limits c preserved g rs more)
             → (x : Decided (CyclePlan inner_depth))
-            → (elim (on_decided (on_plan f r one inner_depth) x) as (λ y. Search) [
+            → (elim (on_decided (on_plan f r pr one inner_depth) x) as (λ y. Search) [
               | decided plan ↦ planned cycle plan
-              | declined k ↦ search_cycles limits c preserved (on_grammar f r one g) (on_all rs) more
+              | declined k ↦ search_cycles limits c preserved (on_grammar f r pr one g) (on_all rs) more
               | overfull ↦ too_large
             ])
             ≡ on_search (elim x as (λ y. Search) [
@@ -94,9 +94,9 @@ module _ (f r : ℕ → ℕ) (one : (a b : ℕ) → f a ≡ f b → a ≡ b) whe
     unfolding find_plan
     find_on rs =
         ap (λ g. search_cycles limits c preserved g (on_all rs) (left_corner_cycles c g body_depth (on_all rs)))
-        (grammar_on f r one body_depth rs)
-        ∙ ap (search_cycles limits c preserved (on_grammar f r one (grammar_of body_depth rs)) (on_all rs))
-        (cycles_on f r one (grammar_of body_depth rs) c body_depth rs)
+        (grammar_on f r pr one body_depth rs)
+        ∙ ap (search_cycles limits c preserved (on_grammar f r pr one (grammar_of body_depth rs)) (on_all rs))
+        (cycles_on f r pr one (grammar_of body_depth rs) c body_depth rs)
         ∙ search_on (grammar_of body_depth rs) rs (left_corner_cycles c (grammar_of body_depth rs) body_depth rs)
 
     module _ (kind : ℕ) where
@@ -138,19 +138,19 @@ module _ (f r : ℕ → ℕ) (one : (a b : ℕ) → f a ≡ f b → a ≡ b) whe
               let after = apply_plan inner_depth rs plan k in
               let stage : Stage = record { before = rs; cycle = cycle; plan = plan; after = after } in
               ap (λ (y : Fresh (List Rule)). applying limits c kind preserved rest
-              (record { before = on_all rs; cycle = cycle; plan = on_plan f r one inner_depth plan; after = y }) recorded
-              (refusal_of kind preserved y recorded)) (apply_on f r one inner_depth rs plan k)
+              (record { before = on_all rs; cycle = cycle; plan = on_plan f r pr one inner_depth plan; after = y }) recorded
+              (refusal_of kind preserved y recorded)) (apply_on f r pr one inner_depth rs plan k)
               ∙ ap (applying limits c kind preserved rest (on_stage stage) recorded) (refusal_on kind preserved after recorded)
               ∙ applying_on rest ih stage recorded (refusal_of kind preserved after recorded)
 
   -- The run of the changed sheet is the sheet's, changed.
   pub sheet_on : (limits : Limits) (c : Corners) (s : Sheet)
-      → eliminate_mutual_left_recursion limits c (on_sheet f r s) ≡ on_run (eliminate_mutual_left_recursion limits c s)
+      → eliminate_mutual_left_recursion limits c (on_sheet f r pr s) ≡ on_run (eliminate_mutual_left_recursion limits c s)
   unfolding eliminate_mutual_left_recursion on_sheet
   sheet_on limits c s =
       either (eqb s.kind parser)
       (λ t. rw (t, eliminate_mutual_left_recursion)
       (ap (λ n. eliminate_in_unit limits c s.kind s.preserved (suc n) (on_all s.rules) s.counters 0)
-      (length-map s.rules (on_rule f r (on_block f r body_depth)))
+      (length-map s.rules (on_rule f r pr (on_block f r pr body_depth)))
       ∙ run_on limits c s.preserved s.kind (suc (length s.rules)) s.rules s.counters 0))
       (λ n. rw (n, eliminate_mutual_left_recursion) refl)

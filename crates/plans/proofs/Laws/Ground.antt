@@ -22,7 +22,7 @@ use Rattle.sheet.specs.Answer.{read_lent, numbers_in, answer_of, parts_of, ReadA
 use Rattle.sheet.specs.declared.answer.Reading.{Reading}
 use Rattle.std.specs.Prelude.{Ok}
 use Rattle.sheet.specs.Read.{WasRead}
-use Rattle.sheet.proofs.Laws.Lent.{lent_all}
+use Rattle.sheet.proofs.Laws.Lent.{sheet_most, lent_all}
 use Rattle.sheet.proofs.Laws.Sizes.{was_read, Taken, taken}
 use Rattle.plan.specs.Ground.{KeptAt}
 
@@ -59,7 +59,7 @@ module _ (bs work : List ℕ) {r : Reading} (a : ReadAs (read_lent bs work) (Ok 
   read_count = ap (λ q. q.count) parts_are
 
   pub read_small : r.parts.preserved ≤ most_words
-  read_small = let t = (lent (taken bs work was.tree was.is)).most in let z = was.room.trailer in omega arith
+  read_small = let t = sheet_most bs (taken bs work was.tree was.is).long in let z = was.room.trailer in omega arith
 
   module _ {to : ℕ} (e : to ≡ r.parts.preserved + r.parts.count) where
     between_read : between (words bs) r.parts.preserved to ≡ was.tree.preserved

@@ -1,21 +1,16 @@
 -- The returns of the functions that give the answer.
-use Prim.Native.Nat.{ℕ, ◌+◌, ◌-◌, ◌*◌, ◌/◌, ◌≤◌}
+use Prim.Native.Nat.{ℕ, ◌+◌, ◌-◌, ◌*◌}
 use mathlib.Core.Path.{◌≡◌, refl, sym, ap, subst, ◌∙◌}
 use mathlib.Core.List.{List, ◌∷◌}
 use mathlib.Core.Bool.{Bool, true, false}
 use native.Mathlib.Omega.{arith}
 use lib.ListN.{length, get_or, take, drop, length-drop}
 use lib.Seq.{length-take-le}
-use lib.Dec.{eqb}
-use borrow.Author.Tests.{leb-true, eqb-true}
 use Rattle.grammar.specs.Form.{newest}
-use Rattle.grammar.specs.Numbers.{least_bytes, trailer_words, rule_limit}
-use Rattle.grammar.specs.Numbers.{bad_record}
-use Rattle.grammar.specs.Parse.{Got, got, bad, ◌then◌, given}
+use Rattle.grammar.specs.Numbers.{trailer_words}
+use Rattle.grammar.specs.Parse.{got}
 use Rattle.grammar.specs.Encode.{encode_rules, encode_counters}
 use Rattle.grammar.specs.Words.{words}
-use Rattle.grammar.specs.Read.{rules_at}
-use Rattle.grammar.specs.Valid.{is_kind}
 use Rattle.grammar.specs.Lists.{rising}
 use Rattle.grammar.specs.Ids.{is_distinct, is_below}
 use Rattle.grammar.specs.Tree as tree
@@ -23,15 +18,12 @@ use Rattle.grammar.specs.Reading as reading
 use Rattle.grammar.specs.Reading.{refused, sheet, trailer, unit_kind, first_distance, second_distance, rules_end, is_trailer, read_words_in}
 use Rattle.grammar.specs.Reading.{rules_of_in}
 use Rattle.grammar.specs.Reading.{preserved_ids, counters_of, sheet_of, judge, read_words}
-use Rattle.grammar.specs.Laws.Words.{length_words, words_between}
+use Rattle.grammar.specs.Laws.Words.{length_words}
 use Rattle.grammar.specs.Laws.Stands.{stands_length}
-use Rattle.grammar.specs.Laws.Parse.{yields_got}
-use Rattle.grammar.specs.Laws.Sound.{rules_sound}
 use Rattle.writing.specs.declared.counters.Counters.{Counters}
 use Rattle.writing.specs.Taken as taken
 use Rattle.records.specs.declared.rules.Rules.{Rules}
-use Rattle.std.specs.Prelude.{Option, Some, None, Result, Ok, Err, is_some}
-use Rattle.std.specs.Cmp.{first_so, second_so}
+use Rattle.std.specs.Prelude.{Option, Some, None, Result, Ok, Err}
 use Rattle.words.specs.declared.numbers.UnitKind.{UnitKind}
 use Rattle.words.specs.Kinds.{unit_number}
 use Rattle.words.specs.declared.numbers.Refusal.{Refusal}
@@ -39,12 +31,13 @@ use Rattle.words.specs.declared.numbers.Refusal.TheVariants.{BadTrailer, BadReco
 use Rattle.words.specs.Refusal.{refusal_number}
 use Rattle.sheet.specs.declared.answer.Parts.{Parts}
 use Rattle.sheet.specs.declared.answer.Reading.{Reading}
-use Rattle.records.specs.Rules.{RowsOf, RulesRead, FoundRows, is_got}
+use Rattle.records.specs.Rules.{RowsOf, RulesRead, FoundRows}
 use Rattle.sheet.specs.Answer as answer
 use Rattle.sheet.specs.Answer.{Numbers, numbers_in, CountersAt, ReadAs}
 use Rattle.sheet.specs.Verdict.{verdict}
 use Rattle.sheet.specs.Answer.{EndAt}
 use Rattle.sheet.proofs.Laws.Trailer.{here}
+use Rattle.sheet.proofs.Laws.Front.{rules_got, trailer_bad, trailer_true, records_bad, preserved_bad, all_found}
 
 -- refusals, and a sheet with its rules
 pub read_refused : {g : reading.Reading} {n : ℕ} (e : Refusal) → g ≡ refused n → refusal_number e ≡ n → ReadAs g (Err e)
@@ -162,106 +155,22 @@ module _ (bs : List ℕ) {t end : ℕ} {rules : Rules} (k : EndAt bs t end) {a :
       go true y true z =
           read_sheet {s = sheet_of (words bs) f.found.trees} (rw (y, z, judge) refl) (parts_same bs k f w p q n) f.rows
 
--- what reading the rules found
-got_of : {A : Type 0} (g : Got A) → is_got g ≡ true → (a : A) × (q : ℕ) × (g ≡ got a q)
-got_of (got a q) e = (a, q, refl)
-got_of bad e = absurd (let z : ◌≡◌ {A = ℕ} 0 1 = cc in omega arith)
-
-bad_of : {A : Type 0} (g : Got A) → is_got g ≡ false → g ≡ bad
-bad_of (got a q) e = absurd (let z : ◌≡◌ {A = ℕ} 0 1 = cc in omega arith)
-bad_of bad e = refl
-
-record GotRules (ws : List ℕ) (end : ℕ) (rules : Rules) : Type 0 where
-  rows : FoundRows ws end rules
-  is : rules_at ws end rule_limit 0 ≡ got rows.found.trees end
-
-module _ {ws : List ℕ} {end : ℕ} {r : Option Rules} (f : RulesRead ws end r) where
-  rules_bad : r ≡ None → rules_at ws end rule_limit 0 ≡ bad
-  rules_bad e = bad_of (rules_at ws end rule_limit 0) (sym f.good ∙ ap is_some e)
-
-  module _ {rules : Rules} (e : r ≡ Some rules) where
-    rules_got : GotRules ws end rules
-    rules_got =
-        let g = got_of (rules_at ws end rule_limit 0) (sym f.good ∙ ap is_some e) in
-        let y = yields_got (rules_sound newest ws end rule_limit 0 (omega arith)) g.2 in
-        let o = f.rows rules g.0 g.1 e g.2 in
-        let c = o.count in
-        let w = y.few in
-        record {
-          rows =
-              record {
-                found = record { trees = g.0; next = g.1; spans = y.spans; count = sym c };
-                ends = y.ends;
-                rows = o;
-                few = omega arith;
-              };
-          is = g.2 ∙ ap (got g.0) y.ends;
-        }
-
-  pub rows_found : {rules : Rules} → r ≡ Some rules → FoundRows ws end rules
-  rows_found e = (rules_got e).rows
-
-pub end_at : {bs : List ℕ} {t end : ℕ} → t ≡ length bs / 4 - trailer_words → least_bytes ≤ length bs
-    → end + get_or (words bs) (t + 2) 0 ≡ t
-    → EndAt bs t end
-end_at p l s = record { place = p; least = l; split = s }
-
 -- the records in front of the trailer
 module _ (bs : List ℕ) {b : Bool} (e : b ≡ is_trailer (words bs)) where
   pub trailer_refused : b ≡ false → ReadAs (read_words (words bs)) (Err BadTrailer)
-  unfolding read_words_in
-  trailer_refused h = read_refused BadTrailer (rw (sym e ∙ h, read_words_in) refl) refl
+  trailer_refused h = read_refused BadTrailer (trailer_bad newest bs e h) refl
 
-  module _ (h : b ≡ true) where
-    trailer_true : is_trailer (words bs) ≡ true
-    trailer_true = sym e ∙ h
+  module _ (h : b ≡ true) {t end : ℕ} (k : EndAt bs t end) {r : Option Rules} (f : RulesRead (words bs) end r) where
+    pub rules_refused : r ≡ None → ReadAs (read_words (words bs)) (Err BadRecord)
+    rules_refused o = read_refused BadRecord (records_bad newest bs e h k f o) refl
 
-    pub trailer_good : least_bytes ≤ length bs
-        → (4 * (length bs / 4 - trailer_words + 2) + 4 ≤ length bs)
-        × (get_or (words bs) (length bs / 4 - trailer_words + 2) 0 ≤ length bs / 4 - trailer_words)
-    unfolding is_trailer
-    trailer_good m =
-        let u = second_so (is_kind (unit_kind (words bs))) _ trailer_true in
-        let first = first_distance (words bs) in
-        let f = eqb-true first (trailer (words bs)) (first_so (eqb first (trailer (words bs))) _ u) in
-        let g = leb-true (second_distance (words bs)) first (second_so (eqb first (trailer (words bs))) _ u) in
-        (omega arith, rw (here bs refl) at (rw f at g))
+    module _ {rules : Rules} (g : r ≡ Some rules) {c : Bool} (i : c ≡ rising (words (take (4 * t - 4 * end) (drop (4 * end) bs)))) where
+      pub rising_refused : c ≡ false → ReadAs (read_words (words bs)) (Err BadRecord)
+      rising_refused j = read_refused BadRecord (preserved_bad newest bs e h k f g i j) refl
 
-    module _ {t end : ℕ} (k : EndAt bs t end) where
-      end_is : rules_end (words bs) ≡ end
-      end_is = let z = k.split in rw (here bs k.place) (omega arith)
-
-      opened : read_words (words bs)
-          ≡ judge (words bs) (rules_at (words bs) end rule_limit 0 then λ rs q. given (rising (preserved_ids (words bs))) λ _. got rs q)
-      unfolding read_words_in rules_of_in
-      opened = rw (trailer_true, read_words_in) (rw end_is refl)
-
-      ids_are : preserved_ids (words bs) ≡ take (t - end) (drop end (words bs))
-      unfolding preserved_ids
-      ids_are =
-          let z = k.split in
-          let n : get_or (words bs) (t + 2) 0 ≡ t - end = omega arith in
-          rw end_is (rw (here bs k.place, n) refl)
-
-      module _ {r : Option Rules} (f : RulesRead (words bs) end r) where
-        pub rules_refused : r ≡ None → ReadAs (read_words (words bs)) (Err BadRecord)
-        unfolding judge
-        rules_refused o = read_refused {n = bad_record} BadRecord (opened ∙ rw (rules_bad f o) refl) refl
-
-        module _ {rules : Rules} (g : r ≡ Some rules) {c : Bool} (i : c ≡ rising (words (take (4 * t - 4 * end) (drop (4 * end) bs)))) where
-          told : c ≡ rising (take (t - end) (drop end (words bs)))
-          told =
-              i ∙ ap rising (words_between bs end t)
-
-          pub rising_refused : c ≡ false → ReadAs (read_words (words bs)) (Err BadRecord)
-          unfolding judge
-          rising_refused j =
-              read_refused BadRecord (opened ∙ rw ((rules_got f g).is, ids_are, sym told ∙ j) refl) refl
-
-          pub goes_on : {x : Result Reading Refusal} → c ≡ true
-              → ((o : FoundRows (words bs) end rules) → ReadAs (judge (words bs) (got o.found.trees end)) x)
-              → ReadAs (read_words (words bs)) x
-          goes_on j p =
-              let z : read_words (words bs) ≡ judge (words bs) (got (rules_got f g).rows.found.trees end) =
-              opened ∙ rw ((rules_got f g).is, ids_are, sym told ∙ j) refl in
-              rw z (p (rules_got f g).rows)
+      pub goes_on : {x : Result Reading Refusal} → c ≡ true
+          → ((o : FoundRows (words bs) end rules) → ReadAs (judge (words bs) (got o.found.trees end)) x)
+          → ReadAs (read_words (words bs)) x
+      unfolding read_words_in
+      goes_on j p =
+          rw (trailer_true newest bs e h, read_words_in) (rw (all_found newest bs e h k f g i j) (p (rules_got f g).rows))

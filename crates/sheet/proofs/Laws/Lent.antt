@@ -3,6 +3,7 @@ use Prim.Native.Nat.{ℕ, ◌<◌, ◌≤◌}
 use mathlib.Core.Path.{◌≡◌, refl, sym, ap, ◌∙◌}
 use mathlib.Core.List.{List}
 use mathlib.Core.Bool.{Bool, true, false}
+use native.Mathlib.Omega.{arith}
 use lib.ListN.{length, replicate}
 use lib.Dec.{leb}
 use borrow.Author.Tests.{le-leb, lt-leb, leb-true}
@@ -17,13 +18,16 @@ use Rattle.sheet.specs.declared.answer.Reading.{Reading}
 use Rattle.sheet.specs.Answer.{ReadAs, read_lent, work_after, Lent}
 use Rattle.sheet.proofs.Laws.Answer.{read_refused}
 
+pub sheet_most : (bs : List ℕ) → is_length (length bs) ≡ true → length bs ≤ most_bytes
+sheet_most bs e = leb-true _ _ (first_so (leb (length bs) most_bytes) _ (second_so (leb least_bytes (length bs)) _ e))
+
 -- the reader with a work area
 pub lent_all : (bs work : List ℕ) → is_length (length bs) ≡ true → work_bytes ≤ length work → Lent bs work
 lent_all bs work e h =
     record {
       least = leb-true _ _ (first_so (leb least_bytes (length bs)) _ e);
-      most = leb-true _ _ (first_so (leb (length bs) most_bytes) _ (second_so (leb least_bytes (length bs)) _ e));
-      room = h;
+      most = let m = sheet_most bs e in omega arith;
+      room = let m = sheet_most bs e in omega arith;
     }
 
 module _ (bs work : List ℕ) {b : Bool} (e : b ≡ is_length (length bs)) where

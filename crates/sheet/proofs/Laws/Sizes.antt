@@ -161,7 +161,7 @@ module _ (bs work : List ℕ) {x : Reading} (a : ReadAs (read_lent bs work) (Ok 
         room = standing.room;
         rows = record { found = found_rules; ends = g.0.ends ∙ sym k; rows = rows_of; few = omega arith };
         trees = refl;
-        lent = g.1.room;
+        lent = let t = taken bs work was.tree was.is in leb-true _ _ t.enough;
         cleared = let t = taken bs work was.tree was.is in rw (t.long, t.enough, work_after) refl;
       }
 

@@ -1,5 +1,5 @@
-//! `laws --count N --seed S`: three laws, of the original and of the proved pass, on all stored sheets and on N generated
-//! ones, in both readings: nothing to do with an own result; other names, and other carried numbers, alike.
+//! `laws --count N --seed S`: four laws, of the original and of the proved pass, on all stored sheets and on N generated
+//! ones, in both readings: nothing to do with an own result; other names, other carried numbers, and other precedences, alike.
 
 use std::process::ExitCode;
 
@@ -35,10 +35,12 @@ fn show(counts: &Counts) {
     );
     println!("by the textbook's reading: {textbook}");
     println!(
-        "no breach on {} sheets in both readings: {original}; renamed {}, with other carried numbers {}",
+        "no breach on {} sheets in both readings: {original}; renamed {}, with other carried numbers {}, \
+         with other precedences {}",
         counts.sheets(),
         counts.renamed,
-        counts.carried
+        counts.carried,
+        counts.raised
     );
 }
 

@@ -44,6 +44,10 @@ fn show(tally: &Tally) {
         "accepted, with two names of one remainder modulo 65,536 {}, joined {}",
         tally.alike, tally.alike_joined
     );
+    println!(
+        "accepted, with a precedence {}, joined {}",
+        tally.raised, tally.raised_joined
+    );
     println!("by the textbook's reading: {textbook}");
     println!(
         "no difference on {} sheets in both readings: {original}",

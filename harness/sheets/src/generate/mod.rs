@@ -32,7 +32,8 @@ enum Make {
 
 pub struct Profile {
     pub name: &'static str,
-    /// Whether its sheets are about refusals 7 to 9, or about large names, splices and lists; some are large.
+    /// Whether its sheets are about refusals 7 to 9, about large names, splices and lists, of which some are large, or about
+    /// precedences.
     pub about_limits: bool,
     /// Whether its sheets have the end of input.
     pub has_ends: bool,
@@ -75,7 +76,7 @@ const fn limit(name: &'static str, make: fn(&mut Rng) -> Sheet) -> Profile {
     }
 }
 
-pub const PROFILES: [Profile; 42] = [
+pub const PROFILES: [Profile; 43] = [
     cycle("plain", |_, _| {}),
     cycle("several", twist::several),
     cycle("nullable-front", twist::nullable_front),
@@ -112,6 +113,7 @@ pub const PROFILES: [Profile; 42] = [
     limit("wide-names", far::wide_names),
     limit("long-splice", far::long_splice),
     limit("long-list", far::long_list),
+    limit("precedences", with_precedences),
     end("end-front", Make::Cycle(ends::front)),
     end("end-alone", Make::Cycle(ends::alone)),
     end("end-tail", Make::Cycle(ends::tail)),
@@ -199,6 +201,13 @@ fn twisted(twist: Twist, rng: &mut Rng) -> Sheet {
     if rng.one_in(40) {
         sheet.kind = if rng.one_in(2) { 1 } else { 3 };
     }
+    sheet
+}
+
+/// A cycle with any twists, and precedences for its calls. All other profiles have none.
+fn with_precedences(rng: &mut Rng) -> Sheet {
+    let mut sheet = twisted(*rng.pick(&EXTRA), rng);
+    give_precedences(&mut sheet, rng);
     sheet
 }
 

@@ -11,8 +11,11 @@ impl Parser<'_> {
     pub(super) fn element(&mut self) -> Result<Element, String> {
         let id = self.id_after("^", Sort::Element)?;
         let label = self.label()?;
-        let kind = self.atom()?;
+        let mut kind = self.atom()?;
         let quantifier = self.quantifier();
+        if let Kind::Call { precedence, .. } = &mut kind {
+            *precedence = self.precedence()?;
+        }
         let options = self.options()?;
         let carried = self.carried()?;
         Ok(Element {
@@ -87,6 +90,18 @@ impl Parser<'_> {
         let arguments = self.number()?;
         self.expect("]")?;
         Ok(arguments)
+    }
+
+    /// The word of a call with a precedence is one more than it.
+    fn precedence(&mut self) -> Result<u32, String> {
+        if self.tokens.first() != Some(&Token::Raised) {
+            return Ok(0);
+        }
+        self.skip();
+        let precedence = self.number()?;
+        precedence
+            .checked_add(1)
+            .ok_or_else(|| format!("no word has the precedence {precedence}"))
     }
 
     fn semantics(&mut self, sort: Sort) -> Result<Semantics, String> {

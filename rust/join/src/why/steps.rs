@@ -95,7 +95,10 @@ impl<'a> Cycle<'a> {
             .iter()
             .position(|element| !is_silent(&element.kind))?;
         let element = &own.elements[place];
-        let Kind::Call { name, arguments } = element.kind else {
+        let Kind::Call {
+            name, arguments, ..
+        } = element.kind
+        else {
             return None;
         };
         let rule = self.member(name)?;
@@ -136,7 +139,10 @@ impl<'a> Cycle<'a> {
 
     fn blocked(&self, own: &Planned, place: usize) -> Found {
         let element = &own.elements[place];
-        let Kind::Call { name, arguments } = element.kind else {
+        let Kind::Call {
+            name, arguments, ..
+        } = element.kind
+        else {
             unreachable!("a corner that is blocked is a call")
         };
         let has = match () {

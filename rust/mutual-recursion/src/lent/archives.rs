@@ -73,4 +73,14 @@ unsafe extern "C" {
         names: *mut [u32; 128],
         places: *mut [u32; 128],
     );
+
+    pub fn convert(
+        sheet: *const u8,
+        sheet_len: usize,
+        result: *mut u8,
+        result_len: usize,
+        work: *mut u8,
+        work_len: usize,
+        numbers: *mut [u32; 2],
+    );
 }

@@ -17,12 +17,16 @@ impl Parser<'_> {
 
     /// Ids are handed out as the pass does: the element, its label, what it holds.
     pub(super) fn element(&mut self, depth: usize) -> Result<Element, Fault> {
-        let id = self.id("^", Sort::Element, self.ahead())?;
+        let id = self.element_id()?;
         let label = self.label()?;
-        let kind = self.atom(depth)?;
+        let mut kind = self.atom(depth)?;
         let quantifier = self.quantifier_of(&kind);
+        if let Kind::Call { precedence, .. } = &mut kind {
+            *precedence = self.precedence()?;
+        }
         let options = self.options()?;
         let carried = self.carried()?;
+        self.judge_mark_behind()?;
         Ok(Element {
             id,
             carried,
@@ -31,6 +35,42 @@ impl Parser<'_> {
             options,
             kind,
         })
+    }
+
+    fn element_id(&mut self) -> Result<u32, Fault> {
+        let is_written = self.is_ahead("^");
+        let id = self.id("^", Sort::Element, self.ahead())?;
+        if is_written && !self.element_ahead() {
+            let advice = "`^5` is the id of the element behind it; the precedence of a call touches the call: `e^3`";
+            return Err(self.ahead().advised("an element", advice));
+        }
+        Ok(id)
+    }
+
+    /// `^3` that touches what stands in front of it; behind a gap it is the id of the next element.
+    fn precedence(&mut self) -> Result<u32, Fault> {
+        if !self.is_mark_close() {
+            return Ok(0);
+        }
+        self.skip();
+        let place = self.ahead();
+        let precedence = self.number()?;
+        let word = precedence.checked_add(1);
+        word.ok_or_else(|| place.fault("a precedence from 0 to 4294967294"))
+    }
+
+    fn is_mark_close(&self) -> bool {
+        self.is_ahead("^") && self.ahead().is_close
+    }
+
+    /// No element but a call has a precedence.
+    fn judge_mark_behind(&self) -> Result<(), Fault> {
+        if !self.is_mark_close() {
+            return Ok(());
+        }
+        let advice = "a precedence stands behind a call and its quantifier, as in `e?^3`; in front of the id of the next \
+                      element stands a space";
+        Err(self.ahead().advised("a space", advice))
     }
 
     fn label(&mut self) -> Result<Option<Label>, Fault> {
@@ -87,6 +127,7 @@ impl Parser<'_> {
         Ok(Kind::Call {
             name,
             arguments: self.arguments()?,
+            precedence: 0,
         })
     }
 

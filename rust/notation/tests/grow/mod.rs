@@ -140,6 +140,7 @@ fn kind(random: &mut Random, next: &mut Next, depth: u32) -> Kind {
         3 => Kind::Call {
             name: random.name(),
             arguments: random.word(),
+            precedence: [0, 0, 1, 4, u32::MAX][random.below(5) as usize],
         },
         4 => Kind::Token(random.name()),
         6 if depth < 8 => {

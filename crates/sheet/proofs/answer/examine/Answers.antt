@@ -1,7 +1,9 @@
 use Rattle.std.proofs.Common.{arith, ap, refl, is_some}
 use Rattle.std.proofs.lemmas.Result.{err_from_is_err_and}
 use Rattle.sheet.proofs.answer.examine.Goals as goal
-use Rattle.sheet.proofs.Laws.Answer.{trailer_refused, trailer_good, end_at, rules_refused, rising_refused, rows_found, goes_on}
+use Rattle.grammar.specs.Form.{newest}
+use Rattle.sheet.proofs.Laws.Front.{trailer_good, end_at, rows_found}
+use Rattle.sheet.proofs.Laws.Answer.{trailer_refused, rules_refused, rising_refused, goes_on}
 
 pub invariant_of-trailer : goal.invariant_of-trailer
 invariant_of-trailer c = record { last = let least = c.requires.least in omega arith }
@@ -10,7 +12,7 @@ pub returns-in_default-clause-read_as : goal.returns-in_default-clause-read_as
 returns-in_default-clause-read_as c = trailer_refused _ c.kind.ensures.good (ap is_some c.in_default.is)
 
 pub rules_end-end-requires : goal.rules_end-end-requires
-rules_end-end-requires c = (trailer_good _ c.kind.ensures.good (ap is_some c.in-Some.is) c.requires.least).1
+rules_end-end-requires c = (trailer_good newest _ c.kind.ensures.good (ap is_some c.in-Some.is) c.requires.least).1
 
 pub returns-in_default-read_rules-clause-read_as : goal.returns-in_default-read_rules-clause-read_as
 returns-in_default-read_rules-clause-read_as c =

@@ -106,7 +106,12 @@ pub(super) fn element(id: u32, kind: Kind) -> Element {
 }
 
 pub(super) fn call(id: u32, name: u32) -> Element {
-    element(id, Kind::Call { name, arguments: 0 })
+    let kind = Kind::Call {
+        name,
+        arguments: 0,
+        precedence: 0,
+    };
+    element(id, kind)
 }
 
 pub(super) fn alternative(id: u32, elements: Vec<Element>) -> Alternative {

@@ -71,6 +71,7 @@ fn a_corner_is_blocked() {
             if let Kind::Call {
                 name,
                 arguments: own_arguments,
+                ..
             } = &mut own.kind
                 && case.is_member(*name)
             {

@@ -1,0 +1,3 @@
+pub mod Widened
+pub mod Newest
+pub mod Converted
