@@ -32,7 +32,7 @@ fn as_the_record_has_it() {
         let mut files = folders.iter().map(|folder| folder.join(name));
         files.find_map(|file| fs::read_to_string(file).ok())
     };
-    let names_all = |text: &String| text.matches("  lib").count() == 4;
+    let names_all = |text: &String| text.matches("  lib").count() == 5;
     let (proved, shipped) = (read("PROVENANCE").filter(names_all), read("DIGESTS"));
     let record = proved.as_deref().or(shipped.as_deref()).unwrap_or_default();
     let told = |word: &str| {
