@@ -1,5 +1,7 @@
+use Rattle.std.proofs.Common.{rules}
 use Rattle.writing.proofs.copy.copy_words.Goals as goal
-use Rattle.writing.proofs.Laws.Copy.{words_copied}
+use Rattle.writing.proofs.Laws.Copy.{copies}
 
-pub returns : goal.returns
-returns c = words_copied _ _ c.args.from c.args.to c.args.n c.requires.0 c.requires.1 c.copy_from_slice.ensures.after
+-- src/copy.rt:22:5
+pub loop-i-preserved : goal.loop-i-preserved
+loop-i-preserved c = search (rules, copies)
