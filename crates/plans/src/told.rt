@@ -46,7 +46,7 @@ impl Told {
 
 // A number as one of 32 bits; a larger one is told as the largest.
 // Stays: three numbers are told so, and `u32::try_from(n).unwrap_or(u32::MAX)` in each of the three places would be no plainer.
-fn capped(n: usize) -> u32
+pub fn capped(n: usize) -> u32
     ensures { result ≡ capped n }
 {
     n.min(Told::MOST) as u32
